@@ -1,6 +1,25 @@
-//! The words that every crate of the desk speaks in.
+//! Minutes, days and months of the desk's one civil time, its codes and numbers, and its one fault.
 #![tactic(auto)]
 
+mod civil;
+mod code;
+mod day;
+mod digits;
+mod minute;
+mod month;
 mod no_memory;
+mod person_no;
+mod vac_no;
+mod window;
 
+pub use code::Code;
+pub use day::Day;
+pub use minute::Minute;
+pub use month::Month;
 pub use no_memory::NoMemory;
+pub use person_no::PersonNo;
+pub use vac_no::VacNo;
+pub use window::Window;
+
+#[cfg(test)]
+mod tests;

@@ -1,0 +1,3 @@
+pub mod MonthLemmas
+pub mod CivilLemmas
+pub mod TextLemmas

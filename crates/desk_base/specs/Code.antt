@@ -1,0 +1,17 @@
+-- Codes of boards, places and homes.
+use Rattle.std.specs.Prelude.{ℕ, ◌≤◌, ◌-◌, ◌++◌, replicate, Bool, ◌&&◌, ◌||◌, nat_le, List, length, IsTrue}
+use Rattle.std.specs.List.{list_all}
+
+-- A to Z, or 0 to 9
+abbrev pub is_code_byte : ℕ → Bool
+is_code_byte b = (nat_le 65 b && nat_le b 90) || (nat_le 48 b && nat_le b 57)
+
+-- 1 to 6 bytes of A to Z and 0 to 9
+pub record IsCode (text : List ℕ) : Type 0 where
+  pub some : 1 ≤ length text
+  pub most : length text ≤ 6
+  pub bytes : IsTrue (list_all is_code_byte text)
+
+-- the text, filled up to six bytes with zeros
+abbrev pub padded_code : List ℕ → List ℕ
+padded_code text = text ++ replicate (6 - length text) 0

@@ -1,0 +1,70 @@
+//! Civil dates by the number of their day, which is 0 for 1 January 1970.
+ghost use Rattle.std.specs.Prelude.{◌≡◌, ◌≤◌, ◌<◌, ℕ, pos, ◌≤ℤ◌, ◌+◌, IfSome, IfNone};
+ghost use Rattle.jiff_core.specs.Calendar.{IsDate};
+ghost use Rattle.jiff_core.specs.Date.{epoch_day, IsYmd};
+ghost use Rattle.desk_base.specs.Month.{first_day, year_of, place_in_year, IsMonthOf, IsMonthInYears};
+ghost use Rattle.desk_base.specs.Civil.{IsMonthAt};
+
+use jiff_core::civil::Date;
+
+// The days from -9999-01-01, from which `jiff` counts, to 1970-01-01.
+const BEFORE_1970: u32 = 4_371_587;
+
+/// The date of that day.
+pub fn date_of(day: u32) -> Date
+    requires { day < 186_414 }
+    ensures day { epoch_day result ≡ pos day }
+    ensures first { pos 1970 ≤ℤ result.year }
+    ensures last { result.year ≤ℤ pos 2480 }
+{
+    Date::from_days_since_min(day + BEFORE_1970)
+}
+
+/// The number of that date's day.
+pub fn day_of(date: Date) -> u32
+    requires { pos 1970 ≤ℤ date.year }
+    ensures { epoch_day date ≡ pos result }
+{
+    date.days_since_min() - BEFORE_1970
+}
+
+/// The number of that day, if the calendar has it and it is of the years 2000 to 2099.
+pub fn day_number(year: u32, place: u16, day: u16) -> Option<u32>
+    ensures some { IfSome result (λ number. (10_957 ≤ number) × (number < 47_482)) }
+    ensures only { (number month : ℕ) → IsMonthInYears month → IsMonthOf number month
+        → year ≡ year_of month → place ≡ place_in_year month → first_day month + day ≡ number + 1
+        → result ≡ Some number }
+{
+    if year < 2000 || year > 2099 || place > 12 || day > 31 {
+        return None;
+    }
+    Some(day_of(date_at(year as u16, place as u8, day as u8)?))
+}
+
+// The date of that year, month and day, if the calendar has it.
+fn date_at(year: u16, place: u8, day: u8) -> Option<Date>
+    requires year_in { year ≤ 2099 }
+    requires place_in { place ≤ 12 }
+    requires day_in { day ≤ 31 }
+    ensures some { IfSome result (IsYmd (pos year) (pos place) (pos day)) }
+    ensures none { IfNone result (¬ IsDate (pos year) (pos place) (pos day)) }
+{
+    Date::new(year as i16, place as i8, day as i8).ok()
+}
+
+/// The first day of that month.
+pub fn first_day_of(month: u16) -> u32
+    requires { month ≤ 6124 }
+    ensures { result ≡ first_day month }
+{
+    day_of(Date::constrain((1970 + month / 12) as i16, (month % 12 + 1) as u8, 1))
+}
+
+/// The month in which that date lies.
+pub fn month_at(date: Date) -> u16
+    requires low { pos 1970 ≤ℤ date.year }
+    requires high { date.year ≤ℤ pos 2480 }
+    ensures { IsMonthAt result date }
+{
+    ((date.year - 1970) as u16) * 12 + u16::from(date.month) - 1
+}

@@ -1,0 +1,68 @@
+ghost use Rattle.std.specs.Prelude.{◌≡◌, ℕ, ◌≤◌, List, length};
+ghost use Rattle.std.specs.Option.{SomeIff};
+ghost use Rattle.std.specs.List.{list_all};
+ghost use Rattle.desk_base.specs.Code.{IsCode, is_code_byte, padded_code};
+
+use std::marker::Model;
+
+/// The code of a board, a place or a home: 1 to 6 bytes of A to Z and 0 to 9. A contract sees its text.
+#[derive(Clone, Copy, Debug, PartialEq, Eq, PartialOrd, Ord, Hash)]
+pub struct Code {
+    bytes: [u8; 6],
+    len: usize,
+}
+
+impl Model for Code {
+    ghost use Rattle.std.specs.Prelude.{ℕ, List};
+
+    ghost Value = { List ℕ };
+
+    ghost use Rattle.desk_base.specs.CodeInside.{code_text, KeepsCode, code_inside, code_inside-code_text};
+
+    ghost view = { code_text };
+
+    ghost invariant = { KeepsCode };
+
+    ghost inverse = { code_inside };
+
+    ghost inverse_ok = { code_inside-code_text };
+}
+
+impl Code {
+    /// The code of that text; `None` where it is no code.
+    pub fn read(text: &[u8]) -> Option<Code>
+        ensures { SomeIff result (IsCode text.now) text.now }
+    {
+        if text.len() < 1 || text.len() > 6 || !all_code_bytes(text) {
+            return None;
+        }
+        Some(Code {
+            bytes: padded(text),
+            len: text.len(),
+        })
+    }
+
+    /// The text, 1 to 6 bytes.
+    pub fn text(&self) -> &[u8]
+        ensures value { result.now ≡ self.now }
+        ensures range { IsCode self.now }
+    {
+        &self.bytes[..self.len]
+    }
+}
+
+fn all_code_bytes(text: &[u8]) -> bool
+    ensures { result ≡ list_all is_code_byte text.now }
+{
+    text.iter().all(|b| (*b >= b'A' && *b <= b'Z') || (*b >= b'0' && *b <= b'9'))
+}
+
+// The text, filled up with zeros.
+fn padded(text: &[u8]) -> [u8; 6]
+    requires { length text.now ≤ 6 }
+    ensures { result ≡ padded_code text.now }
+{
+    let mut bytes = [0; 6];
+    bytes[..text.len()].copy_from_slice(text);
+    bytes
+}

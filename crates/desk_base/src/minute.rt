@@ -1,0 +1,99 @@
+ghost use Rattle.std.specs.Prelude.{◌≡◌, ℕ, ◌+◌, ◌*◌, ◌<◌, ◌^◌, IfSome, pos};
+ghost use Rattle.std.specs.Option.{SomeIff};
+ghost use Rattle.desk_base.specs.Minute.{IsInYears, minute_text};
+ghost use Rattle.desk_base.specs.Civil.{IsMinuteAt, civil_text};
+ghost use Rattle.jiff_core.specs.declared.civil.date.Date.{Date};
+
+use crate::Month;
+use crate::civil::day_number;
+use crate::digits::{digits_of, number_of};
+use std::marker::Model;
+
+/// A minute of the desk's one civil time, counted from 1970-01-01 00:00, below 2^28 (in the year 2480).
+#[derive(Clone, Copy, Debug, PartialEq, Eq, PartialOrd, Ord, Hash)]
+pub struct Minute(u64);
+
+impl Model for Minute {
+    ghost use Rattle.std.specs.Prelude.{ℕ, ◌<◌, ◌^◌};
+
+    ghost Value = { ℕ };
+
+    ghost view = { λ m. m.0 };
+
+    ghost invariant = { λ m. m.0 < 2 ^ 28 };
+
+    ghost inverse = { λ n. record { 0 = n } };
+}
+
+impl Minute {
+    /// The minute of that number; `None` from 2^28 on.
+    pub fn new(number: u64) -> Option<Minute>
+        ensures { SomeIff result (number < 2 ^ 28) number }
+    {
+        if number < 1 << 28 {
+            Some(Minute(number))
+        } else {
+            None
+        }
+    }
+
+    // The first minute of a day.
+    pub(crate) fn from_day(day: u32) -> Minute
+        requires { day < 186_414 }
+        ensures { result ≡ 1440 * day }
+    {
+        Minute(1440 * u64::from(day))
+    }
+
+    /// The minutes since 1970-01-01 00:00, below 2^28.
+    pub fn number(self) -> u64
+        ensures value { result ≡ self }
+        ensures range { result < 2 ^ 28 }
+    {
+        self.0
+    }
+
+    /// The minute of the text `YYYY-MM-DD HH:MM`, of a real date of the years 2000 to 2099, hours 00 to 23
+    /// and minutes 00 to 59; `None` for any other text.
+    pub fn read(text: &[u8]) -> Option<Minute>
+        ensures some { IfSome result (λ minute. IsInYears minute × (text.now ≡ minute_text minute)) }
+        ensures only { (minute : ℕ) → IsInYears minute → text.now ≡ minute_text minute
+            → result ≡ Some minute }
+    {
+        let [y1, y2, y3, y4, _, m1, m2, _, d1, d2, _, h1, h2, _, p1, p2] = text else {
+            return None;
+        };
+        let year = 100 * u32::from(number_of(*y1, *y2)) + u32::from(number_of(*y3, *y4));
+        let hour = number_of(*h1, *h2);
+        let past = number_of(*p1, *p2);
+        if hour > 23 || past > 59 {
+            return None;
+        }
+        let day = day_number(year, number_of(*m1, *m2), number_of(*d1, *d2))?;
+        let minute = Minute(1440 * u64::from(day) + u64::from(60 * hour + past));
+        if minute.write().as_slice() == text {
+            Some(minute)
+        } else {
+            None
+        }
+    }
+
+    /// The text `YYYY-MM-DD HH:MM` of a minute of the years 2000 to 2099: its civil date and time of day.
+    pub fn write(self) -> [u8; 16]
+        requires { IsInYears self }
+        ensures text { result ≡ minute_text self }
+        ensures civil { (date : Date) (hour past : ℕ) → IsMinuteAt self date hour past
+            → result ≡ civil_text date hour past }
+    {
+        let month = Month::of(self);
+        let day = self.0 / 1440 - month.first().0 / 1440 + 1;
+        let time = self.0 % 1440;
+        let [y1, y2, y3, y4, _, m1, m2] = month.write();
+        let [d1, d2] = digits_of(day as u8);
+        let [h1, h2] = digits_of((time / 60) as u8);
+        let [p1, p2] = digits_of((time % 60) as u8);
+        [
+            y1, y2, y3, y4, b'-', m1, m2, b'-', d1, d2, b' ', h1, h2, b':', p1, p2,
+        ]
+    }
+}

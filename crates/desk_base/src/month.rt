@@ -1,0 +1,117 @@
+ghost use Rattle.std.specs.Prelude.{◌≡◌, ℕ, ◌+◌, ◌≤◌, ◌<◌, IfSome};
+ghost use Rattle.std.specs.Option.{SomeIff};
+ghost use Rattle.desk_base.specs.Month.{first_minute, minutes_of, month_text, IsMonthInYears};
+ghost use Rattle.desk_base.specs.Minute.{month_of};
+ghost use Rattle.desk_base.specs.Civil.{IsMinuteAt, IsMonthAt};
+ghost use Rattle.jiff_core.specs.declared.civil.date.Date.{Date};
+
+use crate::civil::{date_of, first_day_of, month_at};
+use crate::digits::{digits_of, number_of};
+use crate::{Day, Minute};
+use jiff_core::civil::days_in_month;
+use std::marker::Model;
+
+/// A calendar month, by its number from January 1970, which is 0, up to the month of the last minute, May 2480.
+#[derive(Clone, Copy, Debug, PartialEq, Eq, PartialOrd, Ord, Hash)]
+pub struct Month(u16);
+
+impl Model for Month {
+    ghost use Rattle.std.specs.Prelude.{ℕ, ◌≤◌};
+
+    ghost Value = { ℕ };
+
+    ghost view = { λ m. m.0 };
+
+    ghost invariant = { λ m. m.0 ≤ 6124 };
+
+    ghost inverse = { λ n. record { 0 = n } };
+}
+
+impl Month {
+    /// The month of that number; `None` after May 2480.
+    pub fn new(number: u16) -> Option<Month>
+        ensures { SomeIff result (number ≤ 6124) number }
+    {
+        if number <= 6124 {
+            Some(Month(number))
+        } else {
+            None
+        }
+    }
+
+    /// The months since January 1970, at most 6,124.
+    pub fn number(self) -> u16
+        ensures value { result ≡ self }
+        ensures range { result ≤ 6124 }
+    {
+        self.0
+    }
+
+    // The month that comes so many months after this one.
+    pub(crate) fn after(self, months: u8) -> Month
+        requires { self + months ≤ 6124 }
+        ensures { result ≡ self + months }
+    {
+        Month(self.0 + u16::from(months))
+    }
+
+    /// The month in which a minute lies, which is that of its civil date.
+    pub fn of(minute: Minute) -> Month
+        ensures value { result ≡ month_of minute }
+        ensures begun { first_minute result ≤ minute }
+        ensures not_over { minute < first_minute (result + 1) }
+        ensures civil { (date : Date) (hour past : ℕ) → IsMinuteAt minute date hour past
+            → IsMonthAt result date }
+    {
+        Month(month_at(date_of(Day::of(minute).number())))
+    }
+
+    /// The month's first minute.
+    pub fn first(self) -> Minute
+        ensures { result ≡ first_minute self }
+    {
+        Minute::from_day(first_day_of(self.0))
+    }
+
+    /// How many minutes the month has, 40,320 to 44,640.
+    pub fn minutes(self) -> u32
+        ensures value { result ≡ minutes_of self }
+        ensures next { first_minute self + result ≡ first_minute (self + 1) }
+    {
+        1440 * u32::from(days_in_month((1970 + self.0 / 12) as i16, (self.0 % 12 + 1) as u8))
+    }
+
+    /// The month of the text `YYYY-MM`, of the years 2000 to 2099; `None` for any other text.
+    pub fn read(text: &[u8]) -> Option<Month>
+        ensures some { IfSome result (λ month. IsMonthInYears month × (text.now ≡ month_text month)) }
+        ensures only { (month : ℕ) → IsMonthInYears month → text.now ≡ month_text month
+            → result ≡ Some month }
+    {
+        let [y1, y2, y3, y4, _, m1, m2] = text else {
+            return None;
+        };
+        let year = 100 * u32::from(number_of(*y1, *y2)) + u32::from(number_of(*y3, *y4));
+        let place = number_of(*m1, *m2);
+        if year < 2000 || year > 2099 || place < 1 || place > 12 {
+            return None;
+        }
+        let month = Month(12 * (year as u16 - 1970) + (place - 1));
+        if month.write().as_slice() == text {
+            Some(month)
+        } else {
+            None
+        }
+    }
+
+    /// The text `YYYY-MM` of a month of the years 2000 to 2099.
+    pub fn write(self) -> [u8; 7]
+        requires { IsMonthInYears self }
+        ensures { result ≡ month_text self }
+    {
+        let year = 1970 + self.0 / 12;
+        let [y1, y2] = digits_of((year / 100) as u8);
+        let [y3, y4] = digits_of((year % 100) as u8);
+        let [m1, m2] = digits_of((self.0 % 12 + 1) as u8);
+        [y1, y2, y3, y4, b'-', m1, m2]
+    }
+}

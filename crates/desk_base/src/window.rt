@@ -1,0 +1,77 @@
+ghost use Rattle.std.specs.Prelude.{◌≡◌, ℕ, ◌≤◌, ◌<◌, ◌↔◌, IsTrue};
+ghost use Rattle.std.specs.Option.{SomeIff};
+ghost use Rattle.desk_base.specs.Window.{IsWindow, Holds, start_of, end_of, window_of};
+
+use crate::{Minute, Month};
+use std::marker::Model;
+
+/// 1 to 24 calendar months, one after another, within the years 2000 to 2099.
+#[derive(Clone, Copy, Debug, PartialEq, Eq, Hash)]
+pub struct Window {
+    first: Month,
+    months: u8,
+}
+
+impl Model for Window {
+    ghost use Rattle.desk_base.specs.Window.{WindowValue, IsWindow};
+
+    ghost Value = { WindowValue };
+
+    ghost view = { λ w. record { first = w.first; months = w.months } };
+
+    ghost invariant = { λ w. IsWindow (record { first = w.first; months = w.months }) };
+
+    ghost inverse = { λ v. record { first = v.first; months = v.months } };
+}
+
+impl Window {
+    /// The window of that many months from the first; `None` for none or more than 24, and where one of
+    /// them lies outside the years 2000 to 2099.
+    pub fn new(first: Month, months: u8) -> Option<Window>
+        ensures { SomeIff result (IsWindow (window_of first months)) (window_of first months) }
+    {
+        let number = first.number();
+        let in_years = number >= 360 && number + u16::from(months) <= 1560;
+        if months >= 1 && months <= 24 && in_years {
+            Some(Window { first, months })
+        } else {
+            None
+        }
+    }
+
+    /// The first month, of the years 2000 to 2099.
+    pub fn first(&self) -> Month
+        ensures { result ≡ self.now.first }
+    {
+        self.first
+    }
+
+    /// How many months there are, 1 to 24.
+    pub fn months(&self) -> u8
+        ensures value { result ≡ self.now.months }
+        ensures range { IsWindow self.now }
+    {
+        self.months
+    }
+
+    /// Whether the minute lies in the window.
+    pub fn holds(&self, minute: Minute) -> bool
+        ensures { IsTrue result ↔ Holds self.now minute }
+    {
+        self.start() <= minute && minute < self.end()
+    }
+
+    /// The window's first minute.
+    pub fn start(&self) -> Minute
+        ensures { result ≡ start_of self.now }
+    {
+        self.first.first()
+    }
+
+    /// The first minute after the window.
+    pub fn end(&self) -> Minute
+        ensures { result ≡ end_of self.now }
+    {
+        self.first.after(self.months).first()
+    }
+}
