@@ -1,3 +1,4 @@
 pub mod MonthLemmas
 pub mod CivilLemmas
 pub mod TextLemmas
+pub mod WindowLemmas

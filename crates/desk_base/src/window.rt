@@ -56,14 +56,16 @@ impl Window {
 
     /// Whether the minute lies in the window.
     pub fn holds(&self, minute: Minute) -> bool
-        ensures { IsTrue result ↔ Holds self.now minute }
+        ensures lies { IsTrue result ↔ Holds self.now minute }
+        ensures range { IsWindow self.now }
     {
         self.start() <= minute && minute < self.end()
     }
 
     /// The window's first minute.
     pub fn start(&self) -> Minute
-        ensures { result ≡ start_of self.now }
+        ensures value { result ≡ start_of self.now }
+        ensures range { IsWindow self.now }
     {
         self.first.first()
     }

@@ -1,0 +1,30 @@
+-- The opening's line, piece by piece, and its record, field by field.
+use Rattle.std.proofs.Common.{◌≡◌, ℕ, List, [], ◌∷◌, ◌++◌, length, get_or, map, append_assoc, codes, decimal, arith, refl, ap, Bor, Option, None, Some}
+use Rattle.std.specs.Option.{SomeIff}
+use Rattle.desk_base.specs.Month.{month_text}
+use Rattle.desk_base.specs.Minute.{minute_text}
+use Rattle.desk_model.specs.Opening.{OpeningValue, opening_fields}
+use Rattle.desk_model.specs.Journal.{opening_line}
+use Rattle.crewdesk_main.specs.DayFile.{SpellsOpening}
+
+pub opening_line-pieces : (o : OpeningValue) → opening_line o
+    ≡ ((((((minute_text o.start ++ codes ",open,") ++ month_text o.window.first) ++ 44 ∷ []) ++ decimal o.window.months) ++ 44 ∷ []) ++ decimal o.answer) ++ 10 ∷ []
+unfolding opening_line
+opening_line-pieces o = simp append_assoc
+
+-- five fields of which the second is the word and the others spell the opening are the opening's
+pub opening_fields-spelled : (fields : List (Bor (List ℕ))) (d : Bor (List ℕ)) (o : OpeningValue) → length fields ≡ 5 → (get_or fields 1 d).now ≡ codes "open"
+    → SpellsOpening (get_or fields 0 d).now (get_or fields 2 d).now (get_or fields 3 d).now (get_or fields 4 d).now o → map (λ field. field.now) fields ≡ opening_fields o
+opening_fields-spelled [] d o len word spells = absurd (omega arith)
+opening_fields-spelled (f0 ∷ []) d o len word spells = absurd (omega arith)
+opening_fields-spelled (f0 ∷ f1 ∷ []) d o len word spells = absurd (omega arith)
+opening_fields-spelled (f0 ∷ f1 ∷ f2 ∷ []) d o len word spells = absurd (omega arith)
+opening_fields-spelled (f0 ∷ f1 ∷ f2 ∷ f3 ∷ []) d o len word spells = absurd (omega arith)
+opening_fields-spelled (f0 ∷ f1 ∷ f2 ∷ f3 ∷ f4 ∷ []) d o len word spells =
+    rw (spells.start_is, word, spells.window_is.first_is, spells.window_is.months_is, spells.answer_is) refl
+opening_fields-spelled (f0 ∷ f1 ∷ f2 ∷ f3 ∷ f4 ∷ f5 ∷ more) d o len word spells = absurd (omega arith)
+
+-- an answer that comes exactly where something holds comes where it holds
+pub SomeIff-yes : {T : Type 0} (r : Option T) (P : Type 0) (v : T) → SomeIff r P v → P → r ≡ Some v
+SomeIff-yes None P v h p = absurd (h p)
+SomeIff-yes (Some x) P v h p = ap Some h.1

@@ -1,0 +1,15 @@
+use Rattle.std.proofs.Common.{ap, ◌∙◌, arith}
+use Rattle.std.specs.Result.{result_ok}
+use Rattle.std.specs.Str.{IsUtf8}
+use Rattle.std.proofs.lemmas.Fmt.{IsAscii-decimal, parse-decimal}
+use Rattle.std.proofs.lemmas.Str.{IsUtf8-from_ascii}
+use Rattle.crewdesk_main.proofs.number.parsed.Goals as goal
+
+pub returns-in-Ok : goal.returns-in-Ok
+returns-in-Ok c = λ number bound e.
+    c.ok.ensures.value ∙ ap result_ok (parse-decimal 8 number c.in-Ok.digits.now c.parse.result bound (omega arith) (c.in-Ok.ensures.cases.0 ∙ e) c.parse.ensures.value.0)
+
+pub returns-in-Err : goal.returns-in-Err
+returns-in-Err c = λ number bound e.
+    let utf8 : IsUtf8 c.args.text.now = rw e (IsUtf8-from_ascii _ (IsAscii-decimal number (omega arith))) in
+    absurd (c.in-Err.ensures.cases.0 utf8)

@@ -1,0 +1,17 @@
+use Rattle.std.proofs.Common.{◌≡◌, ◌++◌, ◌+◌, length, map, ℕ, Option, Some, None}
+use Rattle.std.specs.Option.{option_copied}
+use Rattle.std.specs.Borrow.{Bor}
+use Rattle.std.proofs.Common.{List}
+use Rattle.crewdesk_main.specs.Records.{fields_of, parts_after}
+use Rattle.crewdesk_main.proofs.records.fields_of.Given as goal
+
+-- the bytes that are left, and one more where a field is left
+abbrev pub left : Option (Bor (List ℕ)) → ℕ
+left None = 0
+left (Some bytes) = length bytes.now + 1
+
+abbrev pub invariant-loop-rest : goal.invariant-loop-rest
+invariant-loop-rest l = map (λ field. field.now) l.fields.items ++ parts_after 44 (option_copied l.rest) ≡ fields_of l.fn.text
+
+abbrev pub decreases-loop-rest : goal.decreases-loop-rest
+decreases-loop-rest l = left l.rest

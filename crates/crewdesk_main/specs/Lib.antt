@@ -1,0 +1,4 @@
+pub mod Records
+pub mod DayFile
+pub mod Words
+pub mod Replay

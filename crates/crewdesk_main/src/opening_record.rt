@@ -1,0 +1,66 @@
+//! The opening's record, read and written.
+ghost use Rattle.std.specs.Prelude.{◌≡◌, IfSome};
+ghost use Rattle.desk_base.specs.Window.{WindowValue};
+ghost use Rattle.desk_model.specs.Opening.{OpeningValue, IsOpening, opening_fields};
+ghost use Rattle.desk_model.specs.Journal.{opening_line};
+ghost use Rattle.crewdesk_main.specs.Records.{fields_of};
+ghost use Rattle.crewdesk_main.specs.DayFile.{IsOpeningRecord, SpellsOpening, SpellsWindow};
+
+use crate::line_text::{LineText, put, put_number};
+use crate::number::read_number;
+use crate::records::fields_of;
+use desk_base::{Minute, Month, Window};
+use desk_model::Opening;
+
+/// The opening that a record states; `None` where it states none.
+pub fn read_opening(text: &[u8]) -> Option<Opening>
+    ensures some { IfSome result (IsOpeningRecord text.now) }
+    ensures only { (opening : OpeningValue) → IsOpeningRecord text.now opening → result ≡ Some opening }
+{
+    let fields = fields_of(text)?;
+    let [start, word, month, months, answer] = fields.as_slice() else {
+        return None;
+    };
+    if *word != b"open".as_slice() {
+        return None;
+    }
+    opening_of(start, month, months, answer)
+}
+
+fn opening_of(start: &[u8], month: &[u8], months: &[u8], answer: &[u8]) -> Option<Opening>
+    ensures some { IfSome result (SpellsOpening start.now month.now months.now answer.now) }
+    ensures only { (opening : OpeningValue) → SpellsOpening start.now month.now months.now answer.now opening
+        → result ≡ Some opening }
+{
+    let start = Minute::read(start)?;
+    let window = window_of(month, months)?;
+    let answer = read_number(answer)?;
+    Opening::new(start, window, answer)
+}
+
+fn window_of(month: &[u8], months: &[u8]) -> Option<Window>
+    ensures some { IfSome result (SpellsWindow month.now months.now) }
+    ensures only { (window : WindowValue) → SpellsWindow month.now months.now window
+        → result ≡ Some window }
+{
+    let first = Month::read(month)?;
+    let months = read_number(months)?;
+    Window::new(first, months)
+}
+
+/// The opening's line of the journal.
+pub fn write_opening(opening: &Opening) -> LineText
+    ensures { result.items ≡ opening_line opening.now }
+{
+    let window = opening.window();
+    let mut line = LineText::new();
+    put(&mut line, &opening.start().write());
+    put(&mut line, b",open,");
+    put(&mut line, &window.first().write());
+    put(&mut line, b",");
+    put_number(&mut line, window.months());
+    put(&mut line, b",");
+    put_number(&mut line, opening.answer());
+    put(&mut line, b"\n");
+    line
+}

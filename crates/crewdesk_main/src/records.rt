@@ -1,0 +1,83 @@
+//! Records, split by hand at line feeds and commas.
+ghost use Rattle.std.specs.Prelude.{◌≡◌, ◌<◌, ◌==◌, ◌∷◌, [], length, map, IfSome, IfNone, OnSome};
+ghost use Rattle.std.specs.Option.{option_copied};
+ghost use Rattle.std.specs.Str.Lines.{lines, strip_carriage_return};
+ghost use Rattle.arrayvec.specs.ArrayVec.{array_vec_len};
+ghost use Rattle.crewdesk_main.specs.Records.{records, parts_by, parts_after, fields_of};
+
+use arrayvec::ArrayVec;
+
+/// How many fields a record may have and still be read.
+pub const FIELDS: usize = 12;
+
+/// The next record, and the bytes behind its line; `None` where no record is left.
+pub fn next_record(bytes: &[u8]) -> Option<(&[u8], &[u8])>
+    ensures some { IfSome result (λ found. records bytes.now ≡ found.0.now ∷ records found.1.now) }
+    ensures none { IfNone result (records bytes.now ≡ []) }
+{
+    let mut rest = bytes;
+    while let Some((line, after)) = next_line(rest) {
+        if !line.is_empty() {
+            return Some((line, after));
+        }
+        rest = after;
+    }
+    None
+}
+
+/// The fields of a record; `None` where it has more than 12.
+pub fn fields_of(text: &[u8]) -> Option<ArrayVec<&[u8], FIELDS>>
+    ensures some { IfSome result (λ fields. map (λ field. field.now) fields.items ≡ fields_of text.now) }
+    ensures none { IfNone result (12 < length (fields_of text.now)) }
+{
+    let mut fields = ArrayVec::new();
+    let mut rest = Some(text);
+    while let Some(bytes) = rest {
+        let (field, after) = split_once(bytes, b',');
+        if fields.try_push(field).is_err() {
+            return None;
+        }
+        rest = after;
+    }
+    Some(fields)
+}
+
+fn next_line(bytes: &[u8]) -> Option<(&[u8], &[u8])>
+    ensures some { IfSome result (λ found. lines bytes.now ≡ found.0.now ∷ lines found.1.now) }
+    ensures shorter { IfSome result (λ found. length found.1.now < length bytes.now) }
+    ensures none { IfNone result (lines bytes.now ≡ []) }
+{
+    let (line, after) = split_once(bytes, b'\n');
+    match after {
+        Some(rest) => Some((without_carriage_return(line), rest)),
+        None => {
+            if line.is_empty() {
+                None
+            } else {
+                Some((line, &[]))
+            }
+        }
+    }
+}
+
+fn without_carriage_return(line: &[u8]) -> &[u8]
+    ensures { result.now ≡ strip_carriage_return line.now }
+{
+    match line {
+        [front @ .., b'\r'] => front,
+        _ => line,
+    }
+}
+
+// What stands before the first mark, and what stands after it.
+fn split_once(bytes: &[u8], mark: u8) -> (&[u8], Option<&[u8]>)
+    ensures parts { parts_by mark bytes.now
+        ≡ result.0.now ∷ parts_after mark (option_copied result.1) }
+    ensures shorter { IfSome result.1 (λ after. length after.now < length bytes.now) }
+    ensures whole { IfNone result.1 (result.0.now ≡ bytes.now) }
+{
+    match bytes.iter().position(|b| *b == mark) {
+        Some(at) => (&bytes[..at], Some(&bytes[at + 1..])),
+        None => (bytes, None),
+    }
+}

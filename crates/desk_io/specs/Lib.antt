@@ -1,0 +1,10 @@
+pub mod Faults
+pub mod Giving
+pub mod Input
+pub mod MemorySink
+pub mod MemorySource
+pub mod Piece
+pub mod ReaderSource
+pub mod Status
+pub mod Taking
+pub mod WriterSink

@@ -1,0 +1,70 @@
+ghost use Rattle.std.specs.Prelude.{◌≡◌};
+ghost use Rattle.std.specs.Option.{SomeIff};
+ghost use Rattle.desk_base.specs.Minute.{IsInYears};
+ghost use Rattle.desk_base.specs.Window.{IsWindow};
+ghost use Rattle.desk_model.specs.Opening.{IsOpening, opening_of};
+
+use desk_base::{Minute, Window};
+use std::marker::Model;
+
+/// How a desk is opened: its first minute, the window of months in which all that it is told of lies, and how
+/// many minutes a person has to answer an offer.
+#[derive(Clone, Copy, Debug, PartialEq, Eq, Hash)]
+pub struct Opening {
+    start: Minute,
+    window: Window,
+    answer: u8,
+}
+
+impl Model for Opening {
+    ghost use Rattle.desk_model.specs.Opening.{OpeningValue, IsOpening, opening_of};
+
+    ghost Value = { OpeningValue };
+
+    ghost view = { λ o. opening_of o.start o.window o.answer };
+
+    ghost invariant = { λ o. IsOpening (opening_of o.start o.window o.answer) };
+
+    ghost inverse = { λ v. record { start = v.start; window = v.window; answer = v.answer } };
+}
+
+impl Opening {
+    /// An opening at a minute of the window, with 1 to 60 minutes to answer; `None` for anything else.
+    pub fn new(start: Minute, window: Window, answer: u8) -> Option<Opening>
+        ensures { SomeIff result (IsOpening (opening_of start window answer)) (opening_of start window answer) }
+    {
+        if window.holds(start) && answer >= 1 && answer <= 60 {
+            Some(Opening {
+                start,
+                window,
+                answer,
+            })
+        } else {
+            None
+        }
+    }
+
+    /// The desk's first minute, which lies in the window.
+    pub fn start(&self) -> Minute
+        ensures value { result ≡ self.now.start }
+        ensures in_years { IsInYears result }
+    {
+        self.start
+    }
+
+    /// The window of months.
+    pub fn window(&self) -> Window
+        ensures value { result ≡ self.now.window }
+        ensures range { IsWindow result }
+    {
+        self.window
+    }
+
+    /// The minutes in which a person may answer an offer, 1 to 60.
+    pub fn answer(&self) -> u8
+        ensures value { result ≡ self.now.answer }
+        ensures range { IsOpening self.now }
+    {
+        self.answer
+    }
+}

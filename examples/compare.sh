@@ -1,0 +1,34 @@
+#!/bin/sh
+# compare.sh PROGRAM: runs the program on each folder beside this file, and compares what it does with what the
+# folder says: its words in `args`, one a line; its input in `stdin`; what it must write in `stdout`, how it must
+# end in `status` and, where the folder has it, what must stand on standard error in `stderr`.
+# The last line is 'N passed, M failed'.
+program=$(realpath "$1") || exit 2
+cd "$(dirname "$0")" || exit 2
+work=$(mktemp -d) || exit 2
+trap 'rm -rf "$work"' EXIT
+passed=0
+failed=0
+for folder in */; do
+    folder=${folder%/}
+    set --
+    while IFS= read -r word; do
+        set -- "$@" "$word"
+    done < "$folder/args"
+    "$program" "$@" < "$folder/stdin" > "$work/stdout" 2> "$work/stderr"
+    status=$?
+    wrong=
+    [ "$status" = "$(cat "$folder/status")" ] || wrong="$wrong status"
+    cmp -s "$work/stdout" "$folder/stdout" || wrong="$wrong stdout"
+    if [ -f "$folder/stderr" ]; then
+        cmp -s "$work/stderr" "$folder/stderr" || wrong="$wrong stderr"
+    fi
+    if [ -z "$wrong" ]; then
+        passed=$((passed + 1))
+    else
+        failed=$((failed + 1))
+        echo "examples/$folder differs in:$wrong (status $status)"
+    fi
+done
+echo "$passed passed, $failed failed"
+[ "$failed" = 0 ] && [ "$passed" != 0 ]
