@@ -1,5 +1,5 @@
 -- What is said of bytes that were taken whole.
-use Rattle.std.proofs.Common.{◌≡◌, ℕ, ◌≤◌, Option, None, Some, List, [], length, subst, refl}
+use Rattle.std.proofs.Common.{◌≡◌, ℕ, ◌≤◌, Option, None, Some, List, length, subst}
 use Rattle.desk_io.specs.Input.{TookAll}
 use Rattle.crewdesk_main.specs.Replay.{WasRead}
 

@@ -1,5 +1,5 @@
 -- The records of a day file.
-use Rattle.std.specs.Prelude.{ℕ, Option, None, Some, Bool, not, ◌==◌, List, [], length, filter}
+use Rattle.std.specs.Prelude.{ℕ, Option, None, Some, not, ◌==◌, List, [], length, filter}
 use Rattle.std.specs.List.{slice_split}
 use Rattle.std.specs.Str.Lines.{lines}
 

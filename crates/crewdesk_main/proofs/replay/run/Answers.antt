@@ -1,4 +1,4 @@
-use Rattle.std.proofs.Common.{◌≡◌, ◌≤◌, ◌∙◌, ap, sym, subst, [], length, Err, arith}
+use Rattle.std.proofs.Common.{◌≤◌, ◌∙◌, ap, subst, [], length, Err, arith}
 use Rattle.crewdesk_main.specs.DayFile.{HasNoOpening}
 use Rattle.crewdesk_main.proofs.ReplayLemmas.{WasRead-TookAll, TookAll-told}
 use Rattle.crewdesk_main.proofs.replay.run.Goals as goal
