@@ -1,29 +1,9 @@
--- The first part of a list that is split, and the first line of a text.
-use Rattle.std.proofs.Common.{◌≡◌, ℕ, ◌+◌, ◌<◌, inl, inr, Bool, true, false, not, cond, ltb, ◌==◌, Some, None, List, [], ◌∷◌, length, take, drop, filter, refl, ap, ◌∙◌, arith}
-use Rattle.std.proofs.lemmas.Bool.{cases_lt, lt-ltb, le-ltb, cond-true, cond-false}
-use Rattle.std.proofs.lemmas.List.Splits.{slice_split_first, slice_split_none, length-slice_split}
-use Rattle.std.proofs.lemmas.List.Sums.{fails_before_first}
-use Rattle.std.specs.List.{slice_split, position_or_len}
+-- The first line of a text, and its first record.
+use Rattle.std.proofs.Common.{◌≡◌, ℕ, ◌<◌, true, false, not, cond, ◌==◌, List, [], ◌∷◌, length, filter, refl, ap, ◌∙◌, arith}
+use Rattle.std.proofs.lemmas.List.Splits.{length-slice_split}
 use Rattle.std.specs.Str.Lines.{lines, lines_of_parts, strip_carriage_return}
-use Rattle.crewdesk_main.specs.Records.{records, parts_by}
-
--- where the first element that passes stands at this place, the first part ends there
-pub slice_split-found : {X : Type 0} (p : X → Bool) (xs : List X) (d : X) (at : ℕ) → Some at ≡ cond (ltb (position_or_len p xs) (length xs)) (Some (position_or_len p xs)) None → slice_split p xs ≡ take at xs ∷ slice_split p (drop (at + 1) xs)
-slice_split-found p xs d at e =
-    elim (cases_lt (position_or_len p xs) (length xs)) [
-      | inl lt ↦ let some = e ∙ cond-true _ (Some (position_or_len p xs)) None (lt-ltb _ _ lt) in
-          let here : at ≡ position_or_len p xs = cc in
-          rw here (slice_split_first p xs d lt)
-      | inr ge ↦ let none = e ∙ cond-false _ (Some (position_or_len p xs)) None (le-ltb _ _ ge) in cc
-    ]
-
--- and where none passes there is one part
-pub slice_split-absent : {X : Type 0} (p : X → Bool) (xs : List X) → None ≡ cond (ltb (position_or_len p xs) (length xs)) (Some (position_or_len p xs)) None → slice_split p xs ≡ xs ∷ []
-slice_split-absent p xs e =
-    elim (cases_lt (position_or_len p xs) (length xs)) [
-      | inl lt ↦ let some = e ∙ cond-true _ (Some (position_or_len p xs)) None (lt-ltb _ _ lt) in cc
-      | inr ge ↦ slice_split_none p xs (λ k d h. fails_before_first p xs k d (omega arith))
-    ]
+use Rattle.crewdesk_main.specs.Records.{records}
+use Rattle.desk_base.specs.Parts.{parts_by}
 
 -- a line before another loses its carriage return
 lines_of_parts-more : (line : List ℕ) (parts : List (List ℕ)) → 0 < length parts → lines_of_parts (line ∷ parts) ≡ strip_carriage_return line ∷ lines_of_parts parts

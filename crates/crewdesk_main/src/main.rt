@@ -3,7 +3,6 @@
 
 mod day_file;
 mod line_text;
-mod number;
 mod opening_record;
 mod records;
 mod replay;

@@ -1,5 +1,5 @@
 //! The opening's record, read and written.
-ghost use Rattle.std.specs.Prelude.{◌≡◌, IfSome};
+ghost use Rattle.std.specs.Prelude.{◌≡◌, ◌<◌, ◌^◌, ℕ, decimal, IfSome};
 ghost use Rattle.desk_base.specs.Window.{WindowValue};
 ghost use Rattle.desk_model.specs.Opening.{OpeningValue, IsOpening, opening_fields};
 ghost use Rattle.desk_model.specs.Journal.{opening_line};
@@ -7,9 +7,8 @@ ghost use Rattle.crewdesk_main.specs.Records.{fields_of};
 ghost use Rattle.crewdesk_main.specs.DayFile.{IsOpeningRecord, SpellsOpening, SpellsWindow};
 
 use crate::line_text::{LineText, put, put_number};
-use crate::number::read_number;
 use crate::records::fields_of;
-use desk_base::{Minute, Month, Window};
+use desk_base::{Minute, Month, Window, read_decimal};
 use desk_model::Opening;
 
 /// The opening that a record states; `None` where it states none.
@@ -34,7 +33,7 @@ fn opening_of(start: &[u8], month: &[u8], months: &[u8], answer: &[u8]) -> Optio
 {
     let start = Minute::read(start)?;
     let window = window_of(month, months)?;
-    let answer = read_number(answer)?;
+    let answer = small_number(answer)?;
     Opening::new(start, window, answer)
 }
 
@@ -44,8 +43,16 @@ fn window_of(month: &[u8], months: &[u8]) -> Option<Window>
         → result ≡ Some window }
 {
     let first = Month::read(month)?;
-    let months = read_number(months)?;
+    let months = small_number(months)?;
     Window::new(first, months)
+}
+
+// The number below 256 that a field spells.
+fn small_number(text: &[u8]) -> Option<u8>
+    ensures some { IfSome result (λ number. text.now ≡ decimal number) }
+    ensures only { (number : ℕ) → number < 2 ^ 8 → text.now ≡ decimal number → result ≡ Some number }
+{
+    u8::try_from(read_decimal(text)?).ok()
 }
 
 /// The opening's line of the journal.

@@ -3,9 +3,10 @@ ghost use Rattle.std.specs.Prelude.{◌≡◌, ◌<◌, ◌==◌, ◌∷◌, [],
 ghost use Rattle.std.specs.Option.{option_copied};
 ghost use Rattle.std.specs.Str.Lines.{lines, strip_carriage_return};
 ghost use Rattle.arrayvec.specs.ArrayVec.{array_vec_len};
-ghost use Rattle.crewdesk_main.specs.Records.{records, parts_by, parts_after, fields_of};
+ghost use Rattle.crewdesk_main.specs.Records.{records, fields_of};
 
 use arrayvec::ArrayVec;
+use desk_base::split_once;
 
 /// How many fields a record may have and still be read.
 pub const FIELDS: usize = 12;
@@ -66,18 +67,5 @@ fn without_carriage_return(line: &[u8]) -> &[u8]
     match line {
         [front @ .., b'\r'] => front,
         _ => line,
-    }
-}
-
-// What stands before the first mark, and what stands after it.
-fn split_once(bytes: &[u8], mark: u8) -> (&[u8], Option<&[u8]>)
-    ensures parts { parts_by mark bytes.now
-        ≡ result.0.now ∷ parts_after mark (option_copied result.1) }
-    ensures shorter { IfSome result.1 (λ after. length after.now < length bytes.now) }
-    ensures whole { IfNone result.1 (result.0.now ≡ bytes.now) }
-{
-    match bytes.iter().position(|b| *b == mark) {
-        Some(at) => (&bytes[..at], Some(&bytes[at + 1..])),
-        None => (bytes, None),
     }
 }

@@ -2,3 +2,4 @@ pub mod MonthLemmas
 pub mod CivilLemmas
 pub mod TextLemmas
 pub mod WindowLemmas
+pub mod PartsLemmas

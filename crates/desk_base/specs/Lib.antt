@@ -6,3 +6,4 @@ pub mod Window
 pub mod Code
 pub mod CodeInside
 pub mod Number
+pub mod Parts

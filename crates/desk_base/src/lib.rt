@@ -4,19 +4,23 @@
 mod civil;
 mod code;
 mod day;
+mod decimal;
 mod digits;
 mod minute;
 mod month;
 mod no_memory;
+mod parts;
 mod person_no;
 mod vac_no;
 mod window;
 
 pub use code::Code;
 pub use day::Day;
+pub use decimal::read_decimal;
 pub use minute::Minute;
 pub use month::Month;
 pub use no_memory::NoMemory;
+pub use parts::split_once;
 pub use person_no::PersonNo;
 pub use vac_no::VacNo;
 pub use window::Window;

@@ -2,7 +2,8 @@ use Rattle.std.proofs.Common.{◌≡◌, ◌++◌, ◌+◌, length, map, ℕ, Op
 use Rattle.std.specs.Option.{option_copied}
 use Rattle.std.specs.Borrow.{Bor}
 use Rattle.std.proofs.Common.{List}
-use Rattle.crewdesk_main.specs.Records.{fields_of, parts_after}
+use Rattle.crewdesk_main.specs.Records.{fields_of}
+use Rattle.desk_base.specs.Parts.{parts_after}
 use Rattle.crewdesk_main.proofs.records.fields_of.Given as goal
 
 -- the bytes that are left, and one more where a field is left

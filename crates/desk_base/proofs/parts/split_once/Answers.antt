@@ -2,8 +2,8 @@ use Rattle.std.proofs.Common.{◌∙◌, sym, rules, tests, eqb, ◌+◌}
 use Rattle.std.proofs.lemmas.List.{take_rest}
 use Rattle.std.proofs.lemmas.Iterator.{YieldsList-from_slice}
 use Rattle.std.proofs.lemmas.Iterator.Search.{position_from_yields_List}
-use Rattle.crewdesk_main.proofs.RecordLemmas.{slice_split-found, slice_split-absent}
-use Rattle.crewdesk_main.proofs.records.split_once.Goals as goal
+use Rattle.desk_base.proofs.PartsLemmas.{slice_split-found, slice_split-absent}
+use Rattle.desk_base.proofs.parts.split_once.Goals as goal
 
 pub returns-in-Some-clause-parts : goal.returns-in-Some-clause-parts
 returns-in-Some-clause-parts c =

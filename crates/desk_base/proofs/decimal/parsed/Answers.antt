@@ -3,11 +3,11 @@ use Rattle.std.specs.Result.{result_ok}
 use Rattle.std.specs.Str.{IsUtf8}
 use Rattle.std.proofs.lemmas.Fmt.{IsAscii-decimal, parse-decimal}
 use Rattle.std.proofs.lemmas.Str.{IsUtf8-from_ascii}
-use Rattle.crewdesk_main.proofs.number.parsed.Goals as goal
+use Rattle.desk_base.proofs.decimal.parsed.Goals as goal
 
 pub returns-in-Ok : goal.returns-in-Ok
 returns-in-Ok c = λ number bound e.
-    c.ok.ensures.value ∙ ap result_ok (parse-decimal 8 number c.in-Ok.digits.now c.parse.result bound (omega arith) (c.in-Ok.ensures.cases.0 ∙ e) c.parse.ensures.value.0)
+    c.ok.ensures.value ∙ ap result_ok (parse-decimal 32 number c.in-Ok.digits.now c.parse.result bound (omega arith) (c.in-Ok.ensures.cases.0 ∙ e) c.parse.ensures.value.0)
 
 pub returns-in-Err : goal.returns-in-Err
 returns-in-Err c = λ number bound e.
