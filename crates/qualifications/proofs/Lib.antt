@@ -1,0 +1,2 @@
+pub mod QualsLemmas
+pub mod NumbersLemmas

@@ -1,0 +1,210 @@
+-- The numbers of a set: their bits, their text, and its parts.
+use Rattle.std.proofs.Common.{◌≡◌, ℕ, zero, suc, ◌+◌, ◌*◌, ◌%◌, ◌^◌, ◌<◌, ◌≤◌, ◌⊎◌, inl, inr, true, false, cond, ◌==◌, List, [], ◌∷◌, ◌++◌, length, get_or, map, decimal, codes, bit_or, refl, sym, ap, ◌∙◌, arith, append_assoc, append-nil, length-append, add-one}
+use Rattle.std.specs.Bool.{⊤}
+use Rattle.std.specs.Int.{bit_at}
+use Rattle.std.specs.Int.Bits.{or_shifted_r}
+use Rattle.std.specs.List.{All}
+use Rattle.std.proofs.Math.Arith.{mod-mul}
+use Rattle.std.proofs.Math.Nat.{pow-succ', mod-lt, mod-eq_of_lt}
+use Rattle.std.proofs.Math.Pow.{pow_pos}
+use Rattle.std.proofs.lemmas.Bool.{cases_Bool, eqb-true, eqb-false, ne_eqb, cond-false}
+use Rattle.std.proofs.lemmas.List.Elements.{All-from_get_or}
+use Rattle.std.proofs.lemmas.Nat.Bits.{bit_at-lt}
+use Rattle.std.proofs.lemmas.Fmt.{decimal_is_IsNumeral, decimal_nonempty}
+use Rattle.std.proofs.lemmas.Str.Parse.{digit_at}
+use Rattle.desk_base.specs.Parts.{parts_by}
+use Rattle.desk_base.proofs.PartsLemmas.{AreUnmarked, parts_by-join}
+use Rattle.qualifications.specs.Quals.{has, numbers_below, joined, with_number, quals_text}
+
+-- each of the numbers is below this bound
+abbrev pub AreBelow : ℕ → List ℕ → Type 0
+AreBelow bound [] = ⊤
+AreBelow bound (n ∷ ns) = (n < bound) × AreBelow bound ns
+
+AreBelow-push : (bound : ℕ) (ns : List ℕ) (n : ℕ) → AreBelow bound ns → n < bound → AreBelow bound (ns ++ n ∷ [])
+AreBelow-push bound [] n below h = (h, tt)
+AreBelow-push bound (m ∷ ns) n below h = (below.0, AreBelow-push bound ns n below.1 h)
+
+-- one number more
+numbers_below-had : (quals n : ℕ) → has quals n ≡ true → numbers_below quals (suc n) ≡ numbers_below quals n ++ n ∷ []
+unfolding numbers_below
+numbers_below-had quals n e = rw e refl
+
+numbers_below-lacked : (quals n : ℕ) → has quals n ≡ false → numbers_below quals (suc n) ≡ numbers_below quals n
+unfolding numbers_below
+numbers_below-lacked quals n e = rw e (append-nil (numbers_below quals n))
+
+numbers_below-zero : (quals : ℕ) → numbers_below quals 0 ≡ []
+unfolding numbers_below
+numbers_below-zero quals = refl
+
+pub AreBelow-numbers_below : (quals n : ℕ) → n ≤ 64 → AreBelow 64 (numbers_below quals n)
+AreBelow-numbers_below quals zero h = rw (numbers_below-zero quals) tt
+AreBelow-numbers_below quals (suc n) h =
+    elim (cases_Bool (has quals n)) [
+      | inl had ↦ rw (numbers_below-had quals n had) (AreBelow-push 64 (numbers_below quals n) n (AreBelow-numbers_below quals n (omega arith)) (omega arith))
+      | inr lacked ↦ rw (numbers_below-lacked quals n lacked) (AreBelow-numbers_below quals n (omega arith))
+    ]
+
+-- the bits with those of the numbers set too
+abbrev pub bits_with : ℕ → List ℕ → ℕ
+bits_with bits [] = bits
+bits_with bits (n ∷ ns) = bits_with (bit_or bits (1 * 2 ^ n)) ns
+
+bits_with-push : (bits : ℕ) (ns : List ℕ) (n : ℕ) → bits_with bits (ns ++ n ∷ []) ≡ bit_or (bits_with bits ns) (1 * 2 ^ n)
+bits_with-push bits [] n = refl
+bits_with-push bits (m ∷ ns) n = bits_with-push (bit_or bits (1 * 2 ^ m)) ns n
+
+-- the low bits of a number
+low_bits : (quals n : ℕ) → quals % 2 ^ suc n ≡ bit_at quals n * 2 ^ n + quals % 2 ^ n
+low_bits quals n = rw (pow-succ' 2 n) (mod-mul quals (omega arith) (pow_pos n))
+
+-- a set has the bits of its numbers
+pub bits_with-numbers_below : (quals n : ℕ) → bits_with 0 (numbers_below quals n) ≡ quals % 2 ^ n
+bits_with-numbers_below quals zero = rw (numbers_below-zero quals) (omega arith)
+bits_with-numbers_below quals (suc n) =
+    elim (cases_Bool (has quals n)) [
+      | inl had ↦
+          let bit : bit_at quals n ≡ 1 = eqb-true _ _ had in
+          let high : bit_or (quals % 2 ^ n) (1 * 2 ^ n) ≡ 1 * 2 ^ n + quals % 2 ^ n = or_shifted_r 1 n (quals % 2 ^ n) (mod-lt quals (pow_pos n)) in
+          ap (bits_with 0) (numbers_below-had quals n had) ∙ bits_with-push 0 (numbers_below quals n) n ∙ ap (λ b. bit_or b (1 * 2 ^ n)) (bits_with-numbers_below quals n)
+          ∙ high ∙ ap (λ b. b * 2 ^ n + quals % 2 ^ n) (sym bit) ∙ sym (low_bits quals n)
+      | inr lacked ↦
+          let bit : bit_at quals n ≡ 0 = no_bit (bit_at quals n) (bit_at-lt quals n) (eqb-false _ _ lacked) in
+          ap (bits_with 0) (numbers_below-lacked quals n lacked) ∙ bits_with-numbers_below quals n
+          ∙ zero_high (quals % 2 ^ n) (2 ^ n) ∙ ap (λ b. b * 2 ^ n + quals % 2 ^ n) (sym bit) ∙ sym (low_bits quals n)
+    ]
+  where
+    no_bit : (b : ℕ) → b < 2 → (b ≡ 1 → ⊥) → b ≡ 0
+    no_bit b h ne = omega (arith, ne)
+
+    zero_high : (r c : ℕ) → r ≡ 0 * c + r
+    zero_high r c = omega arith
+
+-- ---- the text
+
+joined-some : (n : ℕ) (ns : List ℕ) → n < 64 → 0 < length (joined (n ∷ ns))
+joined-some n [] h = decimal_nonempty n (omega arith)
+joined-some n (m ∷ ns) h = omega (arith, decimal_nonempty n (omega arith), length-append (decimal n) (43 ∷ joined (m ∷ ns)))
+
+-- one number more behind some
+joined-more : (n : ℕ) (ns : List ℕ) (last : ℕ) → joined (n ∷ ns ++ last ∷ []) ≡ (joined (n ∷ ns) ++ 43 ∷ []) ++ decimal last
+joined-more n [] last = sym (append_assoc (decimal n) (43 ∷ []) (decimal last))
+joined-more n (m ∷ ns) last =
+    ap (λ text. decimal n ++ 43 ∷ text) (joined-more m ns last) ∙ simp append_assoc
+
+pub joined-push : (ns : List ℕ) (last : ℕ) → AreBelow 64 ns → joined (ns ++ last ∷ []) ≡ with_number (joined ns) last
+joined-push [] last below = refl
+joined-push (n ∷ ns) last below =
+    joined-more n ns last ∙ ap (λ b. (joined (n ∷ ns) ++ cond b [] (43 ∷ [])) ++ decimal last) (sym (ne_eqb (length (joined (n ∷ ns))) 0 (λ e. omega (arith, joined-some n ns below.0))))
+
+decimal-unmarked : (n : ℕ) → n < 64 → All (λ b. (b == 43) ≡ false) (decimal n)
+decimal-unmarked n h = All-from_get_or (λ b. (b == 43) ≡ false) (decimal n) 0 (λ i within.
+    let digit = digit_at (decimal n) i (decimal_is_IsNumeral n (omega arith)).0.1 within in
+    ne_eqb (get_or (decimal n) i 0) 43 (λ e. omega (arith, digit)))
+
+AreUnmarked-decimals : (ns : List ℕ) → AreBelow 64 ns → AreUnmarked 43 (map decimal ns)
+AreUnmarked-decimals [] below = tt
+AreUnmarked-decimals (n ∷ ns) below = (decimal-unmarked n below.0, AreUnmarked-decimals ns below.1)
+
+-- the parts of a text of numbers are these numbers
+pub parts_by-joined : (n : ℕ) (ns : List ℕ) → AreBelow 64 (n ∷ ns) → parts_by 43 (joined (n ∷ ns)) ≡ map decimal (n ∷ ns)
+parts_by-joined n ns below = parts_by-join 43 (decimal n) (map decimal ns) (AreUnmarked-decimals (n ∷ ns) below)
+
+-- ---- the whole text
+
+-- an empty text has no number
+numbers-none : (ns : List ℕ) → AreBelow 64 ns → length (joined ns) ≡ 0 → ns ≡ []
+numbers-none [] below e = refl
+numbers-none (n ∷ ns) below e = absurd (omega (arith, joined-some n ns below.0))
+
+-- what is written where no number was
+pub quals_text-none : (quals : ℕ) → length (joined (numbers_below quals 64)) ≡ 0 → quals_text quals ≡ codes "-"
+unfolding quals_text
+quals_text-none quals e = rw (numbers-none (numbers_below quals 64) (AreBelow-numbers_below quals 64 (omega arith)) e) refl
+
+-- and where some were
+pub quals_text-some : (quals : ℕ) → (length (joined (numbers_below quals 64)) ≡ 0 → ⊥) → quals_text quals ≡ joined (numbers_below quals 64)
+unfolding quals_text
+quals_text-some quals ne = cond-false _ (codes "-") _ (ne_eqb _ 0 (λ e. ne (ap length (ap joined (no_length (numbers_below quals 64) e)))))
+  where
+    no_length : (ns : List ℕ) → length ns ≡ 0 → ns ≡ []
+    no_length [] e = refl
+    no_length (n ∷ ns) e = absurd (omega arith)
+
+-- the text with the next number, had or lacked
+pub joined-had : (quals n : ℕ) → n < 64 → has quals n ≡ true → with_number (joined (numbers_below quals n)) n ≡ joined (numbers_below quals (n + 1))
+joined-had quals n h e =
+    sym (joined-push (numbers_below quals n) n (AreBelow-numbers_below quals n (omega arith)))
+    ∙ ap joined (sym (numbers_below-had quals n e)) ∙ ap (λ k. joined (numbers_below quals k)) (sym (add-one n))
+
+pub joined-lacked : (quals n : ℕ) → has quals n ≡ false → joined (numbers_below quals n) ≡ joined (numbers_below quals (n + 1))
+joined-lacked quals n e =
+    ap joined (sym (numbers_below-lacked quals n e)) ∙ ap (λ k. joined (numbers_below quals k)) (sym (add-one n))
+
+pub joined-zero : (quals : ℕ) → joined (numbers_below quals 0) ≡ []
+joined-zero quals = ap joined (numbers_below-zero quals)
+
+-- a set of 64 bits is that of its numbers
+pub bits_with-all : (quals : ℕ) → quals < 2 ^ 64 → bits_with 0 (numbers_below quals 64) ≡ quals
+bits_with-all quals h = bits_with-numbers_below quals 64 ∙ mod-eq_of_lt h
+
+-- ---- the text taken apart
+
+-- the parts are numbers, and with these the bits are the set's
+abbrev pub AreLacked : ℕ → ℕ → List (List ℕ) → Type 0
+AreLacked quals bits parts = (ns : List ℕ) × (parts ≡ map decimal ns) × AreBelow 64 ns × (bits_with bits ns ≡ quals)
+
+-- the first part is a number, and with its bit the others are lacked
+abbrev pub IsNext : ℕ → ℕ → List ℕ → List (List ℕ) → Type 0
+IsNext quals bits part rest = (n : ℕ) × (part ≡ decimal n) × (n < 64) × AreLacked quals (bit_or bits (1 * 2 ^ n)) rest
+
+pub AreLacked-next : (quals bits : ℕ) (parts : List (List ℕ)) (part : List ℕ) (rest : List (List ℕ)) → parts ≡ (part ∷ rest) → AreLacked quals bits parts → IsNext quals bits part rest
+AreLacked-next quals bits parts part rest whole ([], e, below, b) = absurd (omega (arith, ap length (sym whole ∙ e)))
+AreLacked-next quals bits parts part rest whole (n ∷ ns, e, below, b) = (n, ap head (sym whole ∙ e), below.0, (ns, ap tail (sym whole ∙ e), below.1, b))
+  where
+    head : List (List ℕ) → List ℕ
+    head [] = []
+    head (x ∷ xs) = x
+
+    tail : List (List ℕ) → List (List ℕ)
+    tail [] = []
+    tail (x ∷ xs) = xs
+
+-- where no part is left the bits are the set's
+pub AreLacked-none : (quals bits : ℕ) → AreLacked quals bits [] → bits ≡ quals
+AreLacked-none quals bits ([], e, below, b) = b
+AreLacked-none quals bits (n ∷ ns, e, below, b) = absurd (omega (arith, ap length e))
+
+-- the numbers of a set that has none, or of one that has some
+AreLacked-numbers : (quals : ℕ) (text : List ℕ) (ns : List ℕ) → AreBelow 64 ns → bits_with 0 ns ≡ quals → text ≡ cond (length ns == 0) (codes "-") (joined ns)
+    → ((text ≡ codes "-") × (0 ≡ quals)) ⊎ AreLacked quals 0 (parts_by 43 text)
+AreLacked-numbers quals text [] below b e = inl (e, b)
+AreLacked-numbers quals text (n ∷ ns) below b e =
+    let some : text ≡ joined (n ∷ ns) = e ∙ cond-false _ (codes "-") _ (ne_eqb (suc (length ns)) 0 (λ e. omega (arith, e))) in
+    inr (n ∷ ns, ap (parts_by 43) some ∙ parts_by-joined n ns below, below, b)
+
+AreLacked-quals_text : (quals : ℕ) (text : List ℕ) → quals < 2 ^ 64 → text ≡ quals_text quals
+    → ((text ≡ codes "-") × (0 ≡ quals)) ⊎ AreLacked quals 0 (parts_by 43 text)
+unfolding quals_text
+AreLacked-quals_text quals text h e = AreLacked-numbers quals text (numbers_below quals 64) (AreBelow-numbers_below quals 64 (omega arith)) (bits_with-all quals h) e
+
+-- `-` is no number
+decimal-not_dash : (n : ℕ) → n < 64 → codes "-" ≡ decimal n → ⊥
+decimal-not_dash n h e =
+    let digit = digit_at (decimal n) 0 (decimal_is_IsNumeral n (omega arith)).0.1 (decimal_nonempty n (omega arith)) in
+    omega (arith, digit, ap (λ text. get_or text 0 0) e)
+
+-- the set whose text is `-`
+pub quals_text-dash : (quals : ℕ) → quals < 2 ^ 64 → codes "-" ≡ quals_text quals → 0 ≡ quals
+quals_text-dash quals h e = elim (AreLacked-quals_text quals (codes "-") h e) [
+  | inl none ↦ none.1
+  | inr some ↦ let next = AreLacked-next quals 0 (parts_by 43 (codes "-")) (codes "-") [] refl some in absurd (decimal-not_dash next.0 next.2 next.1)
+]
+
+-- the parts of any other text
+pub AreLacked-other : (quals : ℕ) (text : List ℕ) → quals < 2 ^ 64 → text ≡ quals_text quals → (text ≡ codes "-" → ⊥) → AreLacked quals 0 (parts_by 43 text)
+AreLacked-other quals text h e other = elim (AreLacked-quals_text quals text h e) [
+  | inl none ↦ absurd (other none.0)
+  | inr some ↦ some
+]

@@ -1,0 +1,2 @@
+pub mod Craft
+pub mod Quals

@@ -1,0 +1,11 @@
+//! What a person can do: crafts and qualifications.
+#![tactic(auto)]
+
+mod craft;
+mod quals;
+
+pub use craft::Craft;
+pub use quals::{Quals, QualsText};
+
+#[cfg(test)]
+mod tests;
