@@ -1,7 +1,8 @@
 #!/bin/sh
 # compare.sh PROGRAM: runs the program on each folder beside this file, and compares what it does with what the
-# folder says: its words in `args`, one a line; its input in `stdin`; what it must write in `stdout`, how it must
-# end in `status` and, where the folder has it, what must stand on standard error in `stderr`.
+# folder says: its words in `args`, one a line; its input in `stdin`, a file or a folder; what it must write in
+# `stdout`; how it must end in `status`; and what must stand on standard error in `stderr`, which is nothing where
+# there is no such file. Where a file `output` names a device, the program writes to that.
 # The last line is 'N passed, M failed'.
 program=$(realpath "$1") || exit 2
 cd "$(dirname "$0")" || exit 2
@@ -12,17 +13,20 @@ failed=0
 for folder in */; do
     folder=${folder%/}
     set --
-    while IFS= read -r word; do
+    while IFS= read -r word || [ -n "$word" ]; do
         set -- "$@" "$word"
     done < "$folder/args"
-    "$program" "$@" < "$folder/stdin" > "$work/stdout" 2> "$work/stderr"
+    output=$work/stdout
+    [ ! -f "$folder/output" ] || output=$(cat "$folder/output")
+    : > "$work/stdout"
+    "$program" "$@" < "$folder/stdin" > "$output" 2> "$work/stderr"
     status=$?
     wrong=
     [ "$status" = "$(cat "$folder/status")" ] || wrong="$wrong status"
     cmp -s "$work/stdout" "$folder/stdout" || wrong="$wrong stdout"
-    if [ -f "$folder/stderr" ]; then
-        cmp -s "$work/stderr" "$folder/stderr" || wrong="$wrong stderr"
-    fi
+    stderr=$folder/stderr
+    [ -f "$stderr" ] || stderr=/dev/null
+    cmp -s "$work/stderr" "$stderr" || wrong="$wrong stderr"
     if [ -z "$wrong" ]; then
         passed=$((passed + 1))
     else

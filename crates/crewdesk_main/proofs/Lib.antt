@@ -1,3 +1,4 @@
 pub mod RecordLemmas
 pub mod OpeningLemmas
 pub mod ReplayLemmas
+pub mod WordsLemmas

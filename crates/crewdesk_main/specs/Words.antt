@@ -1,5 +1,5 @@
 -- The words that the program is given.
-use Rattle.std.specs.Prelude.{ℕ, Bool, false, nat_eq, List, [], ◌∷◌, codes, String, string_bytes}
+use Rattle.std.specs.Prelude.{ℕ, Bool, false, ◌||◌, nat_eq, List, [], ◌∷◌, codes, String, string_bytes}
 use Rattle.std.specs.Cmp.Lexicographic.{pointwise}
 use Rattle.std.specs.Global.{Global}
 
@@ -12,3 +12,7 @@ is_alone form (word ∷ other ∷ more) = false
 -- they are `replay` alone
 abbrev pub is_replay : List (String Global) → Bool
 is_replay words = is_alone (codes "replay") words
+
+-- they are a form of the command line
+abbrev pub is_form : List (String Global) → Bool
+is_form words = is_alone (codes "--help") words || is_alone (codes "--version") words || is_replay words

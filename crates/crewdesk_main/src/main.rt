@@ -1,6 +1,11 @@
 //! The crew calling desk: reads a day file and writes its journal.
 #![tactic(auto)]
 
+ghost use Rattle.std.specs.Prelude.{◌≡◌, ◌↔◌, false, true};
+ghost use Rattle.std.specs.Io.KnownBytes.{Appends, Keeps};
+ghost use Rattle.crewdesk_main.specs.Words.{is_form, is_replay};
+ghost use Rattle.crewdesk_main.specs.Replay.{Replays, day_file_limit, writes};
+
 mod day_file;
 mod line_text;
 mod opening_record;
@@ -54,12 +59,20 @@ fn given_words(rt: &(impl Env + AllocGlobal)) -> Result<Vec<String>, Status> {
     Ok(words)
 }
 
+// Prints the form that is asked for, or runs the desk.
 fn perform<S: Source, K: Sink>(
     alloc: Global,
     words: &[String],
     source: &mut S,
     sink: &mut K,
-) -> Status {
+) -> Status
+    ensures usage { result ≡ Status.Usage ↔ (is_form words.now ≡ false) }
+    ensures unasked { is_replay words.now ≡ false → S.left source.new ≡ S.left source.old }
+    ensures fine { is_replay words.now ≡ true → result ≡ Status.Fine
+        → Replays (S.left source.old) (S.left source.new) day_file_limit
+        (Appends (K.held sink.old) (K.held sink.new)) }
+    ensures silent { writes result ≡ false → Keeps (K.held sink.old) (K.held sink.new) }
+{
     if is_alone(words, "--help") {
         write_text(sink, HELP.as_bytes())
     } else if is_alone(words, "--version") {

@@ -14,7 +14,8 @@ use desk_model::Opening;
 /// The opening that a record states; `None` where it states none.
 pub fn read_opening(text: &[u8]) -> Option<Opening>
     ensures some { IfSome result (IsOpeningRecord text.now) }
-    ensures only { (opening : OpeningValue) → IsOpeningRecord text.now opening → result ≡ Some opening }
+    ensures only { (opening : OpeningValue) → IsOpeningRecord text.now opening
+        → result ≡ Some opening }
 {
     let fields = fields_of(text)?;
     let [start, word, month, months, answer] = fields.as_slice() else {
@@ -23,21 +24,22 @@ pub fn read_opening(text: &[u8]) -> Option<Opening>
     if *word != b"open".as_slice() {
         return None;
     }
-    opening_of(start, month, months, answer)
+    spelled_opening(start, month, months, answer)
 }
 
-fn opening_of(start: &[u8], month: &[u8], months: &[u8], answer: &[u8]) -> Option<Opening>
+fn spelled_opening(start: &[u8], month: &[u8], months: &[u8], answer: &[u8]) -> Option<Opening>
     ensures some { IfSome result (SpellsOpening start.now month.now months.now answer.now) }
-    ensures only { (opening : OpeningValue) → SpellsOpening start.now month.now months.now answer.now opening
+    ensures only { (opening : OpeningValue)
+        → SpellsOpening start.now month.now months.now answer.now opening
         → result ≡ Some opening }
 {
     let start = Minute::read(start)?;
-    let window = window_of(month, months)?;
+    let window = spelled_window(month, months)?;
     let answer = small_number(answer)?;
     Opening::new(start, window, answer)
 }
 
-fn window_of(month: &[u8], months: &[u8]) -> Option<Window>
+fn spelled_window(month: &[u8], months: &[u8]) -> Option<Window>
     ensures some { IfSome result (SpellsWindow month.now months.now) }
     ensures only { (window : WindowValue) → SpellsWindow month.now months.now window
         → result ≡ Some window }
@@ -50,7 +52,8 @@ fn window_of(month: &[u8], months: &[u8]) -> Option<Window>
 // The number below 256 that a field spells.
 fn small_number(text: &[u8]) -> Option<u8>
     ensures some { IfSome result (λ number. text.now ≡ decimal number) }
-    ensures only { (number : ℕ) → number < 2 ^ 8 → text.now ≡ decimal number → result ≡ Some number }
+    ensures only { (number : ℕ) → number < 2 ^ 8 → text.now ≡ decimal number
+        → result ≡ Some number }
 {
     u8::try_from(read_decimal(text)?).ok()
 }

@@ -28,7 +28,8 @@ pub fn next_record(bytes: &[u8]) -> Option<(&[u8], &[u8])>
 
 /// The fields of a record; `None` where it has more than 12.
 pub fn fields_of(text: &[u8]) -> Option<ArrayVec<&[u8], FIELDS>>
-    ensures some { IfSome result (λ fields. map (λ field. field.now) fields.items ≡ fields_of text.now) }
+    ensures some { IfSome result (λ fields.
+        map (λ field. field.now) fields.items ≡ fields_of text.now) }
     ensures none { IfNone result (12 < length (fields_of text.now)) }
 {
     let mut fields = ArrayVec::new();

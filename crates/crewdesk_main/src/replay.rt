@@ -1,8 +1,8 @@
-ghost use Rattle.std.specs.Prelude.{◌≡◌, ◌≢◌, ◌⊎◌, ◌↔◌, false, true};
+ghost use Rattle.std.specs.Prelude.{◌≡◌, ◌≢◌, ◌≤◌, ◌⊎◌, ◌↔◌, false, true};
 ghost use Rattle.std.specs.Io.KnownBytes.{Appends, Keeps};
 ghost use Rattle.desk_io.specs.Faults.{Rose};
 ghost use Rattle.desk_io.specs.Giving.{AddsFront};
-ghost use Rattle.desk_io.specs.Input.{TookMore};
+ghost use Rattle.desk_io.specs.Input.{TookMore, TookFront};
 ghost use Rattle.crewdesk_main.specs.DayFile.{HasNoOpening, HasCommand};
 ghost use Rattle.crewdesk_main.specs.Words.{is_replay};
 ghost use Rattle.crewdesk_main.specs.Replay.{Replays, IsReplayable, WasRead, day_file_limit, writes};
@@ -37,11 +37,18 @@ pub fn run<S: Source, K: Sink>(
         → Replays (S.left source.old) (S.left source.new) day_file_limit
         (AddsFront (K.held sink.old) (K.held sink.new)) }
     ensures silent { writes result ≡ false → Keeps (K.held sink.old) (K.held sink.new) }
+    ensures silent_faults { writes result ≡ false → K.faults sink.new ≡ K.faults sink.old }
 
-    ensures write_cause { result ≡ Status.WriteFault → Rose (K.faults sink.old) (K.faults sink.new) }
-    ensures read_cause { result ≡ Status.ReadFault → Rose (S.faults source.old) (S.faults source.new) }
+    ensures later_source { S.faults source.old ≤ S.faults source.new }
+    ensures later_sink { K.faults sink.old ≤ K.faults sink.new }
+    ensures write_cause { result ≡ Status.WriteFault
+        → Rose (K.faults sink.old) (K.faults sink.new) }
+    ensures read_cause { result ≡ Status.ReadFault
+        → Rose (S.faults source.old) (S.faults source.new) }
     ensures too_long { result ≡ Status.TooLong
         → TookMore (S.left source.old) (S.left source.new) day_file_limit }
+    ensures not_too_long { result ≢ Status.TooLong
+        → TookFront (S.left source.old) (S.left source.new) day_file_limit }
     ensures no_opening { result ≡ Status.NoOpening
         → WasRead (S.left source.old) (S.left source.new) day_file_limit HasNoOpening }
     ensures unreadable { result ≡ Status.Unreadable
@@ -49,8 +56,10 @@ pub fn run<S: Source, K: Sink>(
     ensures audit_wrong { result ≢ Status.AuditWrong }
 
     // A day file is replayed, unless memory or a fault is in the way.
-    ensures complete { is_replay words.now ≡ true → IsReplayable (S.left source.old) day_file_limit
-        → ¬ Rose (S.faults source.old) (S.faults source.new) → ¬ Rose (K.faults sink.old) (K.faults sink.new)
+    ensures complete { is_replay words.now ≡ true
+        → IsReplayable (S.left source.old) day_file_limit
+        → ¬ Rose (S.faults source.old) (S.faults source.new)
+        → ¬ Rose (K.faults sink.old) (K.faults sink.new)
         → (result ≡ Status.Fine) ⊎ (result ≡ Status.NoMemory) }
 {
     if !is_alone(words, "replay") {

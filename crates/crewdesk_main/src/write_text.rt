@@ -1,4 +1,4 @@
-ghost use Rattle.std.specs.Prelude.{◌≡◌, ◌⊎◌};
+ghost use Rattle.std.specs.Prelude.{◌≡◌, ◌≤◌, ◌⊎◌};
 ghost use Rattle.std.specs.Io.KnownBytes.{Appends};
 ghost use Rattle.desk_io.specs.Faults.{Rose};
 ghost use Rattle.desk_io.specs.Giving.{AddsFront};
@@ -10,7 +10,9 @@ pub fn write_text<K: Sink>(sink: &mut K, text: &[u8]) -> Status
     ensures fine { result ≡ Status.Fine → Appends (K.held sink.old) (K.held sink.new) text.now }
     ensures write_fault { result ≡ Status.WriteFault
         → AddsFront (K.held sink.old) (K.held sink.new) text.now }
-    ensures write_cause { result ≡ Status.WriteFault → Rose (K.faults sink.old) (K.faults sink.new) }
+    ensures write_cause { result ≡ Status.WriteFault
+        → Rose (K.faults sink.old) (K.faults sink.new) }
+    ensures later { K.faults sink.old ≤ K.faults sink.new }
     ensures either { (result ≡ Status.Fine) ⊎ (result ≡ Status.WriteFault) }
 {
     if put_all(sink, text) {

@@ -65,7 +65,7 @@ first_day_mono month later h =
 pub first_day-zero : first_day 0 ≡ 0
 first_day-zero = omega (arith, first_day-count 0, day_count-epoch)
 
--- the days on which the desk's ranges begin and end: January 2000, January 2100, May and June 2480
+-- the days on which the desk's ranges begin and end: those of January 2000 and of January 2100, and that of May 2480
 pub first_day-2000 : first_day 360 ≡ 10_957
 first_day-2000 = omega (arith, first_day-count 360, day_count-early (pos 2000) 11_999 1 1 refl (omega arith) (omega arith) (omega arith))
 

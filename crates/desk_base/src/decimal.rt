@@ -7,7 +7,8 @@ use std::str;
 /// for a number from 2^32 on.
 pub fn read_decimal(text: &[u8]) -> Option<u32>
     ensures some { IfSome result (λ number. text.now ≡ decimal number) }
-    ensures only { (number : ℕ) → number < 2 ^ 32 → text.now ≡ decimal number → result ≡ Some number }
+    ensures only { (number : ℕ) → number < 2 ^ 32 → text.now ≡ decimal number
+        → result ≡ Some number }
 {
     let number = parsed(text)?;
     if Buffer::new().format(number).as_bytes() == text {

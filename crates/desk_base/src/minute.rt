@@ -56,7 +56,8 @@ impl Minute {
     /// The minute of the text `YYYY-MM-DD HH:MM`, of a real date of the years 2000 to 2099, hours 00 to 23
     /// and minutes 00 to 59; `None` for any other text.
     pub fn read(text: &[u8]) -> Option<Minute>
-        ensures some { IfSome result (λ minute. IsInYears minute × (text.now ≡ minute_text minute)) }
+        ensures some { IfSome result (λ minute.
+            IsInYears minute × (text.now ≡ minute_text minute)) }
         ensures only { (minute : ℕ) → IsInYears minute → text.now ≡ minute_text minute
             → result ≡ Some minute }
     {

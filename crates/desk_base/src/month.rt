@@ -83,7 +83,8 @@ impl Month {
 
     /// The month of the text `YYYY-MM`, of the years 2000 to 2099; `None` for any other text.
     pub fn read(text: &[u8]) -> Option<Month>
-        ensures some { IfSome result (λ month. IsMonthInYears month × (text.now ≡ month_text month)) }
+        ensures some { IfSome result (λ month.
+            IsMonthInYears month × (text.now ≡ month_text month)) }
         ensures only { (month : ℕ) → IsMonthInYears month → text.now ≡ month_text month
             → result ≡ Some month }
     {

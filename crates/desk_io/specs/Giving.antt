@@ -1,4 +1,4 @@
-use Rattle.std.specs.Prelude.{ℕ, ◌≤◌, List, ◌++◌, length, take, ⊤}
+use Rattle.std.specs.Prelude.{ℕ, ◌<◌, List, ◌++◌, length, take, ⊤}
 use Rattle.std.specs.declared.option.Option.{Option}
 use Rattle.std.specs.Io.KnownBytes.{Appends, Keeps}
 use Rattle.desk_io.specs.declared.giving.Giving.{Giving}
@@ -16,10 +16,10 @@ abbrev pub Adds : Option (List ℕ) → Option (List ℕ) → Giving → List �
 Adds old new (Took count) from = Appends old new (take count from)
 Adds old new Failed from = Keeps old new
 
--- a sink took some bytes from the front of these
+-- a sink took some bytes from the front of these, and not all
 pub record AddsFront (old new : Option (List ℕ)) (bytes : List ℕ) : Type 0 where
   pub count : ℕ
-  pub within : count ≤ length bytes
+  pub within : count < length bytes
   pub added : Appends old new (take count bytes)
 
 -- what is held after an answer to a piece

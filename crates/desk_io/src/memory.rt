@@ -1,15 +1,15 @@
-// What the source and the sink in memory share.
+//! What the source and the sink in memory share.
 ghost use Rattle.std.specs.Prelude.{◌≡◌, ◌≤◌, ◌+◌, ◌==◌, ◌++◌, length, take, vec_len, vec_capacity};
 ghost use Rattle.std.specs.List.{list_any};
 
-// Whether the call is among those that fail.
+/// Whether the call is among those that fail.
 pub fn is_listed(failing: &[u64], call: u64) -> bool
     ensures { result ≡ list_any (λ n. n == call) failing.now }
 {
     failing.iter().any(|number| *number == call)
 }
 
-// Copies the first `count` bytes of `from` to the front of `into`.
+/// Copies the first `count` bytes of `from` to the front of `into`.
 pub fn copy_front(into: &mut [u8], from: &[u8], count: usize)
     requires into_room { count ≤ length into.old }
     requires from_has { count ≤ length from.now }
@@ -18,7 +18,7 @@ pub fn copy_front(into: &mut [u8], from: &[u8], count: usize)
     into[..count].copy_from_slice(&from[..count]);
 }
 
-// Appends the first `count` bytes of `from`, for which there is memory.
+/// Appends the first `count` bytes of `from`, for which there is memory.
 pub fn push_front(bytes: &mut Vec<u8>, from: &[u8], count: usize)
     requires room { vec_len bytes.old + count ≤ vec_capacity bytes.old }
     requires from_has { count ≤ length from.now }

@@ -31,7 +31,8 @@ impl Model for Opening {
 impl Opening {
     /// An opening at a minute of the window, with 1 to 60 minutes to answer; `None` for anything else.
     pub fn new(start: Minute, window: Window, answer: u8) -> Option<Opening>
-        ensures { SomeIff result (IsOpening (opening_of start window answer)) (opening_of start window answer) }
+        ensures { SomeIff result (IsOpening (opening_of start window answer))
+            (opening_of start window answer) }
     {
         if window.holds(start) && answer >= 1 && answer <= 60 {
             Some(Opening {

@@ -11,7 +11,7 @@ returns-clause-some c =
     let fields = c.as_slice.result.now in
     let len : length fields ≡ 5 = omega (arith, c.in-len5.len_at_least, c.in-len5.len_below) in
     let is_word = (slice_eq-Decides Decides-eqb _ _ _ refl).0 (not-false _ (sym c.ne.ensures ∙ c.if-ne.false)) ∙ c.as_slice-2.ensures in
-    IfSome_then c.opening_of.result c.opening_of.ensures.some (λ opening spells. record {
+    IfSome_then c.spelled_opening.result c.spelled_opening.ensures.some (λ opening spells. record {
       valid = spells.valid;
       fields = sym c.in_ok-fields.ensures.some ∙ ap (map (λ field. field.now)) (sym c.as_slice.ensures.value)
           ∙ opening_fields-spelled fields (record { ref_ptr = (0, 0); now = [] }) opening len is_word spells;

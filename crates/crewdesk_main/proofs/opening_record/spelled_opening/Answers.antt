@@ -3,7 +3,7 @@ use Rattle.std.specs.Option.{SomeIff}
 use Rattle.desk_model.specs.Opening.{IsOpening}
 use Rattle.desk_base.proofs.WindowLemmas.{in_years-Holds}
 use Rattle.crewdesk_main.proofs.OpeningLemmas.{SomeIff-yes}
-use Rattle.crewdesk_main.proofs.opening_record.opening_of.Goals as goal
+use Rattle.crewdesk_main.proofs.opening_record.spelled_opening.Goals as goal
 
 pub returns-in_err-start-clause-only : goal.returns-in_err-start-clause-only
 returns-in_err-start-clause-only c = λ opening spells.

@@ -1,0 +1,3 @@
+pub mod EqualityLemmas
+pub mod MissingLemmas
+pub mod TableLemmas

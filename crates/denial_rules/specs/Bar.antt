@@ -1,0 +1,22 @@
+-- The names of the bars.
+use Rattle.std.specs.Prelude.{ℕ, List, codes}
+use Rattle.denial_rules.specs.declared.bar.Bar.{Bar}
+use Rattle.denial_rules.specs.declared.bar.Bar.TheVariants as bar
+
+-- the bar's row in this desk's list, or its paragraph of 49 USC 21103
+abbrev pub name_of : Bar → List ℕ
+name_of bar.MarkedOff = codes "B1"
+name_of bar.InTour = codes "B2"
+name_of (bar.Assigned vacancy) = codes "B2"
+name_of (bar.OnOffer vacancy) = codes "B3"
+name_of (bar.Elsewhere place) = codes "B4"
+name_of (bar.OtherCraft craft) = codes "B5"
+name_of (bar.Lacks number) = codes "B6"
+name_of bar.Answered = codes "B7"
+name_of (bar.Rest ends) = codes "21103(a)(3)"
+name_of (bar.MoreRest ends) = codes "21103(c)(4)"
+name_of (bar.Undisturbed ends) = codes "21103(e)"
+name_of (bar.SixDays run need) = codes "21103(a)(4)(A)"
+name_of (bar.SevenDays run need) = codes "21103(a)(4)(A)(ii)"
+name_of (bar.MonthHours month total) = codes "21103(a)(1)"
+name_of (bar.LimboHours month total) = codes "21103(c)(1)"

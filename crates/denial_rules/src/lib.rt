@@ -1,0 +1,13 @@
+//! The bars that keep a person from being offered a vacancy, and the first of them that holds.
+#![tactic(auto)]
+
+mod bar;
+mod facts;
+mod table;
+
+pub use bar::{Bar, name};
+pub use facts::Facts;
+pub use table::first_bar;
+
+#[cfg(test)]
+mod tests;
