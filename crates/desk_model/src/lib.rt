@@ -1,9 +1,35 @@
-//! What the desk is asked and what it answers, as values.
+//! What the desk is asked and what it answers, as values, and the rules of its answers as definitions.
 #![tactic(auto)]
 
+mod board_sort;
+mod chain;
+mod command;
+mod desk_core;
+mod entry;
+mod job;
+mod legal;
+mod link;
+mod member;
+mod offer;
 mod opening;
+mod reply;
+mod stated;
+mod vac_state;
 
+pub use board_sort::BoardSort;
+pub use chain::{Chain, ChainText};
+pub use command::Cmd;
+pub use desk_core::DeskCore;
+pub use entry::Entry;
+pub use job::Job;
+pub use legal::one_history_is_legal;
+pub use link::Link;
+pub use member::Member;
+pub use offer::Offer;
 pub use opening::Opening;
+pub use reply::Reply;
+pub use stated::Stated;
+pub use vac_state::VacState;
 
 #[cfg(test)]
 mod tests;

@@ -1,0 +1,4 @@
+pub mod ChainLemmas
+pub mod InsideLemmas
+pub mod LegalLemmas
+pub mod BoundLemmas

@@ -1,0 +1,110 @@
+-- The texts of what is stated, of replies and of the journal's entries.
+use Rattle.std.specs.Prelude.{ℕ, ◌<◌, ◌^◌, Bool, true, false, List, [], ◌∷◌, ◌++◌, codes, decimal, ⊤}
+use Rattle.std.specs.List.{join_with_byte}
+use Rattle.desk_base.specs.Number.{IsNumber}
+use Rattle.desk_base.specs.Code.{IsCode}
+use Rattle.desk_base.specs.Minute.{IsInYears, minute_text}
+use Rattle.qualifications.specs.Craft.{craft_text}
+use Rattle.qualifications.specs.Quals.{quals_text}
+use Rattle.desk_model.specs.declared.command.Cmd.{Cmd}
+use Rattle.desk_model.specs.declared.command.Cmd.TheVariants as cmd
+use Rattle.desk_model.specs.declared.reply.Reply.{Reply}
+use Rattle.desk_model.specs.declared.reply.Reply.TheVariants as reply
+use Rattle.desk_model.specs.declared.vac_state.VacState.{VacState}
+use Rattle.desk_model.specs.declared.vac_state.VacState.TheVariants as state
+use Rattle.desk_model.specs.Chain.{IsChain, chain_text}
+use Rattle.desk_model.specs.Job.{JobValue, IsPlan}
+use Rattle.desk_model.specs.Statement.{StatedValue}
+use Rattle.desk_model.specs.Entry.{EntryValue}
+
+-- the word of a board's sort
+abbrev pub sort_text : Bool → List ℕ
+sort_text true = codes "extra"
+sort_text false = codes "pool"
+
+-- the fields of a job: its vacancy, craft, qualifications, place, report, duty, limbo and chain
+abbrev pub job_fields : JobValue → List (List ℕ)
+job_fields job =
+    decimal job.vac
+    ∷ craft_text job.craft
+    ∷ quals_text job.quals
+    ∷ job.place
+    ∷ minute_text job.report
+    ∷ decimal job.duty
+    ∷ decimal job.limbo
+    ∷ chain_text job.chain
+    ∷ []
+
+-- the fields of a command: its word, and what it is about
+abbrev pub command_fields : Cmd → List (List ℕ)
+command_fields (cmd.Enrol person craft home quals) = codes "enrol" ∷ decimal person ∷ craft_text craft ∷ home ∷ quals_text quals ∷ []
+command_fields (cmd.Board board extra place) = codes "board" ∷ board ∷ sort_text extra ∷ place ∷ []
+command_fields (cmd.List person board) = codes "list" ∷ decimal person ∷ board ∷ []
+command_fields (cmd.Vacancy job) = codes "vacancy" ∷ job_fields job
+command_fields (cmd.Next vac) = codes "next" ∷ decimal vac ∷ []
+
+-- the fields of a command's record: the minute at which it was stated, and the command's
+abbrev pub stated_fields : StatedValue → List (List ℕ)
+stated_fields s = minute_text s.minute ∷ command_fields s.cmd
+
+-- each value of a job has its form
+pub record IsJob (job : JobValue) : Type 0 where
+  pub vac : IsNumber job.vac
+  pub quals : job.quals < 2 ^ 64
+  pub place : IsCode job.place
+  pub plan : IsPlan job.report job.duty job.limbo
+  pub chain : IsChain job.chain
+
+-- each value of a command has its form
+abbrev pub IsCommand : Cmd → Type 0
+IsCommand (cmd.Enrol person craft home quals) = IsNumber person × IsCode home × (quals < 2 ^ 64)
+IsCommand (cmd.Board board extra place) = IsCode board × IsCode place
+IsCommand (cmd.List person board) = IsNumber person × IsCode board
+IsCommand (cmd.Vacancy job) = IsJob job
+IsCommand (cmd.Next vac) = IsNumber vac
+
+-- and so has the minute at which it was stated
+pub record IsStated (s : StatedValue) : Type 0 where
+  pub minute : IsInYears s.minute
+  pub cmd : IsCommand s.cmd
+
+-- how a vacancy stands
+abbrev pub state_text : VacState → List ℕ
+state_text state.Vacant = codes "vacant"
+state_text (state.OnOffer p) = codes "offered " ++ decimal p
+state_text (state.Taken p) = codes "taken " ++ decimal p
+state_text (state.Begun p) = codes "begun " ++ decimal p
+state_text state.Annulled = codes "annulled"
+
+-- what the desk answers
+abbrev pub reply_text : Reply → List ℕ
+reply_text reply.Done = codes "done"
+reply_text (reply.Offered person board position) = codes "offered " ++ decimal person ++ 32 ∷ board ++ 32 ∷ decimal position
+reply_text (reply.Unfilled listed) = codes "unfilled " ++ decimal listed
+reply_text reply.OutsideWindow = codes "outside window"
+reply_text reply.Used = codes "used"
+reply_text reply.PersonsFull = codes "persons full"
+reply_text reply.BoardsFull = codes "boards full"
+reply_text reply.UnknownPerson = codes "unknown person"
+reply_text (reply.UnknownBoard board) = codes "unknown board " ++ board
+reply_text reply.ListsFull = codes "lists full"
+reply_text reply.MembersFull = codes "members full"
+reply_text reply.VacanciesFull = codes "vacancies full"
+reply_text (reply.BadChain board) = codes "bad chain " ++ board
+reply_text reply.PlanTooLong = codes "plan too long 21103(a)(2)"
+reply_text (reply.ReportPast report) = codes "report past " ++ minute_text report
+reply_text reply.UnknownVacancy = codes "unknown vacancy"
+reply_text (reply.Closed how) = codes "closed " ++ state_text how
+reply_text (reply.OfferOpen person) = codes "offer open " ++ decimal person
+reply_text (reply.Lapsed report) = codes "lapsed " ++ minute_text report
+
+-- each minute of a reply has its form
+abbrev pub IsReply : Reply → Type 0
+IsReply (reply.ReportPast report) = IsInYears report
+IsReply (reply.Lapsed report) = IsInYears report
+IsReply other = ⊤
+
+-- the line of an entry: `caller|command|moment|reply`
+unfoldable pub entry_line : EntryValue → List ℕ
+entry_line e =
+    decimal e.caller ++ 124 ∷ join_with_byte 44 (stated_fields e.stated) ++ 124 ∷ minute_text e.moment ++ 124 ∷ reply_text e.reply ++ 10 ∷ []

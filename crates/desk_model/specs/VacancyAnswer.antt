@@ -1,0 +1,46 @@
+-- `vacancy`: the answers in order.
+use Rattle.std.specs.Prelude.{ℕ, ◌+◌, Bool, false, not, nat_lt, nat_le, Option, None, Some, is_none, is_some, if◌then◌else◌, List, length, drop}
+use Rattle.std.specs.List.{find}
+use Rattle.desk_base.specs.Window.{end_of}
+use Rattle.desk_model.specs.declared.reply.Reply.{Reply}
+use Rattle.desk_model.specs.declared.reply.Reply.TheVariants as reply
+use Rattle.desk_model.specs.declared.board_sort.BoardSort.{BoardSort}
+use Rattle.desk_model.specs.Entry.{EntryValue}
+use Rattle.desk_model.specs.Job.{JobValue}
+use Rattle.desk_model.specs.Opening.{OpeningValue}
+use Rattle.desk_model.specs.Register.{board_of, job_of, vacancies}
+
+-- the code is an extra board
+abbrev pub is_extra : Option BoardSort → Bool
+is_extra None = false
+is_extra (Some board) = board.extra
+
+-- the first code of a chain that is no board
+abbrev pub unknown_in : List EntryValue → List (List ℕ) → Option (List ℕ)
+unknown_in h codes = find (λ b. is_none (board_of h b)) codes
+
+-- the first board behind the chain's first that is no extra board
+abbrev pub bad_in : List EntryValue → List (List ℕ) → Option (List ℕ)
+bad_in h codes = find (λ b. not (is_extra (board_of h b))) (drop 1 codes)
+
+-- the duty is above 720 minutes (49 USC 21103(a)(2)); the report is before the moment; the plan ends after the
+-- window; else it is done
+abbrev pub plan_answer : OpeningValue → ℕ → JobValue → Reply
+plan_answer o m job =
+    if nat_lt 720 job.duty then reply.PlanTooLong
+    else if nat_lt job.report m then reply.ReportPast job.report
+    else if nat_lt (end_of o.window) (job.report + job.duty + job.limbo) then reply.OutsideWindow
+    else reply.Done
+
+-- a code of the chain is no board; a board behind its first is no extra board; else what its plan gives
+abbrev pub chain_answer : OpeningValue → ℕ → JobValue → Option (List ℕ) → Option (List ℕ) → Reply
+chain_answer o m job (Some b) bad = reply.UnknownBoard b
+chain_answer o m job None (Some b) = reply.BadChain b
+chain_answer o m job None None = plan_answer o m job
+
+-- the vacancy was made before; 20,000 were made; else what its chain gives
+abbrev pub vacancy_answer : OpeningValue → List EntryValue → ℕ → JobValue → Reply
+vacancy_answer o h m job =
+    if is_some (job_of h job.vac) then reply.Used
+    else if nat_le 20_000 (length (vacancies h)) then reply.VacanciesFull
+    else chain_answer o m job (unknown_in h job.chain) (bad_in h job.chain)

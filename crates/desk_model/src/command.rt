@@ -1,0 +1,32 @@
+use crate::Job;
+use desk_base::{Code, PersonNo, VacNo};
+use qualifications::{Craft, Quals};
+
+/// What the desk is told or asked.
+#[derive(Clone, Copy, Debug, PartialEq, Eq)]
+pub enum Cmd {
+    /// A person is taken on, with a craft, a home and qualifications.
+    Enrol {
+        person: PersonNo,
+        craft: Craft,
+        home: Code,
+        quals: Quals,
+    },
+    /// A board is set up at a place: an extra board, or a pool.
+    Board {
+        board: Code,
+        extra: bool,
+        place: Code,
+    },
+    /// A person is put at the bottom of a board.
+    List {
+        person: PersonNo,
+        board: Code,
+    },
+    /// A job is to be filled.
+    Vacancy(Job),
+    /// A vacancy is offered to the first who may have it.
+    Next {
+        vac: VacNo,
+    },
+}

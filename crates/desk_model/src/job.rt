@@ -1,0 +1,137 @@
+ghost use Rattle.std.specs.Prelude.{◌≡◌, ◌≤◌};
+ghost use Rattle.std.specs.Option.{SomeIff};
+ghost use Rattle.desk_base.specs.Minute.{IsInYears};
+ghost use Rattle.desk_model.specs.Job.{IsPlan, job_of};
+
+use crate::Chain;
+use desk_base::{Code, Minute, VacNo};
+use qualifications::{Craft, Quals};
+use std::marker::Model;
+
+/// A job that is to be filled: what it asks for, when and where it begins, and how long it is planned to take.
+#[derive(Clone, Copy, Debug, PartialEq, Eq)]
+pub struct Job {
+    vac: VacNo,
+    craft: Craft,
+    quals: Quals,
+    place: Code,
+    report: Minute,
+    duty: u16,
+    limbo: u16,
+    chain: Chain,
+}
+
+impl Model for Job {
+    ghost use Rattle.desk_model.specs.Job.{JobValue, IsPlan, job_of};
+
+    ghost Value = { JobValue };
+
+    ghost view = { λ j. job_of j.vac j.craft j.quals j.place j.report j.duty j.limbo j.chain };
+
+    ghost invariant = { λ j. IsPlan j.report j.duty j.limbo };
+
+    ghost inverse = { λ v. record {
+      vac = v.vac;
+      craft = v.craft;
+      quals = v.quals;
+      place = v.place;
+      report = v.report;
+      duty = v.duty;
+      limbo = v.limbo;
+      chain = v.chain;
+    } };
+}
+
+impl Job {
+    /// A job of 1 to 9,999 minutes on duty and then at most 999 in limbo, whose report lies in the years 2000 to
+    /// 2099; `None` for anything else.
+    pub fn new(
+        vac: VacNo,
+        craft: Craft,
+        quals: Quals,
+        place: Code,
+        report: Minute,
+        duty: u16,
+        limbo: u16,
+        chain: Chain,
+    ) -> Option<Job>
+        ensures { SomeIff result (IsPlan report duty limbo)
+            (job_of vac craft quals place report duty limbo chain) }
+    {
+        let in_years = report.number() >= 15_778_080 && report.number() < 68_374_080;
+        if in_years && duty >= 1 && duty <= 9_999 && limbo <= 999 {
+            Some(Job {
+                vac,
+                craft,
+                quals,
+                place,
+                report,
+                duty,
+                limbo,
+                chain,
+            })
+        } else {
+            None
+        }
+    }
+
+    /// The vacancy's number.
+    pub fn vac(&self) -> VacNo
+        ensures { result ≡ self.now.vac }
+    {
+        self.vac
+    }
+
+    /// The craft that it asks for.
+    pub fn craft(&self) -> Craft
+        ensures { result ≡ self.now.craft }
+    {
+        self.craft
+    }
+
+    /// The qualifications that it asks for.
+    pub fn quals(&self) -> Quals
+        ensures { result ≡ self.now.quals }
+    {
+        self.quals
+    }
+
+    /// Where it begins.
+    pub fn place(&self) -> Code
+        ensures { result ≡ self.now.place }
+    {
+        self.place
+    }
+
+    /// The minute of the report, of the years 2000 to 2099.
+    pub fn report(&self) -> Minute
+        ensures value { result ≡ self.now.report }
+        ensures range { IsInYears result }
+    {
+        self.report
+    }
+
+    /// The planned minutes on duty, 1 to 9,999.
+    pub fn duty(&self) -> u16
+        ensures value { result ≡ self.now.duty }
+        ensures some { 1 ≤ result }
+        ensures most { result ≤ 9_999 }
+    {
+        self.duty
+    }
+
+    /// The planned minutes in limbo behind these, at most 999.
+    pub fn limbo(&self) -> u16
+        ensures value { result ≡ self.now.limbo }
+        ensures most { result ≤ 999 }
+    {
+        self.limbo
+    }
+
+    /// The boards that it is filled from, in order.
+    pub fn chain(&self) -> Chain
+        ensures { result ≡ self.now.chain }
+    {
+        self.chain
+    }
+}

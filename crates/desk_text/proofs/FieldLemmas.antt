@@ -1,0 +1,21 @@
+-- Lines built piece by piece.
+use Rattle.std.proofs.Common.{◌≡◌, List, ℕ, [], ◌∷◌, ◌++◌, ◌∙◌, sym, decimal, append_assoc, append-nil}
+use Rattle.std.specs.List.{join_with_byte}
+use Rattle.desk_base.specs.Minute.{minute_text}
+use Rattle.desk_model.specs.Entry.{EntryValue}
+use Rattle.desk_model.specs.Texts.{stated_fields, reply_text, entry_line}
+use Rattle.desk_text.specs.Marked.{marked}
+
+-- a line to which these fields were added, each behind a comma
+abbrev pub added : List ℕ → List (List ℕ) → List ℕ
+added line [] = line
+added line (field ∷ fields) = added (line ++ 44 ∷ field) fields
+
+pub added-marked : (line : List ℕ) (fields : List (List ℕ)) → added line fields ≡ line ++ marked fields
+added-marked line [] = sym (append-nil line)
+added-marked line (field ∷ fields) = added-marked (line ++ 44 ∷ field) fields ∙ append_assoc line (44 ∷ field) (marked fields)
+
+pub entry_line-pieces : (e : EntryValue) → entry_line e
+    ≡ ((((((decimal e.caller ++ 124 ∷ []) ++ join_with_byte 44 (stated_fields e.stated)) ++ 124 ∷ []) ++ minute_text e.moment) ++ 124 ∷ []) ++ reply_text e.reply) ++ 10 ∷ []
+unfolding entry_line
+entry_line-pieces e = simp append_assoc

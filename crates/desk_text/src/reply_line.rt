@@ -1,0 +1,92 @@
+//! Replies as texts.
+ghost use Rattle.std.specs.Prelude.{◌≡◌, ◌≤◌, ◌+◌, ◌++◌};
+ghost use Rattle.arrayvec.specs.ArrayVec.{array_vec_len};
+ghost use Rattle.desk_model.specs.Texts.{state_text, reply_text, IsReply};
+
+use crate::line_text::{LineText, put, put_number};
+use desk_model::{Reply, VacState};
+
+/// Adds the text of a reply, 48 bytes at most.
+pub fn put_reply(line: &mut LineText, reply: &Reply)
+    requires form { IsReply reply.now }
+    requires room { array_vec_len line.old + 48 ≤ 512 }
+    ensures text { line.new.items ≡ line.old.items ++ reply_text reply.now }
+    ensures len { array_vec_len line.new ≤ array_vec_len line.old + 48 }
+{
+    match reply {
+        Reply::Done => put(line, b"done"),
+        Reply::OutsideWindow => put(line, b"outside window"),
+        Reply::Used => put(line, b"used"),
+        Reply::PersonsFull => put(line, b"persons full"),
+        Reply::BoardsFull => put(line, b"boards full"),
+        Reply::UnknownPerson => put(line, b"unknown person"),
+        Reply::ListsFull => put(line, b"lists full"),
+        Reply::MembersFull => put(line, b"members full"),
+        Reply::VacanciesFull => put(line, b"vacancies full"),
+        Reply::PlanTooLong => put(line, b"plan too long 21103(a)(2)"),
+        Reply::UnknownVacancy => put(line, b"unknown vacancy"),
+        Reply::Unfilled { listed } => {
+            put(line, b"unfilled ");
+            put_number(line, u32::from(*listed));
+        }
+        Reply::UnknownBoard(board) => {
+            put(line, b"unknown board ");
+            put(line, board.text());
+        }
+        Reply::BadChain(board) => {
+            put(line, b"bad chain ");
+            put(line, board.text());
+        }
+        Reply::OfferOpen(person) => {
+            put(line, b"offer open ");
+            put_number(line, person.number());
+        }
+        Reply::Closed(state) => {
+            put(line, b"closed ");
+            put_state(line, state);
+        }
+        Reply::ReportPast(report) => {
+            put(line, b"report past ");
+            put(line, &report.write());
+        }
+        Reply::Lapsed(report) => {
+            put(line, b"lapsed ");
+            put(line, &report.write());
+        }
+        Reply::Offered {
+            person,
+            board,
+            position,
+        } => {
+            put(line, b"offered ");
+            put_number(line, person.number());
+            put(line, b" ");
+            put(line, board.text());
+            put(line, b" ");
+            put_number(line, u32::from(*position));
+        }
+    }
+}
+
+fn put_state(line: &mut LineText, state: &VacState)
+    requires { array_vec_len line.old + 18 ≤ 512 }
+    ensures text { line.new.items ≡ line.old.items ++ state_text state.now }
+    ensures len { array_vec_len line.new ≤ array_vec_len line.old + 18 }
+{
+    match state {
+        VacState::Vacant => put(line, b"vacant"),
+        VacState::Annulled => put(line, b"annulled"),
+        VacState::OnOffer(person) => {
+            put(line, b"offered ");
+            put_number(line, person.number());
+        }
+        VacState::Taken(person) => {
+            put(line, b"taken ");
+            put_number(line, person.number());
+        }
+        VacState::Begun(person) => {
+            put(line, b"begun ");
+            put_number(line, person.number());
+        }
+    }
+}

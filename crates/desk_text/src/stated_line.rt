@@ -1,0 +1,80 @@
+//! What is stated, as the fields of a record.
+ghost use Rattle.std.specs.Prelude.{◌≡◌, ◌≤◌, ◌+◌, ◌++◌};
+ghost use Rattle.std.specs.List.{join_with_byte};
+ghost use Rattle.arrayvec.specs.ArrayVec.{array_vec_len};
+ghost use Rattle.desk_model.specs.Texts.{command_fields, stated_fields, job_fields};
+ghost use Rattle.desk_text.specs.Marked.{marked};
+
+use crate::line_text::{LineText, put, put_field, put_number_field};
+use desk_model::{Cmd, Job, Stated};
+
+/// Adds the fields of what is stated, joined by commas, 360 bytes at most.
+pub fn put_stated(line: &mut LineText, stated: &Stated)
+    requires { array_vec_len line.old + 360 ≤ 512 }
+    ensures text { line.new.items ≡ line.old.items ++ join_with_byte 44 (stated_fields stated.now) }
+    ensures len { array_vec_len line.new ≤ array_vec_len line.old + 360 }
+{
+    put(line, &stated.minute().write());
+    put_command(line, &stated.cmd());
+}
+
+// Adds each field of the command behind a comma.
+fn put_command(line: &mut LineText, cmd: &Cmd)
+    requires { array_vec_len line.old + 340 ≤ 512 }
+    ensures text { line.new.items ≡ line.old.items ++ marked (command_fields cmd.now) }
+    ensures len { array_vec_len line.new ≤ array_vec_len line.old + 340 }
+{
+    match cmd {
+        Cmd::Enrol {
+            person,
+            craft,
+            home,
+            quals,
+        } => {
+            put_field(line, b"enrol");
+            put_number_field(line, person.number());
+            put_field(line, craft.text());
+            put_field(line, home.text());
+            put_field(line, quals.write().as_slice());
+        }
+        Cmd::Board {
+            board,
+            extra,
+            place,
+        } => {
+            put_field(line, b"board");
+            put_field(line, board.text());
+            put_field(line, if *extra { b"extra" } else { b"pool" });
+            put_field(line, place.text());
+        }
+        Cmd::List { person, board } => {
+            put_field(line, b"list");
+            put_number_field(line, person.number());
+            put_field(line, board.text());
+        }
+        Cmd::Vacancy(job) => {
+            put_field(line, b"vacancy");
+            put_job(line, job);
+        }
+        Cmd::Next { vac } => {
+            put_field(line, b"next");
+            put_number_field(line, vac.number());
+        }
+    }
+}
+
+// Adds each field of the job behind a comma.
+fn put_job(line: &mut LineText, job: &Job)
+    requires { array_vec_len line.old + 330 ≤ 512 }
+    ensures text { line.new.items ≡ line.old.items ++ marked (job_fields job.now) }
+    ensures len { array_vec_len line.new ≤ array_vec_len line.old + 330 }
+{
+    put_number_field(line, job.vac().number());
+    put_field(line, job.craft().text());
+    put_field(line, job.quals().write().as_slice());
+    put_field(line, job.place().text());
+    put_field(line, &job.report().write());
+    put_number_field(line, u32::from(job.duty()));
+    put_number_field(line, u32::from(job.limbo()));
+    put_field(line, job.chain().write().as_slice());
+}

@@ -1,0 +1,121 @@
+//! Lines of entries, as the journal has them.
+ghost use Rattle.std.specs.Prelude.{◌≤◌, IfOk};
+ghost use Rattle.desk_base.specs.Minute.{IsInYears};
+ghost use Rattle.desk_model.specs.Texts.{IsReply};
+
+use crate::write_entry;
+use desk_base::{Code, Minute, PersonNo, VacNo};
+use desk_model::{Chain, Cmd, Entry, Job, Reply, Stated};
+use qualifications::{Craft, Quals};
+use std::test::Fail;
+
+fn minute(text: &[u8]) -> Result<Minute, Fail>
+    ensures { IfOk result IsInYears }
+{
+    Ok(Minute::read(text).ok_or("no minute")?)
+}
+
+fn code(text: &[u8]) -> Result<Code, Fail> {
+    Ok(Code::read(text).ok_or("no code")?)
+}
+
+fn next() -> Result<Cmd, Fail> {
+    Ok(Cmd::Next {
+        vac: VacNo::new(12).ok_or("no vacancy")?,
+    })
+}
+
+// Whether the entry of this command and reply, stated at 00:01 and taken at 00:02, has this line.
+fn line_is(caller: u8, cmd: Cmd, reply: Reply, line: &[u8]) -> Result<bool, Fail>
+    requires caller { caller ≤ 63 }
+    requires reply { IsReply reply }
+{
+    let stated = Stated::new(minute(b"2024-03-04 00:01")?, cmd).ok_or("not stated")?;
+    let moment = minute(b"2024-03-04 00:02")?;
+    let entry = Entry::new(caller, stated, moment, reply);
+    Ok(write_entry(&entry).as_slice() == line)
+}
+
+#[test]
+fn lines_of_commands(rt: HostRuntime) -> Result<(), Fail> {
+    let commands: [(Cmd, &[u8]); 5] = [
+        (
+            Cmd::Enrol {
+                person: PersonNo::new(101).ok_or("no person")?,
+                craft: Craft::B,
+                home: code(b"HOM")?,
+                quals: Quals::read(b"-").ok_or("no set")?,
+            },
+            b"63|2024-03-04 00:01,enrol,101,B,HOM,-|2024-03-04 00:02|done\n",
+        ),
+        (
+            Cmd::Board {
+                board: code(b"P1")?,
+                extra: false,
+                place: code(b"HOM")?,
+            },
+            b"63|2024-03-04 00:01,board,P1,pool,HOM|2024-03-04 00:02|done\n",
+        ),
+        (
+            Cmd::Board {
+                board: code(b"X1")?,
+                extra: true,
+                place: code(b"AWAY1")?,
+            },
+            b"63|2024-03-04 00:01,board,X1,extra,AWAY1|2024-03-04 00:02|done\n",
+        ),
+        (
+            Cmd::List {
+                person: PersonNo::new(9_999_999).ok_or("no person")?,
+                board: code(b"P1")?,
+            },
+            b"63|2024-03-04 00:01,list,9999999,P1|2024-03-04 00:02|done\n",
+        ),
+        (
+            next()?,
+            b"63|2024-03-04 00:01,next,12|2024-03-04 00:02|done\n",
+        ),
+    ];
+    for (cmd, line) in commands {
+        assert!(rt; line_is(63, cmd, Reply::Done, line)?);
+    }
+    Ok(())
+}
+
+#[test]
+fn the_line_of_a_job(rt: HostRuntime) -> Result<(), Fail> {
+    let job = Job::new(
+        VacNo::new(12).ok_or("no vacancy")?,
+        Craft::E,
+        Quals::read(b"3+40").ok_or("no set")?,
+        code(b"HOM")?,
+        minute(b"2024-03-04 08:00")?,
+        600,
+        0,
+        Chain::read(b"P1+X1").ok_or("no chain")?,
+    );
+    let line =
+        b"0|2024-03-04 00:01,vacancy,12,E,3+40,HOM,2024-03-04 08:00,600,0,P1+X1|2024-03-04 00:02|done\n";
+    assert!(rt; line_is(0, Cmd::Vacancy(job.ok_or("no job")?), Reply::Done, line)?);
+    Ok(())
+}
+
+#[test]
+fn lines_of_replies(rt: HostRuntime) -> Result<(), Fail> {
+    let offered = Reply::Offered {
+        person: PersonNo::new(101).ok_or("no person")?,
+        board: code(b"P1")?,
+        position: 500,
+    };
+    let line = b"0|2024-03-04 00:01,next,12|2024-03-04 00:02|offered 101 P1 500\n";
+    assert!(rt; line_is(0, next()?, offered, line)?);
+    let unknown = Reply::UnknownBoard(code(b"P2")?);
+    let line = b"0|2024-03-04 00:01,next,12|2024-03-04 00:02|unknown board P2\n";
+    assert!(rt; line_is(0, next()?, unknown, line)?);
+    let lapsed = Reply::Lapsed(minute(b"2024-03-04 08:00")?);
+    let line = b"0|2024-03-04 00:01,next,12|2024-03-04 00:02|lapsed 2024-03-04 08:00\n";
+    assert!(rt; line_is(0, next()?, lapsed, line)?);
+    let line = b"0|2024-03-04 00:01,next,12|2024-03-04 00:02|plan too long 21103(a)(2)\n";
+    assert!(rt; line_is(0, next()?, Reply::PlanTooLong, line)?);
+    Ok(())
+}

@@ -1,0 +1,176 @@
+ghost use Rattle.std.specs.Prelude.{◌≡◌, length};
+ghost use Rattle.desk_model.specs.History.{said};
+ghost use Rattle.desk_model.specs.Register.{enrols, enrols_any, sets_up, sets_up_any, makes, makes_any};
+ghost use Rattle.desk_model.specs.Register.{member_of, board_of, job_of, persons, boards, vacancies};
+
+use crate::history::{accepted, is_same};
+use desk_base::{Code, PersonNo, VacNo};
+use desk_model::{BoardSort, Cmd, Entry, Job, Member};
+
+// What the entry enrols this person as.
+fn enrols(entry: &Entry, person: PersonNo) -> Option<Member>
+    ensures { result ≡ said (enrols person) entry.now }
+{
+    let cmd = accepted(entry)?;
+    let Cmd::Enrol {
+        person: enrolled,
+        craft,
+        home,
+        quals,
+    } = &cmd
+    else {
+        return None;
+    };
+    if enrolled.number() != person.number() {
+        return None;
+    }
+    Some(Member {
+        craft: *craft,
+        home: *home,
+        quals: *quals,
+    })
+}
+
+// Whom the entry enrols.
+fn enrols_any(entry: &Entry) -> Option<PersonNo>
+    ensures { result ≡ said enrols_any entry.now }
+{
+    let cmd = accepted(entry)?;
+    let Cmd::Enrol { person, .. } = &cmd else {
+        return None;
+    };
+    Some(*person)
+}
+
+// What the entry sets this board up as.
+fn sets_up(entry: &Entry, board: &Code) -> Option<BoardSort>
+    ensures { result ≡ said (sets_up board.now) entry.now }
+{
+    let cmd = accepted(entry)?;
+    let Cmd::Board {
+        board: code,
+        extra,
+        place,
+    } = &cmd
+    else {
+        return None;
+    };
+    if !is_same(code, board) {
+        return None;
+    }
+    Some(BoardSort {
+        extra: *extra,
+        place: *place,
+    })
+}
+
+// The board that the entry sets up.
+pub(crate) fn sets_up_any(entry: &Entry) -> Option<Code>
+    ensures { result ≡ said sets_up_any entry.now }
+{
+    let cmd = accepted(entry)?;
+    let Cmd::Board { board, .. } = &cmd else {
+        return None;
+    };
+    Some(*board)
+}
+
+// The job, where the entry makes this vacancy.
+fn makes(entry: &Entry, vac: VacNo) -> Option<Job>
+    ensures { result ≡ said (makes vac) entry.now }
+{
+    let cmd = accepted(entry)?;
+    let Cmd::Vacancy(job) = &cmd else {
+        return None;
+    };
+    if job.vac().number() != vac.number() {
+        return None;
+    }
+    Some(*job)
+}
+
+// The vacancy that the entry makes.
+pub(crate) fn makes_any(entry: &Entry) -> Option<VacNo>
+    ensures { result ≡ said makes_any entry.now }
+{
+    let cmd = accepted(entry)?;
+    let Cmd::Vacancy(job) = &cmd else {
+        return None;
+    };
+    Some(job.vac())
+}
+
+/// The person as enrolled; `None` where nobody has the number.
+pub(crate) fn member_of(entries: &[Entry], person: PersonNo) -> Option<Member>
+    ensures { result ≡ member_of entries.now person }
+{
+    for entry in entries {
+        if let Some(member) = enrols(entry, person) {
+            return Some(member);
+        }
+    }
+    None
+}
+
+/// The board as set up; `None` where the code is no board.
+pub(crate) fn board_of(entries: &[Entry], board: &Code) -> Option<BoardSort>
+    ensures { result ≡ board_of entries.now board.now }
+{
+    for entry in entries {
+        if let Some(sort) = sets_up(entry, board) {
+            return Some(sort);
+        }
+    }
+    None
+}
+
+/// The vacancy's job; `None` where it was never made.
+pub(crate) fn job_of(entries: &[Entry], vac: VacNo) -> Option<Job>
+    ensures { result ≡ job_of entries.now vac }
+{
+    for entry in entries {
+        if let Some(job) = makes(entry, vac) {
+            return Some(job);
+        }
+    }
+    None
+}
+
+/// How many persons are enrolled.
+pub(crate) fn count_persons(entries: &[Entry]) -> usize
+    ensures { result ≡ length (persons entries.now) }
+{
+    let mut count = 0;
+    for entry in entries {
+        if enrols_any(entry).is_some() {
+            count += 1;
+        }
+    }
+    count
+}
+
+/// How many boards there are.
+pub(crate) fn count_boards(entries: &[Entry]) -> usize
+    ensures { result ≡ length (boards entries.now) }
+{
+    let mut count = 0;
+    for entry in entries {
+        if sets_up_any(entry).is_some() {
+            count += 1;
+        }
+    }
+    count
+}
+
+/// How many vacancies were made.
+pub(crate) fn count_vacancies(entries: &[Entry]) -> usize
+    ensures { result ≡ length (vacancies entries.now) }
+{
+    let mut count = 0;
+    for entry in entries {
+        if makes_any(entry).is_some() {
+            count += 1;
+        }
+    }
+    count
+}
