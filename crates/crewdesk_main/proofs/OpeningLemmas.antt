@@ -1,16 +1,8 @@
--- The opening's line, piece by piece, and its record, field by field.
-use Rattle.std.proofs.Common.{◌≡◌, ℕ, List, [], ◌∷◌, ◌++◌, length, get_or, map, append_assoc, codes, decimal, arith, refl, ap, Bor, Option, None, Some}
+-- The opening's record, field by field.
+use Rattle.std.proofs.Common.{◌≡◌, ℕ, List, [], ◌∷◌, length, get_or, map, codes, arith, refl, ap, Bor, Option, None, Some}
 use Rattle.std.specs.Option.{SomeIff}
-use Rattle.desk_base.specs.Month.{month_text}
-use Rattle.desk_base.specs.Minute.{minute_text}
 use Rattle.desk_model.specs.Opening.{OpeningValue, opening_fields}
-use Rattle.desk_model.specs.Journal.{opening_line}
 use Rattle.crewdesk_main.specs.DayFile.{SpellsOpening}
-
-pub opening_line-pieces : (o : OpeningValue) → opening_line o
-    ≡ ((((((minute_text o.start ++ codes ",open,") ++ month_text o.window.first) ++ 44 ∷ []) ++ decimal o.window.months) ++ 44 ∷ []) ++ decimal o.answer) ++ 10 ∷ []
-unfolding opening_line
-opening_line-pieces o = simp append_assoc
 
 -- five fields of which the second is the word and the others spell the opening are the opening's
 pub opening_fields-spelled : (fields : List (Bor (List ℕ))) (d : Bor (List ℕ)) (o : OpeningValue) → length fields ≡ 5 → (get_or fields 1 d).now ≡ codes "open"

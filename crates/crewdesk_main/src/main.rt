@@ -7,7 +7,6 @@ ghost use Rattle.crewdesk_main.specs.Words.{is_form, is_replay};
 ghost use Rattle.crewdesk_main.specs.Replay.{Replays, day_file_limit, writes};
 
 mod day_file;
-mod line_text;
 mod opening_record;
 mod records;
 mod replay;

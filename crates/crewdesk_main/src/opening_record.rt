@@ -1,12 +1,10 @@
-//! The opening's record, read and written.
+//! The opening's record.
 ghost use Rattle.std.specs.Prelude.{◌≡◌, ◌<◌, ◌^◌, ℕ, decimal, IfSome};
 ghost use Rattle.desk_base.specs.Window.{WindowValue};
 ghost use Rattle.desk_model.specs.Opening.{OpeningValue, IsOpening, opening_fields};
-ghost use Rattle.desk_model.specs.Journal.{opening_line};
 ghost use Rattle.crewdesk_main.specs.Records.{fields_of};
 ghost use Rattle.crewdesk_main.specs.DayFile.{IsOpeningRecord, SpellsOpening, SpellsWindow};
 
-use crate::line_text::{LineText, put, put_number};
 use crate::records::fields_of;
 use desk_base::{Minute, Month, Window, read_decimal};
 use desk_model::Opening;
@@ -56,21 +54,4 @@ fn small_number(text: &[u8]) -> Option<u8>
         → result ≡ Some number }
 {
     u8::try_from(read_decimal(text)?).ok()
-}
-
-/// The opening's line of the journal.
-pub fn write_opening(opening: &Opening) -> LineText
-    ensures { result.items ≡ opening_line opening.now }
-{
-    let window = opening.window();
-    let mut line = LineText::new();
-    put(&mut line, &opening.start().write());
-    put(&mut line, b",open,");
-    put(&mut line, &window.first().write());
-    put(&mut line, b",");
-    put_number(&mut line, window.months());
-    put(&mut line, b",");
-    put_number(&mut line, opening.answer());
-    put(&mut line, b"\n");
-    line
 }

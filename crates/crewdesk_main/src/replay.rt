@@ -8,10 +8,10 @@ ghost use Rattle.crewdesk_main.specs.Words.{is_replay};
 ghost use Rattle.crewdesk_main.specs.Replay.{Replays, IsReplayable, WasRead, day_file_limit, writes};
 
 use crate::day_file::{DayFault, read_day};
-use crate::opening_record::write_opening;
 use crate::words::is_alone;
 use crate::write_text::write_text;
 use desk_io::{Sink, Source, Status, take_all};
+use desk_text::write_opening;
 use std::alloc::Global;
 
 /// How many bytes a day file may have.

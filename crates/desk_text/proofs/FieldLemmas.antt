@@ -1,7 +1,10 @@
 -- Lines built piece by piece.
-use Rattle.std.proofs.Common.{◌≡◌, List, ℕ, [], ◌∷◌, ◌++◌, ◌∙◌, sym, decimal, append_assoc, append-nil}
+use Rattle.std.proofs.Common.{◌≡◌, List, ℕ, [], ◌∷◌, ◌++◌, ◌∙◌, sym, codes, decimal, append_assoc, append-nil}
 use Rattle.std.specs.List.{join_with_byte}
 use Rattle.desk_base.specs.Minute.{minute_text}
+use Rattle.desk_base.specs.Month.{month_text}
+use Rattle.desk_model.specs.Opening.{OpeningValue}
+use Rattle.desk_model.specs.Journal.{opening_line}
 use Rattle.desk_model.specs.Entry.{EntryValue}
 use Rattle.desk_model.specs.Texts.{stated_fields, reply_text, entry_line}
 use Rattle.desk_text.specs.Marked.{marked}
@@ -19,3 +22,8 @@ pub entry_line-pieces : (e : EntryValue) → entry_line e
     ≡ ((((((decimal e.caller ++ 124 ∷ []) ++ join_with_byte 44 (stated_fields e.stated)) ++ 124 ∷ []) ++ minute_text e.moment) ++ 124 ∷ []) ++ reply_text e.reply) ++ 10 ∷ []
 unfolding entry_line
 entry_line-pieces e = simp append_assoc
+
+pub opening_line-pieces : (o : OpeningValue) → opening_line o
+    ≡ ((((((minute_text o.start ++ codes ",open,") ++ month_text o.window.first) ++ 44 ∷ []) ++ decimal o.window.months) ++ 44 ∷ []) ++ decimal o.answer) ++ 10 ∷ []
+unfolding opening_line
+opening_line-pieces o = simp append_assoc
