@@ -15,7 +15,7 @@ use Rattle.desk_model.specs.Opening.{OpeningValue}
 use Rattle.desk_model.specs.Statement.{StatedValue}
 use Rattle.desk_model.specs.Entry.{EntryValue}
 use Rattle.desk_model.specs.History.{is_done, said}
-use Rattle.desk_model.specs.Register.{member_of, board_of}
+use Rattle.desk_model.specs.Register.{person_of, board_of}
 use Rattle.desk_model.specs.Boards.{sends, sent, is_sent, is_on, boards_of, placed, order}
 use Rattle.desk_model.specs.ListAnswer.{list_answer}
 use Rattle.desk_model.specs.Legal.{is_within, moment, answer_to, next, IsLegal}
@@ -66,7 +66,7 @@ length-order-snoc b (x ∷ h) e = go (said (sends b) x) (length-order-snoc b h e
 
 -- where `list` is done there was room
 list_room : (h : List EntryValue) (p : ℕ) (b : List ℕ) → is_done (list_answer h p b) ≡ true → length (order b h) < 500
-list_room h p b done = go (is_none (member_of h p)) (is_none (board_of h b)) (is_on h p b) (nat_le 4 (length (boards_of h p))) (nat_le 500 (length (order b h))) refl done
+list_room h p b done = go (is_none (person_of h p)) (is_none (board_of h b)) (is_on h p b) (nat_le 4 (length (boards_of h p))) (nat_le 500 (length (order b h))) refl done
   where
     go : (unknown none on many full : Bool) → nat_le 500 (length (order b h)) ≡ full
         → is_done (cond unknown reply.UnknownPerson (cond none (reply.UnknownBoard b) (cond on reply.Used (cond many reply.ListsFull (cond full reply.MembersFull reply.Done))))) ≡ true

@@ -1,12 +1,18 @@
 -- The text of a journal.
 use Rattle.std.specs.Prelude.{ℕ, List, [], ◌∷◌, ◌++◌}
-use Rattle.std.specs.List.{join_with_byte, concat}
+use Rattle.std.specs.List.{join_with_byte, flat_map}
 use Rattle.desk_model.specs.Opening.{OpeningValue, opening_fields}
+use Rattle.desk_model.specs.Entry.{EntryValue}
+use Rattle.desk_model.specs.Texts.{entry_line}
 
 -- line 1: the opening's record, its fields joined by commas
 unfoldable pub opening_line : OpeningValue → List ℕ
 opening_line o = join_with_byte 44 (opening_fields o) ++ 10 ∷ []
 
--- the journal of a desk that was opened so, and whose entries have these lines
-abbrev pub journal : OpeningValue → List (List ℕ) → List ℕ
-journal o entry_lines = opening_line o ++ concat entry_lines
+-- the lines of a history's entries, one after another
+abbrev pub entry_lines : List EntryValue → List ℕ
+entry_lines h = flat_map entry_line h
+
+-- the journal of a desk that was opened so and has this history
+abbrev pub journal : OpeningValue → List EntryValue → List ℕ
+journal o h = opening_line o ++ entry_lines h

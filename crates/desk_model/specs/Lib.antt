@@ -3,8 +3,8 @@ pub mod Chain
 pub mod ChainInside
 pub mod Job
 pub mod Statement
+pub mod Fits
 pub mod Entry
-pub mod Journal
 pub mod History
 pub mod Register
 pub mod Boards
@@ -17,3 +17,4 @@ pub mod VacancyAnswer
 pub mod NextAnswer
 pub mod Legal
 pub mod Texts
+pub mod Journal

@@ -7,7 +7,7 @@ use Rattle.desk_model.specs.declared.vac_state.VacState.TheVariants as state
 use Rattle.desk_model.specs.declared.link.Link.{Link}
 use Rattle.desk_model.specs.Entry.{EntryValue}
 use Rattle.desk_model.specs.Job.{JobValue}
-use Rattle.desk_model.specs.Register.{job_of}
+use Rattle.desk_model.specs.Register.{vacancy_of}
 use Rattle.desk_model.specs.Boards.{chain}
 use Rattle.desk_model.specs.Offers.{state_of}
 use Rattle.desk_model.specs.Bars.{first_free}
@@ -18,8 +18,8 @@ choice_answer listed None = reply.Unfilled listed
 choice_answer listed (Some link) = reply.Offered link.person link.board link.position
 
 -- the moment is after the report; else the first of the chain whom nothing bars is offered it
-abbrev pub open_answer : List EntryValue → ℕ → JobValue → Reply
-open_answer h m job =
+abbrev pub vacant_answer : List EntryValue → ℕ → JobValue → Reply
+vacant_answer h m job =
     if nat_lt job.report m then reply.Lapsed job.report
     else choice_answer (length (chain h job.chain)) (first_free h job)
 
@@ -29,7 +29,7 @@ state_answer h m job (state.Taken p) = reply.Closed (state.Taken p)
 state_answer h m job (state.Begun p) = reply.Closed (state.Begun p)
 state_answer h m job state.Annulled = reply.Closed state.Annulled
 state_answer h m job (state.OnOffer p) = reply.OfferOpen p
-state_answer h m job state.Vacant = open_answer h m job
+state_answer h m job state.Vacant = vacant_answer h m job
 
 -- the vacancy was never made; else what its state gives
 abbrev pub known_answer : List EntryValue → ℕ → Option JobValue → Reply
@@ -38,4 +38,4 @@ known_answer h m (Some job) = state_answer h m job (state_of h job.vac)
 
 -- the answer by the vacancy's number
 abbrev pub next_answer : List EntryValue → ℕ → ℕ → Reply
-next_answer h m v = known_answer h m (job_of h v)
+next_answer h m v = known_answer h m (vacancy_of h v)

@@ -3,14 +3,14 @@ use Rattle.std.specs.Prelude.{ℕ, nat_eq, Option, None, Some, if◌then◌else�
 use Rattle.std.specs.Str.{bytes_eq}
 use Rattle.desk_model.specs.declared.command.Cmd.{Cmd}
 use Rattle.desk_model.specs.declared.command.Cmd.TheVariants as cmd
-use Rattle.desk_model.specs.declared.member.Member.{Member}
-use Rattle.desk_model.specs.declared.board_sort.BoardSort.{BoardSort}
+use Rattle.desk_model.specs.declared.person.Person.{Person}
+use Rattle.desk_model.specs.declared.board_setup.BoardSetup.{BoardSetup}
 use Rattle.desk_model.specs.Job.{JobValue}
 use Rattle.desk_model.specs.Entry.{EntryValue}
 use Rattle.desk_model.specs.History.{first_said, all_said}
 
 -- a command that enrols this person
-abbrev pub enrols : ℕ → Cmd → Option Member
+abbrev pub enrols : ℕ → Cmd → Option Person
 enrols p (cmd.Enrol person craft home quals) = if nat_eq person p then Some (record { craft = craft; home = home; quals = quals }) else None
 enrols p other = None
 
@@ -20,7 +20,7 @@ enrols_any (cmd.Enrol person craft home quals) = Some person
 enrols_any other = None
 
 -- a command that sets up this board
-abbrev pub sets_up : List ℕ → Cmd → Option BoardSort
+abbrev pub sets_up : List ℕ → Cmd → Option BoardSetup
 sets_up b (cmd.Board board extra place) = if bytes_eq board b then Some (record { extra = extra; place = place }) else None
 sets_up b other = None
 
@@ -40,14 +40,14 @@ makes_any (cmd.Vacancy job) = Some job.vac
 makes_any other = None
 
 -- the person as enrolled, the board as set up, and the vacancy as made; None where there is none such
-abbrev pub member_of : List EntryValue → ℕ → Option Member
-member_of h p = first_said (enrols p) h
+abbrev pub person_of : List EntryValue → ℕ → Option Person
+person_of h p = first_said (enrols p) h
 
-abbrev pub board_of : List EntryValue → List ℕ → Option BoardSort
+abbrev pub board_of : List EntryValue → List ℕ → Option BoardSetup
 board_of h b = first_said (sets_up b) h
 
-abbrev pub job_of : List EntryValue → ℕ → Option JobValue
-job_of h v = first_said (makes v) h
+abbrev pub vacancy_of : List EntryValue → ℕ → Option JobValue
+vacancy_of h v = first_said (makes v) h
 
 -- all persons, all boards and all vacancies, in the order in which they came
 abbrev pub persons : List EntryValue → List ℕ

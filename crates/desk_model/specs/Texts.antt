@@ -1,9 +1,7 @@
 -- The texts of what is stated, of replies and of the journal's entries.
-use Rattle.std.specs.Prelude.{ℕ, ◌<◌, ◌^◌, Bool, true, false, List, [], ◌∷◌, ◌++◌, codes, decimal, ⊤}
+use Rattle.std.specs.Prelude.{ℕ, Bool, true, false, nat_lt, if◌then◌else◌, List, [], ◌∷◌, ◌++◌, codes, decimal}
 use Rattle.std.specs.List.{join_with_byte}
-use Rattle.desk_base.specs.Number.{IsNumber}
-use Rattle.desk_base.specs.Code.{IsCode}
-use Rattle.desk_base.specs.Minute.{IsInYears, minute_text}
+use Rattle.desk_base.specs.Minute.{minute_text}
 use Rattle.qualifications.specs.Craft.{craft_text}
 use Rattle.qualifications.specs.Quals.{quals_text}
 use Rattle.desk_model.specs.declared.command.Cmd.{Cmd}
@@ -12,8 +10,8 @@ use Rattle.desk_model.specs.declared.reply.Reply.{Reply}
 use Rattle.desk_model.specs.declared.reply.Reply.TheVariants as reply
 use Rattle.desk_model.specs.declared.vac_state.VacState.{VacState}
 use Rattle.desk_model.specs.declared.vac_state.VacState.TheVariants as state
-use Rattle.desk_model.specs.Chain.{IsChain, chain_text}
-use Rattle.desk_model.specs.Job.{JobValue, IsPlan}
+use Rattle.desk_model.specs.Chain.{chain_text}
+use Rattle.desk_model.specs.Job.{JobValue}
 use Rattle.desk_model.specs.Statement.{StatedValue}
 use Rattle.desk_model.specs.Entry.{EntryValue}
 
@@ -47,27 +45,6 @@ command_fields (cmd.Next vac) = codes "next" ∷ decimal vac ∷ []
 abbrev pub stated_fields : StatedValue → List (List ℕ)
 stated_fields s = minute_text s.minute ∷ command_fields s.cmd
 
--- each value of a job has its form
-pub record IsJob (job : JobValue) : Type 0 where
-  pub vac : IsNumber job.vac
-  pub quals : job.quals < 2 ^ 64
-  pub place : IsCode job.place
-  pub plan : IsPlan job.report job.duty job.limbo
-  pub chain : IsChain job.chain
-
--- each value of a command has its form
-abbrev pub IsCommand : Cmd → Type 0
-IsCommand (cmd.Enrol person craft home quals) = IsNumber person × IsCode home × (quals < 2 ^ 64)
-IsCommand (cmd.Board board extra place) = IsCode board × IsCode place
-IsCommand (cmd.List person board) = IsNumber person × IsCode board
-IsCommand (cmd.Vacancy job) = IsJob job
-IsCommand (cmd.Next vac) = IsNumber vac
-
--- and so has the minute at which it was stated
-pub record IsStated (s : StatedValue) : Type 0 where
-  pub minute : IsInYears s.minute
-  pub cmd : IsCommand s.cmd
-
 -- how a vacancy stands
 abbrev pub state_text : VacState → List ℕ
 state_text state.Vacant = codes "vacant"
@@ -75,6 +52,10 @@ state_text (state.OnOffer p) = codes "offered " ++ decimal p
 state_text (state.Taken p) = codes "taken " ++ decimal p
 state_text (state.Begun p) = codes "begun " ++ decimal p
 state_text state.Annulled = codes "annulled"
+
+-- a minute that may lie behind the year 2099: then its number
+abbrev pub late_text : ℕ → List ℕ
+late_text minute = if nat_lt minute 68_374_080 then minute_text minute else decimal minute
 
 -- what the desk answers
 abbrev pub reply_text : Reply → List ℕ
@@ -96,13 +77,7 @@ reply_text (reply.ReportPast report) = codes "report past " ++ minute_text repor
 reply_text reply.UnknownVacancy = codes "unknown vacancy"
 reply_text (reply.Closed how) = codes "closed " ++ state_text how
 reply_text (reply.OfferOpen person) = codes "offer open " ++ decimal person
-reply_text (reply.Lapsed report) = codes "lapsed " ++ minute_text report
-
--- each minute of a reply has its form
-abbrev pub IsReply : Reply → Type 0
-IsReply (reply.ReportPast report) = IsInYears report
-IsReply (reply.Lapsed report) = IsInYears report
-IsReply other = ⊤
+reply_text (reply.Lapsed report) = codes "lapsed " ++ late_text report
 
 -- the line of an entry: `caller|command|moment|reply`
 unfoldable pub entry_line : EntryValue → List ℕ

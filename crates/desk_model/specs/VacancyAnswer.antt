@@ -4,14 +4,14 @@ use Rattle.std.specs.List.{find}
 use Rattle.desk_base.specs.Window.{end_of}
 use Rattle.desk_model.specs.declared.reply.Reply.{Reply}
 use Rattle.desk_model.specs.declared.reply.Reply.TheVariants as reply
-use Rattle.desk_model.specs.declared.board_sort.BoardSort.{BoardSort}
+use Rattle.desk_model.specs.declared.board_setup.BoardSetup.{BoardSetup}
 use Rattle.desk_model.specs.Entry.{EntryValue}
 use Rattle.desk_model.specs.Job.{JobValue}
 use Rattle.desk_model.specs.Opening.{OpeningValue}
-use Rattle.desk_model.specs.Register.{board_of, job_of, vacancies}
+use Rattle.desk_model.specs.Register.{board_of, vacancy_of, vacancies}
 
 -- the code is an extra board
-abbrev pub is_extra : Option BoardSort → Bool
+abbrev pub is_extra : Option BoardSetup → Bool
 is_extra None = false
 is_extra (Some board) = board.extra
 
@@ -41,6 +41,6 @@ chain_answer o m job None None = plan_answer o m job
 -- the vacancy was made before; 20,000 were made; else what its chain gives
 abbrev pub vacancy_answer : OpeningValue → List EntryValue → ℕ → JobValue → Reply
 vacancy_answer o h m job =
-    if is_some (job_of h job.vac) then reply.Used
+    if is_some (vacancy_of h job.vac) then reply.Used
     else if nat_le 20_000 (length (vacancies h)) then reply.VacanciesFull
     else chain_answer o m job (unknown_in h job.chain) (bad_in h job.chain)

@@ -34,6 +34,9 @@ pub trait DeskCore: Drop {
     fn left(&self) -> u64
         ensures { result ≡ room self.now };
 
+    // There is a history that it stands for.
+    ghost some: { (core : Self) → ∥ ((h : List EntryValue) × stands core h) ∥₁ };
+
     // What it stands for is legal.
     ghost legal: { (core : Self) (h : List EntryValue) → stands core h → IsLegal (opening core) h };
 }

@@ -1,6 +1,7 @@
 ghost use Rattle.std.specs.Prelude.{◌≡◌, ◌≤◌};
 ghost use Rattle.desk_base.specs.Minute.{IsInYears};
 ghost use Rattle.desk_model.specs.Entry.{entry_of, IsEntry};
+ghost use Rattle.desk_model.specs.Fits.{HasItsMinute};
 
 use crate::{Cmd, Reply, Stated};
 use desk_base::Minute;
@@ -22,7 +23,7 @@ impl Model for Entry {
 
     ghost view = { λ e. entry_of e.caller e.stated e.moment e.reply };
 
-    ghost invariant = { λ e. IsEntry e.caller e.moment };
+    ghost invariant = { λ e. IsEntry e.caller e.moment e.reply };
 
     ghost inverse = { λ v. record {
       caller = v.caller;
@@ -33,9 +34,9 @@ impl Model for Entry {
 }
 
 impl Entry {
-    /// An entry of caller 0 to 63, at a moment of the years 2000 to 2099.
+    /// An entry of caller 0 to 63, at a moment of the years 2000 to 2099, with a reply whose minute can be written.
     pub fn new(caller: u8, stated: Stated, moment: Minute, reply: Reply) -> Entry
-        requires { IsEntry caller moment }
+        requires { IsEntry caller moment reply }
         ensures { result ≡ entry_of caller stated moment reply }
     {
         Entry {
@@ -71,7 +72,8 @@ impl Entry {
 
     /// What the desk answered.
     pub fn reply(&self) -> Reply
-        ensures { result ≡ self.now.reply }
+        ensures value { result ≡ self.now.reply }
+        ensures range { HasItsMinute result }
     {
         self.reply
     }

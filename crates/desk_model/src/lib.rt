@@ -1,7 +1,7 @@
 //! What the desk is asked and what it answers, as values, and the rules of its answers as definitions.
 #![tactic(auto)]
 
-mod board_sort;
+mod board_setup;
 mod chain;
 mod command;
 mod desk_core;
@@ -9,14 +9,14 @@ mod entry;
 mod job;
 mod legal;
 mod link;
-mod member;
+mod person;
 mod offer;
 mod opening;
 mod reply;
 mod stated;
 mod vac_state;
 
-pub use board_sort::BoardSort;
+pub use board_setup::BoardSetup;
 pub use chain::{Chain, ChainText};
 pub use command::Cmd;
 pub use desk_core::DeskCore;
@@ -24,7 +24,7 @@ pub use entry::Entry;
 pub use job::Job;
 pub use legal::one_history_is_legal;
 pub use link::Link;
-pub use member::Member;
+pub use person::Person;
 pub use offer::Offer;
 pub use opening::Opening;
 pub use reply::Reply;

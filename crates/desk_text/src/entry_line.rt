@@ -1,16 +1,14 @@
 //! Entries as lines of the journal.
 ghost use Rattle.std.specs.Prelude.{◌≡◌};
-ghost use Rattle.desk_model.specs.Texts.{IsReply, entry_line};
+ghost use Rattle.desk_model.specs.Texts.{entry_line};
 
 use crate::line_text::{LineText, put, put_number};
 use crate::reply_line::put_reply;
 use crate::stated_line::put_stated;
 use desk_model::Entry;
 
-/// The entry's line of the journal, `caller|command|moment|reply`, with its line feed. The minutes of the reply lie
-/// in the years 2000 to 2099, as in each entry of a legal history.
+/// The entry's line of the journal, `caller|command|moment|reply`, with its line feed.
 pub fn write_entry(entry: &Entry) -> LineText
-    requires { IsReply entry.now.reply }
     ensures { result.items ≡ entry_line entry.now }
 {
     let mut line = LineText::new();

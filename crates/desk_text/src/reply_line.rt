@@ -1,14 +1,16 @@
 //! Replies as texts.
 ghost use Rattle.std.specs.Prelude.{◌≡◌, ◌≤◌, ◌+◌, ◌++◌};
 ghost use Rattle.arrayvec.specs.ArrayVec.{array_vec_len};
-ghost use Rattle.desk_model.specs.Texts.{state_text, reply_text, IsReply};
+ghost use Rattle.desk_model.specs.Texts.{state_text, late_text, reply_text};
+ghost use Rattle.desk_model.specs.Fits.{HasItsMinute};
 
 use crate::line_text::{LineText, put, put_number};
+use desk_base::Minute;
 use desk_model::{Reply, VacState};
 
 /// Adds the text of a reply, 48 bytes at most.
 pub fn put_reply(line: &mut LineText, reply: &Reply)
-    requires form { IsReply reply.now }
+    requires form { HasItsMinute reply.now }
     requires room { array_vec_len line.old + 48 ≤ 512 }
     ensures text { line.new.items ≡ line.old.items ++ reply_text reply.now }
     ensures len { array_vec_len line.new ≤ array_vec_len line.old + 48 }
@@ -51,7 +53,7 @@ pub fn put_reply(line: &mut LineText, reply: &Reply)
         }
         Reply::Lapsed(report) => {
             put(line, b"lapsed ");
-            put(line, &report.write());
+            put_late(line, *report);
         }
         Reply::Offered {
             person,
@@ -65,6 +67,20 @@ pub fn put_reply(line: &mut LineText, reply: &Reply)
             put(line, b" ");
             put_number(line, u32::from(*position));
         }
+    }
+}
+
+// A minute from the year 2000 on; one behind the year 2099 by its number.
+fn put_late(line: &mut LineText, minute: Minute)
+    requires from_2000 { 15_778_080 ≤ minute }
+    requires room { array_vec_len line.old + 16 ≤ 512 }
+    ensures text { line.new.items ≡ line.old.items ++ late_text minute }
+    ensures len { array_vec_len line.new ≤ array_vec_len line.old + 16 }
+{
+    if minute.number() < 68_374_080 {
+        put(line, &minute.write());
+    } else {
+        put_number(line, minute.number() as u32);
     }
 }
 

@@ -1,7 +1,7 @@
 //! Lines of entries, as the journal has them.
 ghost use Rattle.std.specs.Prelude.{◌≤◌, IfOk};
 ghost use Rattle.desk_base.specs.Minute.{IsInYears};
-ghost use Rattle.desk_model.specs.Texts.{IsReply};
+ghost use Rattle.desk_model.specs.Fits.{HasItsMinute};
 
 use crate::write_entry;
 use desk_base::{Code, Minute, PersonNo, VacNo};
@@ -28,7 +28,7 @@ fn next() -> Result<Cmd, Fail> {
 // Whether the entry of this command and reply, stated at 00:01 and taken at 00:02, has this line.
 fn line_is(caller: u8, cmd: Cmd, reply: Reply, line: &[u8]) -> Result<bool, Fail>
     requires caller { caller ≤ 63 }
-    requires reply { IsReply reply }
+    requires reply { HasItsMinute reply }
 {
     let stated = Stated::new(minute(b"2024-03-04 00:01")?, cmd).ok_or("not stated")?;
     let moment = minute(b"2024-03-04 00:02")?;

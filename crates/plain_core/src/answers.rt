@@ -5,21 +5,23 @@ ghost use Rattle.desk_model.specs.EnrolAnswer.{enrol_answer};
 ghost use Rattle.desk_model.specs.BoardAnswer.{board_answer};
 ghost use Rattle.desk_model.specs.ListAnswer.{list_answer};
 ghost use Rattle.desk_model.specs.VacancyAnswer.{is_extra, unknown_in, bad_in, plan_answer, chain_answer, vacancy_answer};
-ghost use Rattle.desk_model.specs.NextAnswer.{choice_answer, open_answer, state_answer, next_answer};
+ghost use Rattle.desk_model.specs.NextAnswer.{choice_answer, vacant_answer, state_answer, next_answer};
+ghost use Rattle.desk_model.specs.Fits.{HasItsMinute};
 ghost use Rattle.plain_core.specs.Fits.{BoardsFit};
 
 use crate::bars::first_free;
 use crate::boards::{count_boards_of, count_listed, count_on, is_on};
 use crate::offers::state_of;
-use crate::register::{board_of, count_boards, count_persons, count_vacancies, job_of, member_of};
+use crate::register::{board_of, count_boards, count_persons, count_vacancies, vacancy_of, person_of};
 use desk_base::{Code, Minute, PersonNo, VacNo};
 use desk_model::{Entry, Job, Link, Opening, Reply, VacState};
 
 /// The answer to `enrol`.
 pub(crate) fn enrol_answer(entries: &[Entry], person: PersonNo) -> Reply
-    ensures { result ≡ enrol_answer entries.now person }
+    ensures value { result ≡ enrol_answer entries.now person }
+    ensures range { HasItsMinute result }
 {
-    if member_of(entries, person).is_some() {
+    if person_of(entries, person).is_some() {
         Reply::Used
     } else if count_persons(entries) >= 1_000 {
         Reply::PersonsFull
@@ -30,7 +32,8 @@ pub(crate) fn enrol_answer(entries: &[Entry], person: PersonNo) -> Reply
 
 /// The answer to `board`.
 pub(crate) fn board_answer(entries: &[Entry], board: &Code) -> Reply
-    ensures { result ≡ board_answer entries.now board.now }
+    ensures value { result ≡ board_answer entries.now board.now }
+    ensures range { HasItsMinute result }
 {
     if board_of(entries, board).is_some() {
         Reply::Used
@@ -43,9 +46,10 @@ pub(crate) fn board_answer(entries: &[Entry], board: &Code) -> Reply
 
 /// The answer to `list`.
 pub(crate) fn list_answer(entries: &[Entry], person: PersonNo, board: &Code) -> Reply
-    ensures { result ≡ list_answer entries.now person board.now }
+    ensures value { result ≡ list_answer entries.now person board.now }
+    ensures range { HasItsMinute result }
 {
-    if member_of(entries, person).is_none() {
+    if person_of(entries, person).is_none() {
         Reply::UnknownPerson
     } else if board_of(entries, board).is_none() {
         Reply::UnknownBoard(*board)
@@ -106,7 +110,8 @@ fn bad_in(entries: &[Entry], codes: &[Code]) -> Option<Code>
 
 // What the job's plan gives.
 fn plan_answer(opening: &Opening, moment: Minute, job: &Job) -> Reply
-    ensures { result ≡ plan_answer opening.now moment job.now }
+    ensures value { result ≡ plan_answer opening.now moment job.now }
+    ensures range { HasItsMinute result }
 {
     let report = job.report();
     let ends = report.number() + u64::from(job.duty()) + u64::from(job.limbo());
@@ -129,7 +134,8 @@ fn chain_answer(
     unknown: Option<Code>,
     bad: Option<Code>,
 ) -> Reply
-    ensures { result ≡ chain_answer opening.now moment job.now unknown bad }
+    ensures value { result ≡ chain_answer opening.now moment job.now unknown bad }
+    ensures range { HasItsMinute result }
 {
     if let Some(code) = unknown {
         return Reply::UnknownBoard(code);
@@ -147,9 +153,10 @@ pub(crate) fn vacancy_answer(
     moment: Minute,
     job: &Job,
 ) -> Reply
-    ensures { result ≡ vacancy_answer opening.now entries.now moment job.now }
+    ensures value { result ≡ vacancy_answer opening.now entries.now moment job.now }
+    ensures range { HasItsMinute result }
 {
-    if job_of(entries, job.vac()).is_some() {
+    if vacancy_of(entries, job.vac()).is_some() {
         return Reply::Used;
     }
     if count_vacancies(entries) >= 20_000 {
@@ -168,7 +175,8 @@ pub(crate) fn vacancy_answer(
 
 // An offer to the link, or none where so many are listed and all are barred.
 fn choice_answer(listed: u16, link: Option<Link>) -> Reply
-    ensures { result ≡ choice_answer listed link }
+    ensures value { result ≡ choice_answer listed link }
+    ensures range { HasItsMinute result }
 {
     match &link {
         Some(link) => Reply::Offered {
@@ -181,9 +189,10 @@ fn choice_answer(listed: u16, link: Option<Link>) -> Reply
 }
 
 // The answer where the vacancy is open.
-fn open_answer(entries: &[Entry], moment: Minute, job: &Job) -> Reply
+fn vacant_answer(entries: &[Entry], moment: Minute, job: &Job) -> Reply
     requires { BoardsFit entries.now }
-    ensures { result ≡ open_answer entries.now moment job.now }
+    ensures value { result ≡ vacant_answer entries.now moment job.now }
+    ensures range { HasItsMinute result }
 {
     if job.report() < moment {
         return Reply::Lapsed(job.report());
@@ -196,21 +205,23 @@ fn open_answer(entries: &[Entry], moment: Minute, job: &Job) -> Reply
 // The answer by how the vacancy stands.
 fn state_answer(entries: &[Entry], moment: Minute, job: &Job, state: VacState) -> Reply
     requires { BoardsFit entries.now }
-    ensures { result ≡ state_answer entries.now moment job.now state }
+    ensures value { result ≡ state_answer entries.now moment job.now state }
+    ensures range { HasItsMinute result }
 {
     match &state {
         VacState::Taken(_) | VacState::Begun(_) | VacState::Annulled => Reply::Closed(state),
         VacState::OnOffer(person) => Reply::OfferOpen(*person),
-        VacState::Vacant => open_answer(entries, moment, job),
+        VacState::Vacant => vacant_answer(entries, moment, job),
     }
 }
 
 /// The answer to `next` at a moment.
 pub(crate) fn next_answer(entries: &[Entry], moment: Minute, vac: VacNo) -> Reply
     requires { BoardsFit entries.now }
-    ensures { result ≡ next_answer entries.now moment vac }
+    ensures value { result ≡ next_answer entries.now moment vac }
+    ensures range { HasItsMinute result }
 {
-    match &job_of(entries, vac) {
+    match &vacancy_of(entries, vac) {
         Some(job) => state_answer(entries, moment, job, state_of(entries, job.vac())),
         None => Reply::UnknownVacancy,
     }

@@ -6,13 +6,13 @@ ghost use Rattle.plain_core.specs.Fits.{BoardsFit};
 
 use crate::boards::placed;
 use crate::offers::on_offer;
-use crate::register::member_of;
+use crate::register::person_of;
 use denial_rules::{Facts, first_bar};
 use desk_base::{Code, PersonNo};
-use desk_model::{Entry, Job, Link, Member};
+use desk_model::{Entry, Job, Link, Person};
 
 // What bears on whether the person may have the job.
-fn facts_of(entries: &[Entry], job: &Job, person: PersonNo, member: &Member) -> Facts
+fn facts_of(entries: &[Entry], job: &Job, person: PersonNo, member: &Person) -> Facts
     ensures { result ≡ facts_of entries.now job.now person member.now }
 {
     Facts {
@@ -35,7 +35,7 @@ fn facts_of(entries: &[Entry], job: &Job, person: PersonNo, member: &Member) -> 
 fn is_free(entries: &[Entry], job: &Job, person: PersonNo) -> bool
     ensures { result ≡ is_free entries.now job.now person }
 {
-    match member_of(entries, person) {
+    match person_of(entries, person) {
         Some(member) => first_bar(&facts_of(entries, job, person, &member)).is_none(),
         None => false,
     }

@@ -1,5 +1,6 @@
 ghost use Rattle.std.specs.Prelude.{◌≡◌, ◌≤◌};
 ghost use Rattle.desk_model.specs.Legal.{answer_to, answer, next};
+ghost use Rattle.desk_model.specs.Fits.{HasItsMinute};
 ghost use Rattle.plain_core.specs.Fits.{BoardsFit};
 
 use crate::answers::{board_answer, enrol_answer, list_answer, next_answer, vacancy_answer};
@@ -10,7 +11,8 @@ use desk_model::{Cmd, Entry, Opening, Reply, Stated};
 // The answer to a command at a moment.
 fn answer_to(opening: &Opening, entries: &[Entry], moment: Minute, cmd: &Cmd) -> Reply
     requires { BoardsFit entries.now }
-    ensures { result ≡ answer_to opening.now entries.now moment cmd.now }
+    ensures value { result ≡ answer_to opening.now entries.now moment cmd.now }
+    ensures range { HasItsMinute result }
 {
     match cmd {
         Cmd::Enrol { person, .. } => enrol_answer(entries, *person),
@@ -24,7 +26,8 @@ fn answer_to(opening: &Opening, entries: &[Entry], moment: Minute, cmd: &Cmd) ->
 // The answer to what is stated; a minute outside the window is named before all else.
 fn answer(opening: &Opening, entries: &[Entry], stated: &Stated) -> Reply
     requires { BoardsFit entries.now }
-    ensures { result ≡ answer opening.now entries.now stated.now }
+    ensures value { result ≡ answer opening.now entries.now stated.now }
+    ensures range { HasItsMinute result }
 {
     if !is_within(&opening.window(), stated.minute()) {
         return Reply::OutsideWindow;

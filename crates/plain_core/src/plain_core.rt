@@ -32,11 +32,13 @@ impl PlainCore {
 }
 
 impl DeskCore for PlainCore {
+    ghost use Rattle.plain_core.specs.Kept.{IsKept, some-kept};
+
     ghost opening = { λ core. core.opening };
 
     ghost room = { λ core. core.left };
 
-    ghost stands = { λ core h. (h ≡ core.entries.items) × IsLegal core.opening h };
+    ghost stands = { λ core h. IsKept core.opening core.entries.items h };
 
     fn step(&mut self, caller: u8, stated: Stated) -> Entry {
         let entry = next_entry(&self.opening, &self.entries, caller, stated);
@@ -48,6 +50,8 @@ impl DeskCore for PlainCore {
     fn left(&self) -> u64 {
         self.left
     }
+
+    ghost some = { λ core. some-kept core.opening core.entries.items core.legal };
 
     ghost legal = { λ core h is. is.1 };
 }

@@ -1,14 +1,14 @@
 ghost use Rattle.std.specs.Prelude.{◌≡◌, length};
 ghost use Rattle.desk_model.specs.History.{said};
 ghost use Rattle.desk_model.specs.Register.{enrols, enrols_any, sets_up, sets_up_any, makes, makes_any};
-ghost use Rattle.desk_model.specs.Register.{member_of, board_of, job_of, persons, boards, vacancies};
+ghost use Rattle.desk_model.specs.Register.{person_of, board_of, vacancy_of, persons, boards, vacancies};
 
 use crate::history::{accepted, is_same};
 use desk_base::{Code, PersonNo, VacNo};
-use desk_model::{BoardSort, Cmd, Entry, Job, Member};
+use desk_model::{BoardSetup, Cmd, Entry, Job, Person};
 
 // What the entry enrols this person as.
-fn enrols(entry: &Entry, person: PersonNo) -> Option<Member>
+fn enrols(entry: &Entry, person: PersonNo) -> Option<Person>
     ensures { result ≡ said (enrols person) entry.now }
 {
     let cmd = accepted(entry)?;
@@ -24,7 +24,7 @@ fn enrols(entry: &Entry, person: PersonNo) -> Option<Member>
     if enrolled.number() != person.number() {
         return None;
     }
-    Some(Member {
+    Some(Person {
         craft: *craft,
         home: *home,
         quals: *quals,
@@ -43,7 +43,7 @@ fn enrols_any(entry: &Entry) -> Option<PersonNo>
 }
 
 // What the entry sets this board up as.
-fn sets_up(entry: &Entry, board: &Code) -> Option<BoardSort>
+fn sets_up(entry: &Entry, board: &Code) -> Option<BoardSetup>
     ensures { result ≡ said (sets_up board.now) entry.now }
 {
     let cmd = accepted(entry)?;
@@ -58,7 +58,7 @@ fn sets_up(entry: &Entry, board: &Code) -> Option<BoardSort>
     if !is_same(code, board) {
         return None;
     }
-    Some(BoardSort {
+    Some(BoardSetup {
         extra: *extra,
         place: *place,
     })
@@ -101,8 +101,8 @@ pub(crate) fn makes_any(entry: &Entry) -> Option<VacNo>
 }
 
 /// The person as enrolled; `None` where nobody has the number.
-pub(crate) fn member_of(entries: &[Entry], person: PersonNo) -> Option<Member>
-    ensures { result ≡ member_of entries.now person }
+pub(crate) fn person_of(entries: &[Entry], person: PersonNo) -> Option<Person>
+    ensures { result ≡ person_of entries.now person }
 {
     for entry in entries {
         if let Some(member) = enrols(entry, person) {
@@ -113,7 +113,7 @@ pub(crate) fn member_of(entries: &[Entry], person: PersonNo) -> Option<Member>
 }
 
 /// The board as set up; `None` where the code is no board.
-pub(crate) fn board_of(entries: &[Entry], board: &Code) -> Option<BoardSort>
+pub(crate) fn board_of(entries: &[Entry], board: &Code) -> Option<BoardSetup>
     ensures { result ≡ board_of entries.now board.now }
 {
     for entry in entries {
@@ -125,8 +125,8 @@ pub(crate) fn board_of(entries: &[Entry], board: &Code) -> Option<BoardSort>
 }
 
 /// The vacancy's job; `None` where it was never made.
-pub(crate) fn job_of(entries: &[Entry], vac: VacNo) -> Option<Job>
-    ensures { result ≡ job_of entries.now vac }
+pub(crate) fn vacancy_of(entries: &[Entry], vac: VacNo) -> Option<Job>
+    ensures { result ≡ vacancy_of entries.now vac }
 {
     for entry in entries {
         if let Some(job) = makes(entry, vac) {

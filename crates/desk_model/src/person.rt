@@ -3,7 +3,7 @@ use qualifications::{Craft, Quals};
 
 /// What a person was enrolled with.
 #[derive(Clone, Copy, Debug, PartialEq, Eq)]
-pub struct Member {
+pub struct Person {
     /// What the person works as.
     pub craft: Craft,
     /// Where the person is at home.
