@@ -1,4 +1,9 @@
 pub mod ChainLemmas
 pub mod InsideLemmas
+pub mod SaidLemmas
+pub mod OrderLemmas
+pub mod RankLemmas
 pub mod LegalLemmas
 pub mod BoundLemmas
+pub mod RefusalLemmas
+pub mod OneOfferLemmas

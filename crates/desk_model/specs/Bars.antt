@@ -12,36 +12,44 @@ use Rattle.desk_model.specs.Register.{person_of}
 use Rattle.desk_model.specs.Boards.{chain}
 use Rattle.desk_model.specs.Offers.{on_offer}
 
--- what bears on whether the person may have the job. As yet nobody is marked off, in a tour of duty, assigned or has
--- answered; a person is at home; and no section of the law holds.
-abbrev pub facts_of : List EntryValue → JobValue → ℕ → Person → Facts
-facts_of h job p member = record {
+-- where an enrolled person is at a moment: at home, since no tours are told yet
+abbrev pub place_of : List EntryValue → ℕ → ℕ → Person → List ℕ
+place_of h m p person = person.home
+
+-- what an enrolled person can do: what they were enrolled with
+abbrev pub quals_of : List EntryValue → ℕ → Person → ℕ
+quals_of h p person = person.quals
+
+-- what bears at a moment on whether an enrolled person may have the job. As yet nobody is marked off, in a tour of
+-- duty, assigned or has answered, and no section of the law holds.
+abbrev pub facts_of : List EntryValue → ℕ → JobValue → ℕ → Person → Facts
+facts_of h m job p person = record {
   marked_off = false;
   in_tour = false;
   assigned = None;
   on_offer = on_offer h p;
-  place_is = member.home;
+  place_is = place_of h m p person;
   place_asked = job.place;
-  craft_is = member.craft;
+  craft_is = person.craft;
   craft_asked = job.craft;
-  quals_has = member.quals;
+  quals_has = quals_of h p person;
   quals_asked = job.quals;
   answered = false;
   law = None;
 }
 
--- the first bar that keeps an enrolled person from the job
-abbrev pub bar_of : List EntryValue → JobValue → ℕ → Person → Option Bar
-bar_of h job p member = first_bar (facts_of h job p member)
+-- the first bar that keeps an enrolled person from the job at a moment
+abbrev pub bar_of : List EntryValue → ℕ → JobValue → ℕ → Person → Option Bar
+bar_of h m job p person = first_bar (facts_of h m job p person)
 
 -- the person is enrolled, and no bar holds
-abbrev pub may_have : List EntryValue → JobValue → ℕ → Option Person → Bool
-may_have h job p None = false
-may_have h job p (Some member) = is_none (bar_of h job p member)
+abbrev pub may_have : List EntryValue → ℕ → JobValue → ℕ → Option Person → Bool
+may_have h m job p None = false
+may_have h m job p (Some person) = is_none (bar_of h m job p person)
 
-abbrev pub is_free : List EntryValue → JobValue → ℕ → Bool
-is_free h job p = may_have h job p (person_of h p)
+abbrev pub is_free : List EntryValue → ℕ → JobValue → ℕ → Bool
+is_free h m job p = may_have h m job p (person_of h p)
 
--- the first of the chain whom nothing bars
-abbrev pub first_free : List EntryValue → JobValue → Option Link
-first_free h job = find (λ link. is_free h job link.person) (chain h job.chain)
+-- the first of the chain whom nothing bars at a moment
+abbrev pub first_free : List EntryValue → ℕ → JobValue → Option Link
+first_free h m job = find (λ link. is_free h m job link.person) (chain h job.chain)

@@ -1,5 +1,5 @@
 -- The ranges of what is stated and of what is answered.
-use Rattle.std.specs.Prelude.{ℕ, ◌<◌, ◌≤◌, ◌^◌, ⊤}
+use Rattle.std.specs.Prelude.{◌<◌, ◌≤◌, ◌^◌, ⊤}
 use Rattle.desk_base.specs.Number.{IsNumber}
 use Rattle.desk_base.specs.Code.{IsCode}
 use Rattle.desk_base.specs.Minute.{IsInYears}

@@ -8,12 +8,14 @@ pub mod Entry
 pub mod History
 pub mod Register
 pub mod Boards
+pub mod Rank
 pub mod Offers
 pub mod Bars
 pub mod EnrolAnswer
 pub mod BoardAnswer
 pub mod ListAnswer
 pub mod VacancyAnswer
+pub mod Refusal
 pub mod NextAnswer
 pub mod Legal
 pub mod Texts

@@ -14,5 +14,5 @@ list_answer h p b =
     else if is_none (board_of h b) then reply.UnknownBoard b
     else if is_on h p b then reply.Used
     else if nat_le 4 (length (boards_of h p)) then reply.ListsFull
-    else if nat_le 500 (length (order b h)) then reply.MembersFull
+    else if nat_le 500 (length (order h b)) then reply.MembersFull
     else reply.Done

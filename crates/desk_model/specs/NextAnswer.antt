@@ -21,7 +21,7 @@ choice_answer listed (Some link) = reply.Offered link.person link.board link.pos
 abbrev pub vacant_answer : List EntryValue → ℕ → JobValue → Reply
 vacant_answer h m job =
     if nat_lt job.report m then reply.Lapsed job.report
-    else choice_answer (length (chain h job.chain)) (first_free h job)
+    else choice_answer (length (chain h job.chain)) (first_free h m job)
 
 -- it is taken, begun or annulled; it is on offer; else what its report and its chain give
 abbrev pub state_answer : List EntryValue → ℕ → JobValue → VacState → Reply

@@ -7,7 +7,7 @@ use Rattle.desk_model.specs.declared.person.Person.{Person}
 use Rattle.desk_model.specs.declared.board_setup.BoardSetup.{BoardSetup}
 use Rattle.desk_model.specs.Job.{JobValue}
 use Rattle.desk_model.specs.Entry.{EntryValue}
-use Rattle.desk_model.specs.History.{first_said, all_said}
+use Rattle.desk_model.specs.History.{said, first_of, all_of}
 
 -- a command that enrols this person
 abbrev pub enrols : ℕ → Cmd → Option Person
@@ -41,20 +41,20 @@ makes_any other = None
 
 -- the person as enrolled, the board as set up, and the vacancy as made; None where there is none such
 abbrev pub person_of : List EntryValue → ℕ → Option Person
-person_of h p = first_said (enrols p) h
+person_of h p = first_of (said (enrols p)) h
 
 abbrev pub board_of : List EntryValue → List ℕ → Option BoardSetup
-board_of h b = first_said (sets_up b) h
+board_of h b = first_of (said (sets_up b)) h
 
 abbrev pub vacancy_of : List EntryValue → ℕ → Option JobValue
-vacancy_of h v = first_said (makes v) h
+vacancy_of h v = first_of (said (makes v)) h
 
 -- all persons, all boards and all vacancies, in the order in which they came
 abbrev pub persons : List EntryValue → List ℕ
-persons h = all_said enrols_any h
+persons h = all_of (said enrols_any) h
 
 abbrev pub boards : List EntryValue → List (List ℕ)
-boards h = all_said sets_up_any h
+boards h = all_of (said sets_up_any) h
 
 abbrev pub vacancies : List EntryValue → List ℕ
-vacancies h = all_said makes_any h
+vacancies h = all_of (said makes_any) h

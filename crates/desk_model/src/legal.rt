@@ -19,5 +19,5 @@ pub fn one_history_is_legal()
     ensures grows { (o : OpeningValue) (h : List EntryValue) (caller : ℕ) (s : StatedValue)
         → IsLegal o h → IsLegal o (h ++ next o h caller s ∷ []) }
     ensures boards { (o : OpeningValue) (h : List EntryValue) (b : List ℕ)
-        → IsLegal o h → length (order b h) ≤ 500 }
+        → IsLegal o h → length (order h b) ≤ 500 }
 {}

@@ -2,31 +2,35 @@
 #![tactic(auto)]
 
 mod board_setup;
+mod booked;
 mod chain;
 mod command;
 mod desk_core;
 mod entry;
 mod job;
+mod laws;
 mod legal;
 mod link;
-mod person;
 mod offer;
 mod opening;
+mod person;
 mod reply;
 mod stated;
 mod vac_state;
 
 pub use board_setup::BoardSetup;
+pub use booked::Booked;
 pub use chain::{Chain, ChainText};
 pub use command::Cmd;
 pub use desk_core::DeskCore;
 pub use entry::Entry;
 pub use job::Job;
+pub use laws::{a_refusal_changes_nothing, one_offer_to_a_person, order_is_by_rank};
 pub use legal::one_history_is_legal;
 pub use link::Link;
-pub use person::Person;
 pub use offer::Offer;
 pub use opening::Opening;
+pub use person::Person;
 pub use reply::Reply;
 pub use stated::Stated;
 pub use vac_state::VacState;

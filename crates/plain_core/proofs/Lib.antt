@@ -1,3 +1,4 @@
 pub mod FindLemmas
+pub mod OrderLemmas
 pub mod ChainLemmas
 pub mod StepLemmas

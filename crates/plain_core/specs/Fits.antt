@@ -5,4 +5,4 @@ use Rattle.desk_model.specs.Boards.{order}
 
 -- no board has more than 500 persons
 abbrev pub BoardsFit : List EntryValue → Type 0
-BoardsFit h = (b : List ℕ) → length (order b h) ≤ 500
+BoardsFit h = (b : List ℕ) → length (order h b) ≤ 500

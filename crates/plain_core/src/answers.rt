@@ -12,7 +12,9 @@ ghost use Rattle.plain_core.specs.Fits.{BoardsFit};
 use crate::bars::first_free;
 use crate::boards::{count_boards_of, count_listed, count_on, is_on};
 use crate::offers::state_of;
-use crate::register::{board_of, count_boards, count_persons, count_vacancies, vacancy_of, person_of};
+use crate::register::{
+    board_of, count_boards, count_persons, count_vacancies, person_of, vacancy_of,
+};
 use desk_base::{Code, Minute, PersonNo, VacNo};
 use desk_model::{Entry, Job, Link, Opening, Reply, VacState};
 
@@ -199,7 +201,7 @@ fn vacant_answer(entries: &[Entry], moment: Minute, job: &Job) -> Reply
     }
     let chain = job.chain();
     let listed = count_listed(entries, chain.codes());
-    choice_answer(listed, first_free(entries, job))
+    choice_answer(listed, first_free(entries, moment, job))
 }
 
 // The answer by how the vacancy stands.

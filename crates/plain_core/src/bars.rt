@@ -1,60 +1,79 @@
 ghost use Rattle.std.specs.Prelude.{◌≡◌, ◌≤◌, length};
 ghost use Rattle.std.specs.List.{find};
 ghost use Rattle.desk_model.specs.Boards.{links, order};
-ghost use Rattle.desk_model.specs.Bars.{facts_of, is_free, first_free};
+ghost use Rattle.desk_model.specs.Bars.{place_of, quals_of, facts_of, is_free, first_free};
 ghost use Rattle.plain_core.specs.Fits.{BoardsFit};
 
-use crate::boards::placed;
+use crate::boards::standing_at;
 use crate::offers::on_offer;
 use crate::register::person_of;
 use denial_rules::{Facts, first_bar};
-use desk_base::{Code, PersonNo};
+use desk_base::{Code, Minute, PersonNo};
 use desk_model::{Entry, Job, Link, Person};
+use qualifications::Quals;
 
-// What bears on whether the person may have the job.
-fn facts_of(entries: &[Entry], job: &Job, person: PersonNo, member: &Person) -> Facts
-    ensures { result ≡ facts_of entries.now job.now person member.now }
+// Where an enrolled person is at a moment: at home, since no tours are told yet.
+fn place_of(_entries: &[Entry], _moment: Minute, _number: PersonNo, person: &Person) -> Code
+    ensures { result ≡ place_of _entries.now _moment _number person.now }
+{
+    person.home
+}
+
+// What an enrolled person can do: what they were enrolled with.
+fn quals_of(_entries: &[Entry], _number: PersonNo, person: &Person) -> Quals
+    ensures { result ≡ quals_of _entries.now _number person.now }
+{
+    person.quals
+}
+
+// What bears at a moment on whether an enrolled person may have the job.
+fn facts_of(
+    entries: &[Entry],
+    moment: Minute,
+    job: &Job,
+    number: PersonNo,
+    person: &Person,
+) -> Facts
+    ensures { result ≡ facts_of entries.now moment job.now number person.now }
 {
     Facts {
         marked_off: false,
         in_tour: false,
         assigned: None,
-        on_offer: on_offer(entries, person),
-        place_is: member.home,
+        on_offer: on_offer(entries, number),
+        place_is: place_of(entries, moment, number, person),
         place_asked: job.place(),
-        craft_is: member.craft,
+        craft_is: person.craft,
         craft_asked: job.craft(),
-        quals_has: member.quals,
+        quals_has: quals_of(entries, number, person),
         quals_asked: job.quals(),
         answered: false,
         law: None,
     }
 }
 
-// The person is enrolled, and nothing bars them from the job.
-fn is_free(entries: &[Entry], job: &Job, person: PersonNo) -> bool
-    ensures { result ≡ is_free entries.now job.now person }
+// The person is enrolled, and at this moment nothing bars them from the job.
+fn is_free(entries: &[Entry], moment: Minute, job: &Job, number: PersonNo) -> bool
+    ensures { result ≡ is_free entries.now moment job.now number }
 {
-    match person_of(entries, person) {
-        Some(member) => first_bar(&facts_of(entries, job, person, &member)).is_none(),
+    match person_of(entries, number) {
+        Some(person) => first_bar(&facts_of(entries, moment, job, number, &person)).is_none(),
         None => false,
     }
 }
 
 // The first of a board whom nothing bars, with the position, from 1.
-fn first_free_on(entries: &[Entry], job: &Job, board: &Code) -> Option<Link>
+fn first_free_on(entries: &[Entry], moment: Minute, job: &Job, board: &Code) -> Option<Link>
     requires { BoardsFit entries.now }
-    ensures { result ≡ find (λ link. is_free entries.now job.now link.person)
-        (links board.now 1 (order board.now entries.now)) }
+    ensures { result ≡ find (λ link. is_free entries.now moment job.now link.person)
+        (links board.now 1 (order entries.now board.now)) }
 {
     let mut position = 1;
-    let mut rest = entries;
-    while let [entry, later @ ..] = rest {
-        rest = later;
-        let Some(person) = placed(entry, later, board) else {
+    for place in 0..entries.len() {
+        let Some(person) = standing_at(entries, place, board) else {
             continue;
         };
-        if is_free(entries, job, person) {
+        if is_free(entries, moment, job, person) {
             return Some(Link {
                 board: *board,
                 position,
@@ -66,14 +85,14 @@ fn first_free_on(entries: &[Entry], job: &Job, board: &Code) -> Option<Link>
     None
 }
 
-/// The first of the job's chain whom nothing bars.
-pub(crate) fn first_free(entries: &[Entry], job: &Job) -> Option<Link>
+/// The first of the job's chain whom nothing bars at this moment.
+pub(crate) fn first_free(entries: &[Entry], moment: Minute, job: &Job) -> Option<Link>
     requires { BoardsFit entries.now }
-    ensures { result ≡ first_free entries.now job.now }
+    ensures { result ≡ first_free entries.now moment job.now }
 {
     let chain = job.chain();
     for board in chain.codes() {
-        if let Some(link) = first_free_on(entries, job, board) {
+        if let Some(link) = first_free_on(entries, moment, job, board) {
             return Some(link);
         }
     }

@@ -1,17 +1,41 @@
-ghost use Rattle.std.specs.Prelude.{◌≡◌, ◌≤◌, length, ◌∷◌};
-ghost use Rattle.std.specs.List.{cons_option};
+ghost use Rattle.std.specs.Prelude.{◌≡◌, ◌≤◌, ◌<◌, ◌+◌, nat_eq, length, List};
+ghost use Rattle.std.specs.List.{cons_option, list_any};
+ghost use Rattle.desk_model.specs.Entry.{EntryValue};
 ghost use Rattle.desk_model.specs.History.{said};
-ghost use Rattle.desk_model.specs.Boards.{sends, sent, is_on, boards_of, order, chain};
+ghost use Rattle.desk_model.specs.Boards.{puts, sends, is_on, boards_of, order, chain};
 ghost use Rattle.plain_core.specs.Fits.{BoardsFit};
+ghost use Rattle.plain_core.specs.Orders.{sent_from, order_from};
 
 use crate::history::{accepted, is_same};
 use crate::register::sets_up_any;
 use desk_base::{Code, PersonNo};
 use desk_model::{Cmd, Entry};
 
-// Whom the entry sends to the bottom of this board.
+// Whether the entry puts this person on this board; `None` where it says nothing of that.
+fn puts(entry: &Entry, person: PersonNo, board: &Code) -> Option<bool>
+    ensures { result ≡ said (puts board.now person) entry.now }
+{
+    let cmd = accepted(entry)?;
+    let Cmd::List {
+        person: listed,
+        board: code,
+    } = &cmd
+    else {
+        return None;
+    };
+    if !is_same(code, board) {
+        return None;
+    }
+    if listed.number() == person.number() {
+        Some(true)
+    } else {
+        None
+    }
+}
+
+// Whom the entry sends to the bottom of this board, whatever came before it.
 fn sends(entry: &Entry, board: &Code) -> Option<PersonNo>
-    ensures { result ≡ said (sends board.now) entry.now }
+    ensures { (before : List EntryValue) → result ≡ said (sends board.now before) entry.now }
 {
     let cmd = accepted(entry)?;
     let Cmd::List {
@@ -28,21 +52,18 @@ fn sends(entry: &Entry, board: &Code) -> Option<PersonNo>
     }
 }
 
-// The entry sends this person there.
-fn is_sent(entry: &Entry, person: PersonNo, board: &Code) -> bool
-    ensures { result ≡ sent board.now person entry.now }
-{
-    match sends(entry, board) {
-        Some(listed) => listed.number() == person.number(),
-        None => false,
-    }
-}
-
 /// Whether the person is on the board.
 pub(crate) fn is_on(entries: &[Entry], person: PersonNo, board: &Code) -> bool
     ensures { result ≡ is_on entries.now person board.now }
 {
-    entries.iter().any(|entry| is_sent(entry, person, board))
+    let mut last = None;
+    for entry in entries {
+        let Some(on) = puts(entry, person, board) else {
+            continue;
+        };
+        last = Some(on);
+    }
+    last.unwrap_or(false)
 }
 
 /// How many boards the person is on.
@@ -61,30 +82,58 @@ pub(crate) fn count_boards_of(entries: &[Entry], person: PersonNo) -> usize
     count
 }
 
-/// Who stands on the board by this entry: whom it sends there, unless a later entry sends them again.
-pub(crate) fn placed(entry: &Entry, later: &[Entry], board: &Code) -> Option<PersonNo>
-    ensures { order board.now (entry.now ∷ later.now)
-        ≡ cons_option result (order board.now later.now) }
+// Whom the entry at this place sends to the bottom of the board.
+fn sent_at(entries: &[Entry], place: usize, board: &Code) -> Option<PersonNo>
+    requires { place < length entries.now }
+    ensures { sent_from entries.now board.now place
+        ≡ cons_option result (sent_from entries.now board.now (place + 1)) }
 {
-    let person = sends(entry, board)?;
-    if is_on(later, person, board) {
-        None
-    } else {
+    sends(&entries[place], board)
+}
+
+// Whether an entry from this place on sends the person to the bottom of the board.
+fn is_sent_from(entries: &[Entry], place: usize, person: PersonNo, board: &Code) -> bool
+    requires { place ≤ length entries.now }
+    ensures { result ≡ list_any (nat_eq person) (sent_from entries.now board.now place) }
+{
+    for later in place..entries.len() {
+        let Some(other) = sent_at(entries, later, board) else {
+            continue;
+        };
+        if person.number() == other.number() {
+            return true;
+        }
+    }
+    false
+}
+
+/// Who stands on the board by the entry at this place: whom it sends there, if no later entry sends them again and
+/// they are on it.
+pub(crate) fn standing_at(entries: &[Entry], place: usize, board: &Code) -> Option<PersonNo>
+    requires { place < length entries.now }
+    ensures { order_from entries.now board.now place
+        ≡ cons_option result (order_from entries.now board.now (place + 1)) }
+{
+    let person = sent_at(entries, place, board)?;
+    if is_sent_from(entries, place + 1, person, board) {
+        return None;
+    }
+    if is_on(entries, person, board) {
         Some(person)
+    } else {
+        None
     }
 }
 
 /// How many are on the board.
 pub(crate) fn count_on(entries: &[Entry], board: &Code) -> usize
-    ensures { result ≡ length (order board.now entries.now) }
+    ensures { result ≡ length (order entries.now board.now) }
 {
     let mut count = 0;
-    let mut rest = entries;
-    while let [entry, later @ ..] = rest {
-        if placed(entry, later, board).is_some() {
+    for place in 0..entries.len() {
+        if standing_at(entries, place, board).is_some() {
             count += 1;
         }
-        rest = later;
     }
     count
 }

@@ -1,13 +1,13 @@
 ghost use Rattle.std.specs.Prelude.{◌≡◌};
-ghost use Rattle.desk_model.specs.Offers.{offer_in, offered, is_of, is_to, asked, open_offer, on_offer, state_of};
+ghost use Rattle.desk_model.specs.Offers.{asks_for, offer_in, is_of, offer_said, is_to, open_offer, on_offer, state_of};
 
 use crate::register::makes_any;
 use desk_base::{PersonNo, VacNo};
 use desk_model::{Cmd, Entry, Offer, Reply, VacState};
 
 // The vacancy that the entry's command asks to be offered.
-fn asked(entry: &Entry) -> Option<VacNo>
-    ensures { result ≡ asked entry.now.stated.cmd }
+fn asks_for(entry: &Entry) -> Option<VacNo>
+    ensures { result ≡ asks_for entry.now.stated.cmd }
 {
     let cmd = entry.stated().cmd();
     let Cmd::Next { vac } = &cmd else {
@@ -33,37 +33,37 @@ fn offer_in(entry: &Entry) -> Option<Offer>
 
 // The entry's command asks for this vacancy.
 fn is_of(entry: &Entry, vac: VacNo) -> bool
-    ensures { result ≡ is_of vac (asked entry.now.stated.cmd) }
+    ensures { result ≡ is_of vac (asks_for entry.now.stated.cmd) }
 {
-    match asked(entry) {
+    match asks_for(entry) {
         Some(other) => other.number() == vac.number(),
         None => false,
     }
 }
 
-// The offer of this vacancy that the entry makes.
-fn offered(entry: &Entry, vac: VacNo) -> Option<Offer>
-    ensures { result ≡ offered vac entry.now }
+// What the entry says of the vacancy's offer: `Some` where it opens one, with what is open since.
+fn offer_said(entry: &Entry, vac: VacNo) -> Option<Option<Offer>>
+    ensures { result ≡ offer_said vac entry.now }
 {
-    if is_of(entry, vac) {
-        offer_in(entry)
-    } else {
-        None
+    if !is_of(entry, vac) {
+        return None;
     }
+    let offer = offer_in(entry)?;
+    Some(Some(offer))
 }
 
-/// The open offer of a vacancy, which is the last that was made.
+/// The open offer of a vacancy; `None` where none is.
 pub(crate) fn open_offer(entries: &[Entry], vac: VacNo) -> Option<Offer>
     ensures { result ≡ open_offer entries.now vac }
 {
-    let mut last = None;
+    let mut open = None;
     for entry in entries {
-        let Some(offer) = offered(entry, vac) else {
+        let Some(since) = offer_said(entry, vac) else {
             continue;
         };
-        last = Some(offer);
+        open = since;
     }
-    last
+    open
 }
 
 // The vacancy is on offer to this person.

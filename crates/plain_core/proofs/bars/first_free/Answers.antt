@@ -7,12 +7,12 @@ pub returns-in-Some : goal.returns-in-Some
 returns-in-Some c =
     let h = c.args.entries.now in
     let found = sym c.first_free_on.ensures ∙ c.in-Some.is in
-    sym (find-chain-here (λ link. is_free h c.args.job.now link.person) h c.codes-board-items.result.now c.loop-board.board-index c.board-item.result c.in-Some.link c.loop-board-test.true c.board-item.is found)
+    sym (find-chain-here (λ link. is_free h c.args.moment c.args.job.now link.person) h c.codes-board-items.result.now c.loop-board.board-index c.board-item.result c.in-Some.link c.loop-board-test.true c.board-item.is found)
     ∙ c.loop-board.invariant
 
 pub loop-board-preserved : goal.loop-board-preserved
 loop-board-preserved c =
     let h = c.args.entries.now in
     let missed = sym c.first_free_on.ensures ∙ c.in_default.is in
-    sym (find-chain-past (λ link. is_free h c.args.job.now link.person) h c.codes-board-items.result.now c.loop-board.board-index c.board-item.result c.loop-board-test.true c.board-item.is missed)
+    sym (find-chain-past (λ link. is_free h c.args.moment c.args.job.now link.person) h c.codes-board-items.result.now c.loop-board.board-index c.board-item.result c.loop-board-test.true c.board-item.is missed)
     ∙ c.loop-board.invariant

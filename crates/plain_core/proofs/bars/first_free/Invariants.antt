@@ -6,4 +6,4 @@ use Rattle.plain_core.proofs.bars.first_free.Given as goal
 
 abbrev pub invariant-loop-board : goal.invariant-loop-board
 invariant-loop-board l =
-    find (λ link. is_free l.entries l.job link.person) (chain l.entries (drop l.board-index l.board-items)) ≡ first_free l.entries l.job
+    find (λ link. is_free l.entries l.moment l.job link.person) (chain l.entries (drop l.board-index l.board-items)) ≡ first_free l.entries l.moment l.job

@@ -1,10 +1,7 @@
 use Rattle.std.proofs.Common.{◌≡◌, ◌≤◌, ◌+◌, length}
 use Rattle.desk_model.specs.Boards.{order}
+use Rattle.plain_core.specs.Orders.{order_from}
 use Rattle.plain_core.proofs.boards.count_on.Given as goal
 
-abbrev pub invariant-loop-rest : goal.invariant-loop-rest
-invariant-loop-rest l =
-    (l.count + length l.rest ≤ length l.entries) × (l.count + length (order l.board l.rest) ≡ length (order l.board l.entries))
-
-abbrev pub decreases-loop-rest : goal.decreases-loop-rest
-decreases-loop-rest l = length l.rest
+abbrev pub invariant-loop-place : goal.invariant-loop-place
+invariant-loop-place l = (l.count ≤ l.place) × (l.count + length (order_from l.entries l.board l.place) ≡ length (order l.entries l.board))

@@ -1,0 +1,207 @@
+-- The order of a board has just those who are on it, by rising rank.
+use Rattle.std.proofs.Common.{◌≡◌, ℕ, ◌+◌, ◌≤◌, inl, inr, Bool, true, false, cond, ◌&&◌, ◌||◌, nat_eq, Option, None, Some, unwrap_or, List, [], ◌∷◌, ◌++◌, filter, refl, sym, ap, subst, ◌∙◌, arith}
+use Rattle.std.specs.Str.{bytes_eq}
+use Rattle.std.specs.Option.{option_or}
+use Rattle.std.specs.List.{list_any, cons_option}
+use Rattle.std.proofs.lemmas.Bool.{cases_Bool, false≢true}
+use Rattle.std.proofs.lemmas.Bool.Decides.{nat_tests}
+use Rattle.desk_model.specs.declared.command.Cmd.{Cmd}
+use Rattle.desk_model.specs.declared.command.Cmd.TheVariants as cmd
+use Rattle.desk_model.specs.Entry.{EntryValue}
+use Rattle.desk_model.specs.History.{is_done, said, last_of}
+use Rattle.desk_model.specs.Boards.{puts, is_on, sends, sent_to, keep_last, order}
+use Rattle.desk_model.proofs.OrderLemmas.{same_number, nat_eq-same}
+use Rattle.desk_model.specs.Rank.{is_number, last_place, rank, IsBefore, Rises, IsByRank}
+
+and_false : (b : Bool) → (b && false) ≡ false
+and_false true = refl
+and_false false = refl
+
+-- ---- who is in a list
+
+any-filter : (f : ℕ → Bool) (p : ℕ) (ps : List ℕ) → list_any (nat_eq p) (filter f ps) ≡ (f p && list_any (nat_eq p) ps)
+any-filter f p [] = sym (and_false (f p))
+any-filter f p (q ∷ ps) = go (f q) (nat_eq p q) refl refl (any-filter f p ps)
+  where
+    go : (kept same : Bool) → f q ≡ kept → nat_eq p q ≡ same → list_any (nat_eq p) (filter f ps) ≡ (f p && list_any (nat_eq p) ps)
+        → list_any (nat_eq p) (cond (f q) (q ∷ filter f ps) (filter f ps)) ≡ (f p && (nat_eq p q || list_any (nat_eq p) ps))
+    go true true keeps is rest = rw (keeps, is, ap f (same_number p q is), keeps) refl
+    go false true keeps is rest = rw (keeps, is, rest, ap f (same_number p q is), keeps) refl
+    go true false keeps is rest = rw (keeps, is) rest
+    go false false keeps is rest = rw (keeps, is) rest
+
+any-keep_last : (p : ℕ) (ps : List ℕ) → list_any (nat_eq p) (keep_last ps) ≡ list_any (nat_eq p) ps
+any-keep_last p [] = refl
+any-keep_last p (q ∷ ps) = go (list_any (nat_eq q) ps) (nat_eq p q) refl refl (any-keep_last p ps)
+  where
+    go : (again same : Bool) → list_any (nat_eq q) ps ≡ again → nat_eq p q ≡ same → list_any (nat_eq p) (keep_last ps) ≡ list_any (nat_eq p) ps
+        → list_any (nat_eq p) (cond (list_any (nat_eq q) ps) (keep_last ps) (q ∷ keep_last ps)) ≡ (nat_eq p q || list_any (nat_eq p) ps)
+    go true true any is rest = rw (any, rest, is, same_number p q is, any) refl
+    go true false any is rest = rw (any, is) rest
+    go false true any is rest = rw (any, is) refl
+    go false false any is rest = rw (any, is) rest
+
+-- ---- who is on a board was sent there
+
+puts-sends : (b : List ℕ) (p : ℕ) (before : List EntryValue) (c : Cmd) → puts b p c ≡ Some true → sends b before c ≡ Some p
+puts-sends b p before (cmd.List person board) put = go (bytes_eq board b) (nat_eq person p) refl put
+  where
+    go : (here same : Bool) → nat_eq person p ≡ same → cond here (cond same (Some true) None) None ≡ Some true → cond here (Some person) None ≡ Some p
+    go true true is put = ap Some (same_number person p is)
+    go true false is put = cc
+    go false same is put = cc
+puts-sends b p before (cmd.Enrol person craft home quals) put = cc
+puts-sends b p before (cmd.Board board extra place) put = cc
+puts-sends b p before (cmd.Vacancy job) put = cc
+puts-sends b p before (cmd.Next vac) put = cc
+
+said-puts-sends : (b : List ℕ) (p : ℕ) (before : List EntryValue) (e : EntryValue) → said (puts b p) e ≡ Some true → said (sends b before) e ≡ Some p
+said-puts-sends b p before e put = go (is_done e.reply) put
+  where
+    go : (done : Bool) → cond done (puts b p e.stated.cmd) None ≡ Some true → cond done (sends b before e.stated.cmd) None ≡ Some p
+    go true put = puts-sends b p before e.stated.cmd put
+    go false put = cc
+
+was_sent : (b : List ℕ) (p : ℕ) (before h : List EntryValue) → last_of (said (puts b p)) h ≡ Some true → list_any (nat_eq p) (sent_to b before h) ≡ true
+was_sent b p before [] put = cc
+was_sent b p before (e ∷ later) put =
+    go (last_of (said (puts b p)) later) (said (puts b p) e) (said (sends b before) e) put (was_sent b p (before ++ e ∷ []) later) (said-puts-sends b p before e)
+  where
+    rest : List ℕ
+    rest = sent_to b (before ++ e ∷ []) later
+
+    front : (who : Option ℕ) → list_any (nat_eq p) rest ≡ true → list_any (nat_eq p) (cons_option who rest) ≡ true
+    front None any = any
+    front (Some q) any = rw any (grind (arith, nat_tests))
+
+    go : (last this : Option Bool) (who : Option ℕ) → option_or last this ≡ Some true → (last ≡ Some true → list_any (nat_eq p) rest ≡ true)
+        → (this ≡ Some true → who ≡ Some p) → list_any (nat_eq p) (cons_option who rest) ≡ true
+    go (Some on) this who put known here = front who (known put)
+    go None this who put known here = rw (here put, nat_eq-same p) refl
+
+on_board : (b : List ℕ) (p : ℕ) (h : List EntryValue) → is_on h p b ≡ true → list_any (nat_eq p) (sent_to b [] h) ≡ true
+on_board b p h on = was_sent b p [] h (go (last_of (said (puts b p)) h) on)
+  where
+    go : (o : Option Bool) → unwrap_or o false ≡ true → o ≡ Some true
+    go None on = absurd (false≢true on)
+    go (Some x) on = ap Some on
+
+any-order : (h : List EntryValue) (b : List ℕ) (p : ℕ) → list_any (nat_eq p) (order h b) ≡ is_on h p b
+any-order h b p =
+    any-filter (λ q. is_on h q b) p (keep_last (sent_to b [] h))
+    ∙ ap (λ any. is_on h p b && any) (any-keep_last p (sent_to b [] h))
+    ∙ go (is_on h p b) (list_any (nat_eq p) (sent_to b [] h)) (on_board b p h)
+  where
+    go : (on any : Bool) → (on ≡ true → any ≡ true) → (on && any) ≡ on
+    go true any known = known refl
+    go false any known = refl
+
+-- ---- ranks
+
+or_none : (o : Option ℕ) → option_or o None ≡ o
+or_none None = refl
+or_none (Some n) = refl
+
+or_first : (p n : ℕ) (o other : Option ℕ) → o ≡ Some n → option_or o other ≡ Some n
+or_first p n o other is = ap (λ first. option_or first other) is
+
+-- who was not sent has no rank
+no_place : (b : List ℕ) (p place : ℕ) (before h : List EntryValue) → list_any (nat_eq p) (sent_to b before h) ≡ false → last_place b p place before h ≡ None
+no_place b p place before [] any = refl
+no_place b p place before (e ∷ later) any =
+    go (said (sends b before) e) (sent_to b (before ++ e ∷ []) later) (last_place b p (place + 1) (before ++ e ∷ []) later) any
+    (no_place b p (place + 1) (before ++ e ∷ []) later)
+  where
+    go : (who : Option ℕ) (rest : List ℕ) (last : Option ℕ) → list_any (nat_eq p) (cons_option who rest) ≡ false
+        → (list_any (nat_eq p) rest ≡ false → last ≡ None) → option_or last (cond (is_number p who) (Some place) None) ≡ None
+    go None rest last any known = ap (λ o. option_or o None) (known any)
+    go (Some q) rest last any known = elim (cases_Bool (nat_eq p q)) [
+      | inl same ↦ absurd (false≢true (sym any ∙ rw same refl))
+      | inr other ↦ rw (other, known (rw other at any)) refl
+    ]
+
+-- who was sent has one, no less than the first place
+record HasPlace (first : ℕ) (rank : Option ℕ) : Type 0 where
+  at : ℕ
+  is : rank ≡ Some at
+  least : first ≤ at
+
+has_place : (b : List ℕ) (p place : ℕ) (before h : List EntryValue) → list_any (nat_eq p) (sent_to b before h) ≡ true
+    → HasPlace place (last_place b p place before h)
+has_place b p place before [] any = absurd (false≢true any)
+has_place b p place before (e ∷ later) any =
+    go (said (sends b before) e) (sent_to b (before ++ e ∷ []) later) (last_place b p (place + 1) (before ++ e ∷ []) later) any
+    (has_place b p (place + 1) (before ++ e ∷ []) later) (no_place b p (place + 1) (before ++ e ∷ []) later)
+  where
+    again : (last other : Option ℕ) → HasPlace (place + 1) last → HasPlace place (option_or last other)
+    again last other known = record { at = known.at; is = or_first p known.at last other known.is; least = omega (arith, known.least) }
+
+    go : (who : Option ℕ) (rest : List ℕ) (last : Option ℕ) → list_any (nat_eq p) (cons_option who rest) ≡ true
+        → (list_any (nat_eq p) rest ≡ true → HasPlace (place + 1) last) → (list_any (nat_eq p) rest ≡ false → last ≡ None)
+        → HasPlace place (option_or last (cond (is_number p who) (Some place) None))
+    go None rest last any known unknown = again last None (known any)
+    go (Some q) rest last any known unknown = elim (cases_Bool (list_any (nat_eq p) rest)) [
+      | inl more ↦ again last (cond (nat_eq p q) (Some place) None) (known more)
+      | inr none ↦ elim (cases_Bool (nat_eq p q)) [
+        | inl same ↦ record { at = place; is = rw (unknown none, same) refl; least = omega arith }
+        | inr other ↦ absurd (false≢true (rw (other, none) at any))
+      ]
+    ]
+
+rises-same : (r s : ℕ → Option ℕ) (ps : List ℕ) → ((q : ℕ) → list_any (nat_eq q) ps ≡ true → r q ≡ s q) → Rises r ps → Rises s ps
+rises-same r s [] same rises = tt
+rises-same r s (p ∷ ps) same rises = (
+  λ q any. subst (λ one. IsBefore one (s q)) (same p (rw (nat_eq-same p) refl)) (subst (λ other. IsBefore (r p) other) (same q (behind q any)) (rises.0 q any)),
+  rises-same r s ps (λ q any. same q (behind q any)) rises.1,
+)
+  where
+    behind : (q : ℕ) → list_any (nat_eq q) ps ≡ true → (nat_eq q p || list_any (nat_eq q) ps) ≡ true
+    behind q any = rw any (go (nat_eq q p))
+      where
+        go : (b : Bool) → (b || true) ≡ true
+        go true = refl
+        go false = refl
+
+rises-filter : (f : ℕ → Bool) (r : ℕ → Option ℕ) (ps : List ℕ) → Rises r ps → Rises r (filter f ps)
+rises-filter f r [] rises = tt
+rises-filter f r (p ∷ ps) rises = go (f p) (rises-filter f r ps rises.1)
+  where
+    stays : (q : ℕ) (kept any : Bool) → (kept && any) ≡ true → any ≡ true
+    stays q true any both = both
+    stays q false any both = absurd (false≢true both)
+
+    go : (kept : Bool) → Rises r (filter f ps) → Rises r (cond kept (p ∷ filter f ps) (filter f ps))
+    go true rest = (λ q any. rises.0 q (stays q (f q) (list_any (nat_eq q) ps) (sym (any-filter f q ps) ∙ any)), rest)
+    go false rest = rest
+
+-- those who are kept rise
+rises-kept : (b : List ℕ) (place : ℕ) (before h : List EntryValue) → Rises (λ p. last_place b p place before h) (keep_last (sent_to b before h))
+rises-kept b place before [] = tt
+rises-kept b place before (e ∷ later) =
+    go (said (sends b before) e) (sent_to b (before ++ e ∷ []) later) (λ p. last_place b p (place + 1) (before ++ e ∷ []) later)
+    (rises-kept b (place + 1) (before ++ e ∷ []) later) (λ p. has_place b p (place + 1) (before ++ e ∷ []) later) (λ p. no_place b p (place + 1) (before ++ e ∷ []) later)
+  where
+    go : (who : Option ℕ) (rest : List ℕ) (last : ℕ → Option ℕ) → Rises last (keep_last rest)
+        → ((p : ℕ) → list_any (nat_eq p) rest ≡ true → HasPlace (place + 1) (last p)) → ((p : ℕ) → list_any (nat_eq p) rest ≡ false → last p ≡ None)
+        → Rises (λ p. option_or (last p) (cond (is_number p who) (Some place) None)) (keep_last (cons_option who rest))
+    go None rest last rises known unknown = rises-same last _ (keep_last rest) (λ q any. sym (or_none (last q))) rises
+    go (Some q) rest last rises known unknown = elim (cases_Bool (list_any (nat_eq q) rest)) [
+      | inl again ↦ rw again tail
+      | inr once ↦ rw once (first once, tail)
+    ]
+      where
+        stands : (p : ℕ) → list_any (nat_eq p) (keep_last rest) ≡ true → HasPlace (place + 1) (last p)
+        stands p any = known p (sym (any-keep_last p rest) ∙ any)
+
+        tail : Rises (λ p. option_or (last p) (cond (nat_eq p q) (Some place) None)) (keep_last rest)
+        tail = rises-same last _ (keep_last rest) (λ p any. let at = stands p any in at.is ∙ sym (or_first p at.at (last p) _ at.is)) rises
+
+        first : list_any (nat_eq q) rest ≡ false → (p : ℕ) → list_any (nat_eq p) (keep_last rest) ≡ true
+            → IsBefore (option_or (last q) (cond (nat_eq q q) (Some place) None)) (option_or (last p) (cond (nat_eq p q) (Some place) None))
+        first once p any = let at = stands p any in rw (unknown q once, nat_eq-same q, at.is) (omega (arith, at.least))
+
+pub order-by_rank : (h : List EntryValue) (b : List ℕ) → IsByRank h b (order h b)
+order-by_rank h b = record {
+  those = any-order h b;
+  rising = rises-filter (λ p. is_on h p b) (rank h b) (keep_last (sent_to b [] h)) (rises-kept b 0 [] h);
+}

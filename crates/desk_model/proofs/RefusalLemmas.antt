@@ -1,0 +1,95 @@
+-- An entry that refuses or tells changes nothing.
+use Rattle.std.proofs.Common.{◌≡◌, ℕ, Bool, true, false, cond, ◌||◌, Option, None, Some, is_some, is_none, unwrap_or, List, [], ◌∷◌, ◌++◌, refl, sym, ap, ◌∙◌}
+use Rattle.std.specs.List.{find}
+use Rattle.std.proofs.lemmas.Bool.{false≢true}
+use Rattle.desk_model.specs.declared.command.Cmd.{Cmd}
+use Rattle.desk_model.specs.declared.reply.Reply.{Reply}
+use Rattle.desk_model.specs.declared.reply.Reply.TheVariants as reply
+use Rattle.desk_model.specs.declared.vac_state.VacState.TheVariants as state
+use Rattle.desk_model.specs.declared.person.Person.{Person}
+use Rattle.desk_model.specs.declared.link.Link.{Link}
+use Rattle.desk_model.specs.Entry.{EntryValue}
+use Rattle.desk_model.specs.Job.{JobValue}
+use Rattle.desk_model.specs.History.{is_done, said}
+use Rattle.desk_model.specs.Register.{enrols, enrols_any, sets_up, sets_up_any, makes, makes_any, person_of, vacancies}
+use Rattle.desk_model.specs.Boards.{puts, is_on, sends, order, chain}
+use Rattle.desk_model.specs.Offers.{asks_for, offer_in, is_of, opened, offer_said, open_offer, is_to, on_offer, offered_state}
+use Rattle.desk_model.specs.Bars.{bar_of, may_have, is_free}
+use Rattle.desk_model.specs.Refusal.{changes, IsSameDesk}
+use Rattle.desk_model.proofs.SaidLemmas.{first_of-silent, last_of-silent, all_of-silent}
+use Rattle.desk_model.proofs.OrderLemmas.{order-silent}
+
+no_change-done : (r : Reply) → changes r ≡ false → is_done r ≡ false
+no_change-done r same = go (is_done r) same
+  where
+    go : (done : Bool) → (done || is_some (offer_in 0 r)) ≡ false → done ≡ false
+    go true same = same
+    go false same = refl
+
+no_change-offer : (moment : ℕ) (r : Reply) → changes r ≡ false → offer_in moment r ≡ None
+no_change-offer moment (reply.Offered person board position) same = absurd (false≢true (sym same))
+no_change-offer moment other same = refl
+
+-- it says nothing of what only an accepted command says
+said-refused : {X : Type 0} (f : Cmd → Option X) (e : EntryValue) → changes e.reply ≡ false → said f e ≡ None
+said-refused f e same = rw (no_change-done e.reply same) refl
+
+offer_said-refused : (v : ℕ) (e : EntryValue) → changes e.reply ≡ false → offer_said v e ≡ None
+offer_said-refused v e same = rw (no_change-offer e.moment e.reply same) (go (is_of v (asks_for e.stated.cmd)))
+  where
+    go : (mine : Bool) → cond mine (opened None) None ≡ None
+    go true = refl
+    go false = refl
+
+-- searches with tests that agree
+find_agree : {X : Type 0} (f g : X → Bool) → ((x : X) → f x ≡ g x) → (xs : List X) → find f xs ≡ find g xs
+find_agree f g agree [] = refl
+find_agree f g agree (x ∷ xs) = rw (agree x, find_agree f g agree xs) refl
+
+chain_agree : (h later : List EntryValue) → ((b : List ℕ) → order later b ≡ order h b) → (codes : List (List ℕ)) → chain later codes ≡ chain h codes
+chain_agree h later same [] = refl
+chain_agree h later same (b ∷ codes) = rw (same b, chain_agree h later same codes) refl
+
+pub refused : (h : List EntryValue) (e : EntryValue) → changes e.reply ≡ false → IsSameDesk h (h ++ e ∷ [])
+refused h e same = record {
+  person = λ p. first_of-silent (said (enrols p)) h e (said-refused (enrols p) e same);
+  board = λ b. first_of-silent (said (sets_up b)) h e (said-refused (sets_up b) e same);
+  vacancy = λ v. first_of-silent (said (makes v)) h e (said-refused (makes v) e same);
+  persons = all_of-silent (said enrols_any) h e (said-refused enrols_any e same);
+  boards = all_of-silent (said sets_up_any) h e (said-refused sets_up_any e same);
+  vacancies = all_of-silent (said makes_any) h e (said-refused makes_any e same);
+  on = on;
+  order = orders;
+  chain = chain_agree h (h ++ e ∷ []) orders;
+  offer = offers;
+  on_offer = on_offers;
+  state = λ v. ap (λ o. unwrap_or (offered_state o) state.Vacant) (offers v);
+  bar = bars;
+  first = λ m job.
+      ap (find (λ link. is_free (h ++ e ∷ []) m job link.person)) (chain_agree h (h ++ e ∷ []) orders job.chain)
+      ∙ find_agree (λ (link : Link). is_free (h ++ e ∷ []) m job link.person) (λ link. is_free h m job link.person) (λ link. free m job link.person) (chain h job.chain);
+}
+  where
+    on : (p : ℕ) (b : List ℕ) → is_on (h ++ e ∷ []) p b ≡ is_on h p b
+    on p b = ap (λ o. unwrap_or o false) (last_of-silent (said (puts b p)) h e (said-refused (puts b p) e same))
+
+    orders : (b : List ℕ) → order (h ++ e ∷ []) b ≡ order h b
+    orders b = order-silent h e b (said-refused (sends b h) e same) (λ p. said-refused (puts b p) e same)
+
+    offers : (v : ℕ) → open_offer (h ++ e ∷ []) v ≡ open_offer h v
+    offers v = ap (λ o. unwrap_or o None) (last_of-silent (offer_said v) h e (offer_said-refused v e same))
+
+    on_offers : (p : ℕ) → on_offer (h ++ e ∷ []) p ≡ on_offer h p
+    on_offers p =
+        ap (find (λ v. is_to p (open_offer (h ++ e ∷ []) v))) (all_of-silent (said makes_any) h e (said-refused makes_any e same))
+        ∙ find_agree (λ v. is_to p (open_offer (h ++ e ∷ []) v)) (λ v. is_to p (open_offer h v)) (λ v. ap (is_to p) (offers v)) (vacancies h)
+
+    bars : (m : ℕ) (job : JobValue) (p : ℕ) (person : Person) → bar_of (h ++ e ∷ []) m job p person ≡ bar_of h m job p person
+    bars m job p person = rw (on_offers p) refl
+
+    free : (m : ℕ) (job : JobValue) (p : ℕ) → is_free (h ++ e ∷ []) m job p ≡ is_free h m job p
+    free m job p = ap (may_have (h ++ e ∷ []) m job p) (first_of-silent (said (enrols p)) h e (said-refused (enrols p) e same)) ∙ go (person_of h p)
+      where
+        go : (known : Option Person) → may_have (h ++ e ∷ []) m job p known ≡ may_have h m job p known
+        go None = refl
+        go (Some person) = ap is_none (bars m job p person)

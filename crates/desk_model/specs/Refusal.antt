@@ -1,0 +1,33 @@
+-- What a refusal leaves as it was.
+use Rattle.std.specs.Prelude.{◌≡◌, ℕ, Bool, ◌||◌, is_some, List}
+use Rattle.desk_model.specs.declared.reply.Reply.{Reply}
+use Rattle.desk_model.specs.declared.person.Person.{Person}
+use Rattle.desk_model.specs.Entry.{EntryValue}
+use Rattle.desk_model.specs.Job.{JobValue}
+use Rattle.desk_model.specs.History.{is_done}
+use Rattle.desk_model.specs.Register.{person_of, board_of, vacancy_of, persons, boards, vacancies}
+use Rattle.desk_model.specs.Boards.{is_on, order, chain}
+use Rattle.desk_model.specs.Offers.{offer_in, open_offer, on_offer, state_of}
+use Rattle.desk_model.specs.Bars.{bar_of, first_free}
+
+-- a reply that changes something: a command was done, or an offer was made
+abbrev pub changes : Reply → Bool
+changes r = is_done r || is_some (offer_in 0 r)
+
+-- after these entries and after those, the desk has the same persons, boards, lists, vacancies and offers, and at each
+-- moment the same bars and the same first choice
+pub record IsSameDesk (h later : List EntryValue) : Type 0 where
+  pub person : (p : ℕ) → person_of later p ≡ person_of h p
+  pub board : (b : List ℕ) → board_of later b ≡ board_of h b
+  pub vacancy : (v : ℕ) → vacancy_of later v ≡ vacancy_of h v
+  pub persons : persons later ≡ persons h
+  pub boards : boards later ≡ boards h
+  pub vacancies : vacancies later ≡ vacancies h
+  pub on : (p : ℕ) (b : List ℕ) → is_on later p b ≡ is_on h p b
+  pub order : (b : List ℕ) → order later b ≡ order h b
+  pub chain : (codes : List (List ℕ)) → chain later codes ≡ chain h codes
+  pub offer : (v : ℕ) → open_offer later v ≡ open_offer h v
+  pub on_offer : (p : ℕ) → on_offer later p ≡ on_offer h p
+  pub state : (v : ℕ) → state_of later v ≡ state_of h v
+  pub bar : (m : ℕ) (job : JobValue) (p : ℕ) (person : Person) → bar_of later m job p person ≡ bar_of h m job p person
+  pub first : (m : ℕ) (job : JobValue) → first_free later m job ≡ first_free h m job

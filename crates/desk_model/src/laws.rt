@@ -1,0 +1,29 @@
+//! What holds of the rules' definitions.
+ghost use Rattle.std.specs.Prelude.{◌≡◌, ℕ, true, false, List, [], ◌∷◌, ◌++◌};
+ghost use Rattle.desk_model.specs.Opening.{OpeningValue};
+ghost use Rattle.desk_model.specs.Entry.{EntryValue};
+ghost use Rattle.desk_model.specs.Boards.{order};
+ghost use Rattle.desk_model.specs.Rank.{IsByRank};
+ghost use Rattle.desk_model.specs.Offers.{open_offer, is_to};
+ghost use Rattle.desk_model.specs.Refusal.{changes, IsSameDesk};
+ghost use Rattle.desk_model.specs.Legal.{IsLegal};
+
+/// The order of a board has just those who are on it, by rising rank: the place of the last entry that sent each to
+/// its bottom. It does nothing: its clause is the law.
+pub fn order_is_by_rank()
+    ensures { (h : List EntryValue) (b : List ℕ) → IsByRank h b (order h b) }
+{}
+
+/// An entry whose reply is neither `Done` nor `Offered` leaves persons, boards, lists, vacancies, offers and bars as
+/// they were. It does nothing: its clause is the law.
+pub fn a_refusal_changes_nothing()
+    ensures { (h : List EntryValue) (e : EntryValue) → changes e.reply ≡ false
+        → IsSameDesk h (h ++ e ∷ []) }
+{}
+
+/// In a legal history at most one vacancy is on offer to a person. It does nothing: its clause is the law.
+pub fn one_offer_to_a_person()
+    ensures { (o : OpeningValue) (h : List EntryValue) → IsLegal o h
+        → (v w p : ℕ) → is_to p (open_offer h v) ≡ true → is_to p (open_offer h w) ≡ true
+        → v ≡ w }
+{}
