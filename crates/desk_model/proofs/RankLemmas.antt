@@ -205,3 +205,47 @@ order-by_rank h b = record {
   those = any-order h b;
   rising = rises-filter (λ p. is_on h p b) (rank h b) (keep_last (sent_to b [] h)) (rises-kept b 0 [] h);
 }
+
+-- ---- there is one list by rising rank
+
+before-not_after : (one other : Option ℕ) → IsBefore one other → IsBefore other one → ⊥
+before-not_after None other before after = before
+before-not_after (Some n) None before after = before
+before-not_after (Some n) (Some m) before after = omega (arith, before, after)
+
+-- nobody stands twice
+rises-once : (r : ℕ → Option ℕ) (p : ℕ) (ps : List ℕ) → Rises r (p ∷ ps) → list_any (nat_eq p) ps ≡ false
+rises-once r p ps rises = elim (cases_Bool (list_any (nat_eq p) ps)) [
+  | inl twice ↦ absurd (before-not_after (r p) (r p) (rises.0 p twice) (rises.0 p twice))
+  | inr once ↦ once
+]
+
+rises-head : (r : ℕ → Option ℕ) (p q : ℕ) (ps qs : List ℕ) → Rises r (p ∷ ps) → Rises r (q ∷ qs)
+    → (nat_eq p q || list_any (nat_eq p) qs) ≡ true → (nat_eq q p || list_any (nat_eq q) ps) ≡ true → p ≡ q
+rises-head r p q ps qs one other among too = elim (cases_Bool (nat_eq p q)) [
+  | inl same ↦ same_number p q same
+  | inr apart ↦ elim (cases_Bool (nat_eq q p)) [
+    | inl same ↦ sym (same_number q p same)
+    | inr away ↦ absurd (before-not_after (r p) (r q) (one.0 q (rw away at too)) (other.0 p (rw apart at among)))
+  ]
+]
+
+pub rises-only : (r : ℕ → Option ℕ) (ps qs : List ℕ) → Rises r ps → Rises r qs → ((p : ℕ) → list_any (nat_eq p) ps ≡ list_any (nat_eq p) qs) → ps ≡ qs
+rises-only r [] [] one other same = refl
+rises-only r [] (q ∷ qs) one other same = absurd (false≢true (same q ∙ rw (nat_eq-same q) refl))
+rises-only r (p ∷ ps) [] one other same = absurd (false≢true (sym (same p) ∙ rw (nat_eq-same p) refl))
+rises-only r (p ∷ ps) (q ∷ qs) one other same =
+    let head : p ≡ q = rises-head r p q ps qs one other (sym (same p) ∙ rw (nat_eq-same p) refl) (same q ∙ rw (nat_eq-same q) refl) in
+    ap (λ x. x ∷ ps) head ∙ ap (λ rest. q ∷ rest) (rises-only r ps qs one.1 other.1 (rest head))
+  where
+    rest : p ≡ q → (x : ℕ) → list_any (nat_eq x) ps ≡ list_any (nat_eq x) qs
+    rest head x = elim (cases_Bool (nat_eq x p)) [
+      | inl is ↦
+          ap (λ y. list_any (nat_eq y) ps) (same_number x p is) ∙ rises-once r p ps one
+          ∙ sym (ap (λ y. list_any (nat_eq y) qs) (same_number x p is ∙ head) ∙ rises-once r q qs other)
+      | inr apart ↦ rw (apart, subst (λ y. nat_eq x y ≡ false) head apart) at (same x)
+    ]
+
+pub order-only : (h : List EntryValue) (b : List ℕ) (ps : List ℕ) → IsByRank h b ps → ps ≡ order h b
+order-only h b ps by_rank =
+    rises-only (rank h b) ps (order h b) by_rank.rising (order-by_rank h b).rising (λ p. by_rank.those p ∙ sym (any-order h b p))

@@ -8,10 +8,12 @@ ghost use Rattle.desk_model.specs.Offers.{open_offer, is_to};
 ghost use Rattle.desk_model.specs.Refusal.{changes, IsSameDesk};
 ghost use Rattle.desk_model.specs.Legal.{IsLegal};
 
-/// The order of a board has just those who are on it, by rising rank: the place of the last entry that sent each to
-/// its bottom. It does nothing: its clause is the law.
+/// The order of a board is the one list of just those who are on it by rising rank: the place of the last entry that
+/// sent each to its bottom. It does nothing: its clauses are the law.
 pub fn order_is_by_rank()
-    ensures { (h : List EntryValue) (b : List ℕ) → IsByRank h b (order h b) }
+    ensures by_rank { (h : List EntryValue) (b : List ℕ) → IsByRank h b (order h b) }
+    ensures only { (h : List EntryValue) (b : List ℕ) (ps : List ℕ) → IsByRank h b ps
+        → ps ≡ order h b }
 {}
 
 /// An entry whose reply is neither `Done` nor `Offered` leaves persons, boards, lists, vacancies, offers and bars as

@@ -1,5 +1,8 @@
-use Rattle.desk_model.proofs.RankLemmas.{order-by_rank}
+use Rattle.desk_model.proofs.RankLemmas.{order-by_rank, order-only}
 use Rattle.desk_model.proofs.laws.order_is_by_rank.Goals as goal
 
-pub returns : goal.returns
-returns c h b = order-by_rank h b
+pub returns-clause-by_rank : goal.returns-clause-by_rank
+returns-clause-by_rank c h b = order-by_rank h b
+
+pub returns-clause-only : goal.returns-clause-only
+returns-clause-only c h b ps by_rank = order-only h b ps by_rank
