@@ -1,1 +1,3 @@
 pub mod FieldLemmas
+pub mod SpelledLemmas
+pub mod ApartLemmas

@@ -1,1 +1,3 @@
 pub mod Marked
+pub mod Word
+pub mod Spelled

@@ -1,15 +1,24 @@
-//! The texts of the desk: the journal's lines written.
+//! The texts of the desk: commands read, and the journal's lines written.
 #![tactic(auto)]
 
+mod command_record;
 mod entry_line;
+mod field;
 mod line_text;
+mod one_statement;
 mod opening_line;
 mod reply_line;
+mod spelled_command;
 mod stated_line;
+mod word;
 
+pub use command_record::read_command;
 pub use entry_line::write_entry;
 pub use line_text::LineText;
+pub use one_statement::a_record_states_one_command;
 pub use opening_line::write_opening;
 
+#[cfg(test)]
+mod command_tests;
 #[cfg(test)]
 mod tests;

@@ -1,0 +1,129 @@
+-- Different values have different texts.
+use Rattle.std.proofs.Common.{◌≡◌, ◌∙◌, ℕ, ◌<◌, ◌^◌, Bool, true, false, inl, inr, nat_eq, List, [], ◌∷◌, get_or, drop, map, codes, decimal, refl, sym, ap, arith}
+use Rattle.std.specs.Cmp.Lexicographic.{pointwise}
+use Rattle.std.proofs.lemmas.Bool.{cases_Bool, false≢true}
+use Rattle.std.proofs.lemmas.Bool.Decides.{Decides-eqb}
+use Rattle.std.proofs.lemmas.Fmt.{decimal_injective}
+use Rattle.std.proofs.lemmas.Slice.Eq.{slice_eq-Decides}
+use Rattle.desk_base.specs.Number.{IsNumber}
+use Rattle.desk_base.specs.Month.{first_day}
+use Rattle.desk_base.specs.Day.{day_of}
+use Rattle.desk_base.specs.Minute.{minute_text, month_of}
+use Rattle.desk_base.specs.Parts.{parts_by}
+use Rattle.desk_base.proofs.TextLemmas.{minute_text_spells}
+use Rattle.qualifications.specs.declared.craft.Craft.{Craft}
+use Rattle.qualifications.specs.declared.craft.Craft.TheVariants as craft
+use Rattle.qualifications.specs.Craft.{craft_text}
+use Rattle.qualifications.specs.Quals.{quals_text}
+use Rattle.qualifications.proofs.NumbersLemmas.{AreBelow, AreLacked, AreLacked-other, bits_with, quals_text-dash}
+use Rattle.desk_model.specs.declared.command.Cmd.{Cmd}
+use Rattle.desk_model.specs.declared.command.Cmd.TheVariants as cmd
+use Rattle.desk_model.specs.Chain.{IsChain, chain_text}
+use Rattle.desk_model.specs.Job.{JobValue}
+use Rattle.desk_model.specs.Statement.{StatedValue, stated_of}
+use Rattle.desk_model.specs.Fits.{IsCommand, IsJob, IsStated}
+use Rattle.desk_model.specs.Texts.{sort_text, job_fields, command_fields, stated_fields}
+use Rattle.desk_model.proofs.ChainLemmas.{parts_by-chain_text}
+use Rattle.desk_text.specs.Spelled.{StatesCommand}
+use Rattle.desk_text.proofs.SpelledLemmas.{apart, job-of}
+
+number-one : (a b : ℕ) → IsNumber a → IsNumber b → decimal a ≡ decimal b → a ≡ b
+number-one a b ha hb e = decimal_injective a b (omega (arith, ha.1)) (omega (arith, hb.1)) e
+
+pub minute_text-one : (a b : ℕ) → minute_text a ≡ minute_text b → a ≡ b
+minute_text-one a b e =
+    let s = minute_text_spells (minute_text b) a (sym e) in
+    let t = minute_text_spells (minute_text b) b refl in
+    let month : month_of a ≡ month_of b = omega (arith, s.year, s.place, t.year, t.place) in
+    let day : day_of a ≡ day_of b = omega (arith, s.day, t.day, ap first_day month) in
+    omega (arith, day, s.hour, s.past, t.hour, t.past)
+
+craft_text-one : (a b : Craft) → craft_text a ≡ craft_text b → a ≡ b
+craft_text-one craft.E craft.E e = refl
+craft_text-one craft.C craft.C e = refl
+craft_text-one craft.B craft.B e = refl
+craft_text-one craft.E craft.C e = absurd (apart (codes "E") (codes "C") refl e)
+craft_text-one craft.E craft.B e = absurd (apart (codes "E") (codes "B") refl e)
+craft_text-one craft.C craft.E e = absurd (apart (codes "C") (codes "E") refl e)
+craft_text-one craft.C craft.B e = absurd (apart (codes "C") (codes "B") refl e)
+craft_text-one craft.B craft.E e = absurd (apart (codes "B") (codes "E") refl e)
+craft_text-one craft.B craft.C e = absurd (apart (codes "B") (codes "C") refl e)
+
+sort_text-one : (a b : Bool) → sort_text a ≡ sort_text b → a ≡ b
+sort_text-one true true e = refl
+sort_text-one false false e = refl
+sort_text-one true false e = absurd (apart (codes "extra") (codes "pool") refl e)
+sort_text-one false true e = absurd (apart (codes "pool") (codes "extra") refl e)
+
+chain_text-one : (a b : List (List ℕ)) → IsChain a → IsChain b → chain_text a ≡ chain_text b → a ≡ b
+chain_text-one a b ha hb e = sym (parts_by-chain_text a ha) ∙ ap (parts_by 43) e ∙ parts_by-chain_text b hb
+
+-- numbers of qualifications are told apart by their texts
+decimals-one : (ms ns : List ℕ) → AreBelow 64 ms → AreBelow 64 ns → map decimal ms ≡ map decimal ns → ms ≡ ns
+decimals-one [] [] hm hn e = refl
+decimals-one [] (n ∷ ns) hm hn e = let e = e in cc
+decimals-one (m ∷ ms) [] hm hn e = let e = e in cc
+decimals-one (m ∷ ms) (n ∷ ns) hm hn e =
+    let first = decimal_injective m n (omega (arith, hm.0)) (omega (arith, hn.0)) (ap (λ l. get_or l 0 []) e) in
+    let others = decimals-one ms ns hm.1 hn.1 (ap (λ l. drop 1 l) e) in
+    rw (first, others) refl
+
+quals_text-one : (a b : ℕ) → a < 2 ^ 64 → b < 2 ^ 64 → quals_text a ≡ quals_text b → a ≡ b
+quals_text-one a b ha hb e =
+    let dash = slice_eq-Decides Decides-eqb (quals_text b) (codes "-") _ refl in
+    elim (cases_Bool (pointwise nat_eq (quals_text b) (codes "-"))) [
+      | inl is ↦ let none = sym (dash.0 is) in sym (quals_text-dash a ha (none ∙ sym e)) ∙ quals_text-dash b hb none
+      | inr is ↦
+          let some : quals_text b ≡ codes "-" → ⊥ = λ none. false≢true (sym is ∙ dash.1 none) in
+          same (AreLacked-other a (quals_text b) ha (sym e) some) (AreLacked-other b (quals_text b) hb refl some)
+    ]
+  where
+    same : AreLacked a 0 (parts_by 43 (quals_text b)) → AreLacked b 0 (parts_by 43 (quals_text b)) → a ≡ b
+    same (ms, em, hm, bm) (ns, en, hn, bn) = sym bm ∙ ap (bits_with 0) (decimals-one ms ns hm hn (sym em ∙ en)) ∙ bn
+
+job_fields-one : (a b : JobValue) → IsJob a → IsJob b → job_fields a ≡ job_fields b → a ≡ b
+job_fields-one a b ha hb e =
+    let vac = number-one a.vac b.vac ha.vac hb.vac (ap (λ l. get_or l 0 []) e) in
+    let craft = craft_text-one a.craft b.craft (ap (λ l. get_or l 1 []) e) in
+    let quals = quals_text-one a.quals b.quals ha.quals hb.quals (ap (λ l. get_or l 2 []) e) in
+    let place : a.place ≡ b.place = ap (λ l. get_or l 3 []) e in
+    let report = minute_text-one a.report b.report (ap (λ l. get_or l 4 []) e) in
+    let duty = decimal_injective a.duty b.duty (omega (arith, ha.plan.most)) (omega (arith, hb.plan.most)) (ap (λ l. get_or l 5 []) e) in
+    let limbo = decimal_injective a.limbo b.limbo (omega (arith, ha.plan.limbo_most)) (omega (arith, hb.plan.limbo_most)) (ap (λ l. get_or l 6 []) e) in
+    let chain = chain_text-one a.chain b.chain ha.chain hb.chain (ap (λ l. get_or l 7 []) e) in
+    job-of b a.vac a.craft a.quals a.place a.report a.duty a.limbo a.chain vac craft quals place report duty limbo chain
+
+command_fields-one : (a b : Cmd) → IsCommand a → IsCommand b → command_fields a ≡ command_fields b → a ≡ b
+command_fields-one (cmd.Enrol p c h q) (cmd.Enrol p' c' h' q') ha hb e =
+    let person = number-one p p' ha.0 hb.0 (ap (λ l. get_or l 1 []) e) in
+    let craft = craft_text-one c c' (ap (λ l. get_or l 2 []) e) in
+    let home : h ≡ h' = ap (λ l. get_or l 3 []) e in
+    let quals = quals_text-one q q' ha.2 hb.2 (ap (λ l. get_or l 4 []) e) in
+    rw (person, craft, home, quals) refl
+command_fields-one (cmd.Enrol p c h q) other ha hb e = absurd (apart (codes "enrol") (get_or (command_fields other) 0 []) refl (ap (λ l. get_or l 0 []) e))
+command_fields-one (cmd.Board b x p) (cmd.Board b' x' p') ha hb e =
+    let board : b ≡ b' = ap (λ l. get_or l 1 []) e in
+    let extra = sort_text-one x x' (ap (λ l. get_or l 2 []) e) in
+    let place : p ≡ p' = ap (λ l. get_or l 3 []) e in
+    rw (board, extra, place) refl
+command_fields-one (cmd.Board b x p) other ha hb e = absurd (apart (codes "board") (get_or (command_fields other) 0 []) refl (ap (λ l. get_or l 0 []) e))
+command_fields-one (cmd.List p b) (cmd.List p' b') ha hb e =
+    let person = number-one p p' ha.0 hb.0 (ap (λ l. get_or l 1 []) e) in
+    let board : b ≡ b' = ap (λ l. get_or l 2 []) e in
+    rw (person, board) refl
+command_fields-one (cmd.List p b) other ha hb e = absurd (apart (codes "list") (get_or (command_fields other) 0 []) refl (ap (λ l. get_or l 0 []) e))
+command_fields-one (cmd.Vacancy job) (cmd.Vacancy job') ha hb e = ap cmd.Vacancy (job_fields-one job job' ha hb (ap (λ l. drop 1 l) e))
+command_fields-one (cmd.Vacancy job) other ha hb e = absurd (apart (codes "vacancy") (get_or (command_fields other) 0 []) refl (ap (λ l. get_or l 0 []) e))
+command_fields-one (cmd.Next v) (cmd.Next v') ha hb e = ap cmd.Next (number-one v v' ha hb (ap (λ l. get_or l 1 []) e))
+command_fields-one (cmd.Next v) other ha hb e = absurd (apart (codes "next") (get_or (command_fields other) 0 []) refl (ap (λ l. get_or l 0 []) e))
+
+-- fields state one thing at most
+pub stated_fields-one : (s t : StatedValue) → IsStated s → IsStated t → stated_fields s ≡ stated_fields t → s ≡ t
+stated_fields-one s t hs ht e =
+    let minute = minute_text-one s.minute t.minute (ap (λ l. get_or l 0 []) e) in
+    let command = command_fields-one s.cmd t.cmd hs.cmd ht.cmd (ap (λ l. drop 1 l) e) in
+    let same : stated_of s.minute s.cmd ≡ stated_of t.minute t.cmd = rw (minute, command) refl in
+    same
+
+pub StatesCommand-one : (fields : List (List ℕ)) (s t : StatedValue) → StatesCommand fields s → StatesCommand fields t → s ≡ t
+StatesCommand-one fields s t is also = stated_fields-one s t is.valid also.valid (sym is.fields_are ∙ also.fields_are)

@@ -1,0 +1,12 @@
+-- The words of commands.
+use Rattle.std.specs.Prelude.{ℕ, List, codes}
+use Rattle.desk_text.specs.declared.word.Word.{Word}
+use Rattle.desk_text.specs.declared.word.Word.TheVariants as word
+
+-- the word as it is written
+abbrev pub word_text : Word → List ℕ
+word_text word.Enrol = codes "enrol"
+word_text word.Board = codes "board"
+word_text word.List = codes "list"
+word_text word.Vacancy = codes "vacancy"
+word_text word.Next = codes "next"

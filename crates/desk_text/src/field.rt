@@ -1,0 +1,46 @@
+//! Single fields of a record, read.
+ghost use Rattle.std.specs.Prelude.{◌≡◌, ◌<◌, ◌^◌, ℕ, Bool, decimal, IfSome};
+ghost use Rattle.desk_base.specs.Number.{IsNumber};
+ghost use Rattle.desk_model.specs.Texts.{sort_text};
+
+use desk_base::{PersonNo, VacNo, read_decimal};
+
+/// The person whose number a field spells in decimal, 1 to 9,999,999.
+pub fn read_person(text: &[u8]) -> Option<PersonNo>
+    ensures some { IfSome result (λ person. IsNumber person × (text.now ≡ decimal person)) }
+    ensures only { (person : ℕ) → IsNumber person → text.now ≡ decimal person
+        → result ≡ Some person }
+{
+    PersonNo::new(read_decimal(text)?)
+}
+
+/// The vacancy whose number a field spells in decimal, 1 to 9,999,999.
+pub fn read_vac(text: &[u8]) -> Option<VacNo>
+    ensures some { IfSome result (λ vac. IsNumber vac × (text.now ≡ decimal vac)) }
+    ensures only { (vac : ℕ) → IsNumber vac → text.now ≡ decimal vac → result ≡ Some vac }
+{
+    VacNo::new(read_decimal(text)?)
+}
+
+/// The minutes, below 2^16, that a field spells in decimal.
+pub fn read_minutes(text: &[u8]) -> Option<u16>
+    ensures some { IfSome result (λ minutes. text.now ≡ decimal minutes) }
+    ensures only { (minutes : ℕ) → minutes < 2 ^ 16 → text.now ≡ decimal minutes
+        → result ≡ Some minutes }
+{
+    u16::try_from(read_decimal(text)?).ok()
+}
+
+/// Whether a board is an extra board, which a field spells as `extra` or `pool`.
+pub fn read_extra(text: &[u8]) -> Option<bool>
+    ensures some { IfSome result (λ extra. text.now ≡ sort_text extra) }
+    ensures only { (extra : Bool) → text.now ≡ sort_text extra → result ≡ Some extra }
+{
+    if text == b"extra".as_slice() {
+        Some(true)
+    } else if text == b"pool".as_slice() {
+        Some(false)
+    } else {
+        None
+    }
+}
