@@ -1,4 +1,7 @@
 pub mod RecordLemmas
 pub mod OpeningLemmas
+pub mod DayLemmas
+pub mod DayFileLemmas
+pub mod JournalLemmas
 pub mod ReplayLemmas
 pub mod WordsLemmas

@@ -1,10 +1,18 @@
 -- Day files: an opening, and commands after it.
-use Rattle.std.specs.Prelude.{◌≡◌, ℕ, List, ◌∷◌, decimal}
+use Rattle.std.specs.Prelude.{◌≡◌, ℕ, ◌<◌, ◌≤◌, List, ◌∷◌, length, map, decimal}
+use Rattle.std.specs.List.{All, Contains}
 use Rattle.desk_base.specs.Month.{month_text}
 use Rattle.desk_base.specs.Minute.{minute_text}
 use Rattle.desk_base.specs.Window.{WindowValue, IsWindow}
 use Rattle.desk_model.specs.Opening.{OpeningValue, IsOpening, opening_fields}
+use Rattle.desk_model.specs.Statement.{StatedValue}
+use Rattle.desk_model.specs.Fits.{IsStated}
+use Rattle.desk_model.specs.Texts.{stated_fields}
 use Rattle.crewdesk_main.specs.Records.{records, fields_of}
+
+-- how many records a day file may have: its opening and 200,000 commands
+abbrev pub record_limit : ℕ
+record_limit = 200_001
 
 -- the record is this opening's
 pub record IsOpeningRecord (bytes : List ℕ) (o : OpeningValue) : Type 0 where
@@ -24,16 +32,38 @@ pub record SpellsOpening (start month months answer : List ℕ) (o : OpeningValu
   pub window_is : SpellsWindow month months o.window
   pub answer_is : answer ≡ decimal o.answer
 
--- the first record is this opening's, and these records come after it
-pub record IsDayFile (bytes : List ℕ) (o : OpeningValue) (commands : List (List ℕ)) : Type 0 where
+-- the record states this command
+pub record IsCommandRecord (bytes : List ℕ) (s : StatedValue) : Type 0 where
+  pub valid : IsStated s
+  pub fields : fields_of bytes ≡ stated_fields s
+
+-- the first record is this opening's, and those after it state these commands, in their order
+pub record IsDayFile (bytes : List ℕ) (o : OpeningValue) (commands : List StatedValue) : Type 0 where
   pub first : List ℕ
+  pub rest : List (List ℕ)
+  pub parts : records bytes ≡ first ∷ rest
+  pub few : length (records bytes) ≤ record_limit
   pub opening : IsOpeningRecord first o
-  pub parts : records bytes ≡ first ∷ commands
+  pub valid : All IsStated commands
+  pub fields : map fields_of rest ≡ map stated_fields commands
 
--- the first record is no opening's
-abbrev pub HasNoOpening : List ℕ → Type 0
-HasNoOpening bytes = (o : OpeningValue) (commands : List (List ℕ)) → ¬ IsDayFile bytes o commands
+-- there are more records than a day file may have
+abbrev pub HasTooMany : List ℕ → Type 0
+HasTooMany bytes = record_limit < length (records bytes)
 
--- a record comes after an opening
-abbrev pub HasCommand : List ℕ → Type 0
-HasCommand bytes = (o : OpeningValue) × ((command : List ℕ) × ((commands : List (List ℕ)) × IsDayFile bytes o (command ∷ commands)))
+-- the first record is no opening's, or there is none
+pub record HasNoOpening (bytes : List ℕ) : Type 0 where
+  pub few : length (records bytes) ≤ record_limit
+  pub none : (first : List ℕ) (rest : List (List ℕ)) → records bytes ≡ first ∷ rest → (o : OpeningValue) → ¬ IsOpeningRecord first o
+
+-- a record after the opening states no command
+pub record HasUnreadable (bytes : List ℕ) : Type 0 where
+  pub first : List ℕ
+  pub rest : List (List ℕ)
+  pub parts : records bytes ≡ first ∷ rest
+  pub few : length (records bytes) ≤ record_limit
+  pub o : OpeningValue
+  pub opening : IsOpeningRecord first o
+  pub bad : List ℕ
+  pub among : Contains rest bad
+  pub wrong : (s : StatedValue) → ¬ IsCommandRecord bad s

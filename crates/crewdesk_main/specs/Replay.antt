@@ -1,8 +1,11 @@
 -- What a replay reads and writes.
-use Rattle.std.specs.Prelude.{◌≡◌, ℕ, ◌≤◌, Bool, true, false, Option, None, Some, List, [], length, ⊤}
+use Rattle.std.specs.Prelude.{◌≡◌, ℕ, ◌≤◌, Bool, true, false, Option, None, Some, List, [], length, map, ⊤}
 use Rattle.desk_io.specs.declared.status.Status.{Status}
 use Rattle.desk_io.specs.declared.status.Status.TheVariants.{Fine, Usage, ReadFault, WriteFault, TooLong, NoMemory, AuditWrong, NoOpening, Unreadable}
 use Rattle.desk_model.specs.Opening.{OpeningValue, IsOpening}
+use Rattle.desk_model.specs.Statement.{StatedValue}
+use Rattle.desk_model.specs.Entry.{EntryValue}
+use Rattle.desk_model.specs.Legal.{IsLegal, given, history}
 use Rattle.desk_model.specs.Journal.{journal}
 use Rattle.crewdesk_main.specs.DayFile.{IsDayFile}
 
@@ -15,20 +18,37 @@ abbrev pub WasRead : Option (List ℕ) → Option (List ℕ) → ℕ → (List �
 WasRead None left limit P = ⊤
 WasRead (Some bytes) left limit P = (length bytes ≤ limit) × (left ≡ Some []) × P bytes
 
--- a day file without commands was read, and this was done with its journal
+-- stated by caller 0, as a day file's commands are
+abbrev pub by_the_day_file : StatedValue → ℕ × StatedValue
+by_the_day_file s = (0, s)
+
+-- the history of a desk that was opened so and is given these commands by the day file
+abbrev pub day_history : OpeningValue → List StatedValue → List EntryValue
+day_history o commands = history o (map by_the_day_file commands)
+
+-- a legal history of a desk that was opened so, whose entries have these commands in order, each once, with caller 0
+pub record IsReplay (o : OpeningValue) (commands : List StatedValue) (h : List EntryValue) : Type 0 where
+  pub legal : IsLegal o h
+  pub given : map given h ≡ map by_the_day_file commands
+
+-- a day file was read, and this was done with the journal of its replay
 pub record Replays (before after : Option (List ℕ)) (limit : ℕ) (Writes : List ℕ → Type 0) : Type 0 where
   pub opening : OpeningValue
   pub valid : IsOpening opening
-  pub read : WasRead before after limit (λ bytes. IsDayFile bytes opening [])
-  pub written : Writes (journal opening [])
+  pub commands : List StatedValue
+  pub read : WasRead before after limit (λ bytes. IsDayFile bytes opening commands)
+  pub history : List EntryValue
+  pub replay : IsReplay opening commands history
+  pub written : Writes (journal opening history)
 
--- the source tells a day file within the limit that can be replayed
+-- the source tells a day file within the limit
 pub record IsReplayable (left : Option (List ℕ)) (limit : ℕ) : Type 0 where
   pub bytes : List ℕ
   pub told : left ≡ Some bytes
   pub within : length bytes ≤ limit
   pub opening : OpeningValue
-  pub day : IsDayFile bytes opening []
+  pub commands : List StatedValue
+  pub day : IsDayFile bytes opening commands
 
 -- the ways to end in which the sink was given something
 abbrev pub writes : Status → Bool

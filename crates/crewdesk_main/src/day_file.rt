@@ -1,34 +1,119 @@
-ghost use Rattle.std.specs.Prelude.{[], ◌∷◌, ℕ, List, IfOk, IsErrOf};
+//! Day files.
+ghost use Rattle.std.specs.Prelude.{◌≡◌, ◌≤◌, ◌<◌, ℕ, List, length, map, IfSome, IfNone, IfOk, IsErrOf};
+ghost use Rattle.std.specs.List.{All, Contains};
+ghost use Rattle.std.specs.Result.{IsOkUnless};
 ghost use Rattle.desk_model.specs.Opening.{OpeningValue};
-ghost use Rattle.crewdesk_main.specs.DayFile.{IsDayFile, HasNoOpening, HasCommand};
+ghost use Rattle.desk_model.specs.Statement.{StatedValue};
+ghost use Rattle.desk_model.specs.Fits.{IsStated};
+ghost use Rattle.desk_model.specs.Texts.{stated_fields};
+ghost use Rattle.crewdesk_main.specs.Records.{records, fields_of};
+ghost use Rattle.crewdesk_main.specs.DayFile.{IsCommandRecord, IsDayFile, HasTooMany, HasNoOpening, HasUnreadable, record_limit};
 
+use crate::command_record::read_stated;
 use crate::opening_record::read_opening;
 use crate::records::next_record;
-use desk_model::Opening;
+use desk_model::{Opening, Stated};
+use std::alloc::Global;
+
+/// How many records a day file may have: its opening and 200,000 commands.
+pub const RECORDS: usize = 200_001;
+
+/// A day file: how the desk was opened, and what it was told and asked then, in order.
+#[derive(Drop)]
+pub struct DayFile {
+    /// The opening, its first record.
+    pub opening: Opening,
+    /// The commands of the records after it.
+    pub commands: Vec<Stated>,
+}
 
 /// Why bytes are no day file that can be replayed.
 #[derive(Clone, Copy, Debug, PartialEq, Eq)]
 pub enum DayFault {
+    /// There are more records than a day file may have.
+    TooMany,
     /// The first record is no valid opening.
     NoOpening,
-    /// A record after the opening is no command; none is known yet.
+    /// A record after the opening states no command.
     Unreadable,
+    /// There is no memory for the commands.
+    NoMemory,
 }
 
-/// The opening of a day file that holds its opening alone.
-pub fn read_day(bytes: &[u8]) -> Result<Opening, DayFault>
-    ensures ok { IfOk result (λ opening. IsDayFile bytes.now opening []) }
+/// The day file that the bytes are. Of the faults the first that holds is told, in the order in which `DayFault`
+/// has them.
+pub fn read_day(alloc: Global, bytes: &[u8]) -> Result<DayFile, DayFault>
+    ensures ok { IfOk result (λ day. IsDayFile bytes.now day.opening day.commands.items) }
+    ensures too_many { IsErrOf result DayFault.TooMany → HasTooMany bytes.now }
     ensures no_opening { IsErrOf result DayFault.NoOpening → HasNoOpening bytes.now }
-    ensures unreadable { IsErrOf result DayFault.Unreadable → HasCommand bytes.now }
+    ensures unreadable { IsErrOf result DayFault.Unreadable → HasUnreadable bytes.now }
+
+    // A day file is read, unless memory is wanting.
+    ensures reads { (opening : OpeningValue) (commands : List StatedValue)
+        → IsDayFile bytes.now opening commands → IsOkUnless result DayFault.NoMemory }
 {
+    let Some(count) = count_records(bytes) else {
+        return Err(DayFault::TooMany);
+    };
     let Some((first, rest)) = next_record(bytes) else {
         return Err(DayFault::NoOpening);
     };
     let Some(opening) = read_opening(first) else {
         return Err(DayFault::NoOpening);
     };
-    if next_record(rest).is_some() {
-        return Err(DayFault::Unreadable);
+    let commands = read_commands(alloc, rest, count - 1)?;
+    Ok(DayFile { opening, commands })
+}
+
+/// Bytes are one day file at most. It does nothing: its clause is the law.
+pub fn bytes_are_one_day_file()
+    ensures { (bytes : List ℕ) (o p : OpeningValue) (cs ds : List StatedValue)
+        → IsDayFile bytes o cs → IsDayFile bytes p ds → (o ≡ p) × (cs ≡ ds) }
+{}
+
+// How many records the bytes have; `None` where these are more than a day file may have.
+fn count_records(bytes: &[u8]) -> Option<usize>
+    ensures some { IfSome result (λ count. count ≡ length (records bytes.now)) }
+    ensures few { IfSome result (λ count. count ≤ record_limit) }
+    ensures none { IfNone result (record_limit < length (records bytes.now)) }
+{
+    let mut count = 0;
+    let mut rest = bytes;
+    while let Some((_, after)) = next_record(rest) {
+        if count == RECORDS {
+            return None;
+        }
+        count += 1;
+        rest = after;
     }
-    Ok(opening)
+    Some(count)
+}
+
+// The commands of the bytes' records, of which there are so many.
+fn read_commands(alloc: Global, bytes: &[u8], count: usize) -> Result<Vec<Stated>, DayFault>
+    requires { length (records bytes.now) ≡ count }
+    ensures valid { IfOk result (λ commands. All IsStated commands.items) }
+    ensures fields { IfOk result (λ commands.
+        map fields_of (records bytes.now) ≡ map stated_fields commands.items) }
+    ensures unreadable { IsErrOf result DayFault.Unreadable
+        → (bad : List ℕ) × Contains (records bytes.now) bad
+        × ((s : StatedValue) → ¬ IsCommandRecord bad s) }
+    ensures reads { (commands : List StatedValue) → All IsStated commands
+        → map fields_of (records bytes.now) ≡ map stated_fields commands
+        → IsOkUnless result DayFault.NoMemory }
+    ensures too_many { ¬ IsErrOf result DayFault.TooMany }
+    ensures no_opening { ¬ IsErrOf result DayFault.NoOpening }
+{
+    let Ok(mut commands) = Vec::with_capacity(alloc, count) else {
+        return Err(DayFault::NoMemory);
+    };
+    let mut rest = bytes;
+    while let Some((record, after)) = next_record(rest) {
+        let Some(stated) = read_stated(record) else {
+            return Err(DayFault::Unreadable);
+        };
+        commands.push_reserved(stated);
+        rest = after;
+    }
+    Ok(commands)
 }

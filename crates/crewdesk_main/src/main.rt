@@ -6,7 +6,9 @@ ghost use Rattle.std.specs.Io.KnownBytes.{Appends, Keeps};
 ghost use Rattle.crewdesk_main.specs.Words.{is_form, is_replay};
 ghost use Rattle.crewdesk_main.specs.Replay.{Replays, day_file_limit, writes};
 
+mod command_record;
 mod day_file;
+mod journal;
 mod opening_record;
 mod records;
 mod replay;
@@ -81,5 +83,9 @@ fn perform<S: Source, K: Sink>(
     }
 }
 
+#[cfg(test)]
+mod day_file_tests;
+#[cfg(test)]
+mod replay_tests;
 #[cfg(test)]
 mod tests;

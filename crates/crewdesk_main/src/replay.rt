@@ -3,23 +3,23 @@ ghost use Rattle.std.specs.Io.KnownBytes.{Appends, Keeps};
 ghost use Rattle.desk_io.specs.Faults.{Rose};
 ghost use Rattle.desk_io.specs.Giving.{AddsFront};
 ghost use Rattle.desk_io.specs.Input.{TookMore, TookFront};
-ghost use Rattle.crewdesk_main.specs.DayFile.{HasNoOpening, HasCommand};
+ghost use Rattle.desk_model.specs.Journal.{journal};
+ghost use Rattle.crewdesk_main.specs.DayFile.{HasTooMany, HasNoOpening, HasUnreadable};
 ghost use Rattle.crewdesk_main.specs.Words.{is_replay};
-ghost use Rattle.crewdesk_main.specs.Replay.{Replays, IsReplayable, WasRead, day_file_limit, writes};
+ghost use Rattle.crewdesk_main.specs.Replay.{Replays, IsReplayable, WasRead, day_file_limit, day_history, writes};
 
-use crate::day_file::{DayFault, read_day};
+use crate::day_file::{DayFault, DayFile, read_day};
+use crate::journal::write_journal;
 use crate::words::is_alone;
-use crate::write_text::write_text;
 use desk_io::{Sink, Source, Status, take_all};
-use desk_text::write_opening;
+use plain_core::PlainCore;
 use std::alloc::Global;
 
 /// How many bytes a day file may have.
 pub const DAY_FILE_BYTES: usize = 16_777_216;
 
-/// Runs the desk. With the word `replay` alone it reads a day file from the source and writes the journal to the
-/// sink: for now the line of the opening, which is all that a day file may hold. It reads all of its input before
-/// it writes anything.
+/// Runs the desk. With the word `replay` alone it reads a day file from the source, replays its commands and writes
+/// the journal to the sink. It reads all of its input, and takes all memory for the replay, before it writes anything.
 pub fn run<S: Source, K: Sink>(
     alloc: Global,
     words: &[String],
@@ -46,13 +46,14 @@ pub fn run<S: Source, K: Sink>(
     ensures read_cause { result ≡ Status.ReadFault
         → Rose (S.faults source.old) (S.faults source.new) }
     ensures too_long { result ≡ Status.TooLong
-        → TookMore (S.left source.old) (S.left source.new) day_file_limit }
+        → TookMore (S.left source.old) (S.left source.new) day_file_limit
+        ⊎ WasRead (S.left source.old) (S.left source.new) day_file_limit HasTooMany }
     ensures not_too_long { result ≢ Status.TooLong
         → TookFront (S.left source.old) (S.left source.new) day_file_limit }
     ensures no_opening { result ≡ Status.NoOpening
         → WasRead (S.left source.old) (S.left source.new) day_file_limit HasNoOpening }
     ensures unreadable { result ≡ Status.Unreadable
-        → WasRead (S.left source.old) (S.left source.new) day_file_limit HasCommand }
+        → WasRead (S.left source.old) (S.left source.new) day_file_limit HasUnreadable }
     ensures audit_wrong { result ≢ Status.AuditWrong }
 
     // A day file is replayed, unless memory or a fault is in the way.
@@ -69,9 +70,36 @@ pub fn run<S: Source, K: Sink>(
         Ok(bytes) => bytes,
         Err(fault) => return Status::from(fault),
     };
-    match read_day(&bytes) {
-        Ok(opening) => write_text(sink, write_opening(&opening).as_slice()),
+    match read_day(alloc, &bytes) {
+        Ok(day) => replay_day(alloc, &day, sink),
+        Err(DayFault::TooMany) => Status::TooLong,
         Err(DayFault::NoOpening) => Status::NoOpening,
         Err(DayFault::Unreadable) => Status::Unreadable,
+        Err(DayFault::NoMemory) => Status::NoMemory,
+    }
+}
+
+// Replays the day file's commands on a new desk and writes the journal. `NoMemory` comes before anything is written.
+fn replay_day<K: Sink>(alloc: Global, day: &DayFile, sink: &mut K) -> Status
+    ensures fine { result ≡ Status.Fine → Appends (K.held sink.old) (K.held sink.new)
+        (journal day.now.opening (day_history day.now.opening day.now.commands.items)) }
+    ensures write_fault { result ≡ Status.WriteFault
+        → AddsFront (K.held sink.old) (K.held sink.new)
+        (journal day.now.opening (day_history day.now.opening day.now.commands.items)) }
+    ensures silent { result ≡ Status.NoMemory → Keeps (K.held sink.old) (K.held sink.new) }
+    ensures silent_faults { result ≡ Status.NoMemory → K.faults sink.new ≡ K.faults sink.old }
+    ensures later { K.faults sink.old ≤ K.faults sink.new }
+    ensures write_cause { result ≡ Status.WriteFault
+        → Rose (K.faults sink.old) (K.faults sink.new) }
+    ensures only { (result ≡ Status.Fine) ⊎ ((result ≡ Status.WriteFault) ⊎ (result ≡ Status.NoMemory)) }
+{
+    let steps = day.commands.len() as u64;
+    let Ok(mut core) = PlainCore::new(alloc, day.opening, steps) else {
+        return Status::NoMemory;
+    };
+    if write_journal(&mut core, &day.opening, &day.commands, sink) {
+        Status::Fine
+    } else {
+        Status::WriteFault
     }
 }

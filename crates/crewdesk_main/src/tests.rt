@@ -7,7 +7,7 @@ use std::test::Fail;
 
 const OPENING: &[u8] = b"2024-03-04 00:00,open,2024-03,1,15\n";
 
-fn words_of(alloc: Global, list: &[&str]) -> Result<Vec<String>, AllocError> {
+pub fn words_of(alloc: Global, list: &[&str]) -> Result<Vec<String>, AllocError> {
     let mut words = Vec::new(alloc);
     for word in list {
         words.push(String::from_str(alloc, word)?)?;

@@ -1,16 +1,22 @@
-use Rattle.std.proofs.Common.{◌≤◌, ◌∙◌, ap, subst, [], length, Err, arith}
-use Rattle.crewdesk_main.specs.DayFile.{HasNoOpening}
-use Rattle.crewdesk_main.proofs.ReplayLemmas.{WasRead-TookAll, TookAll-told}
+use Rattle.std.proofs.Common.{ap, subst, Err, arith}
+use Rattle.std.specs.Io.KnownBytes.{Appends}
+use Rattle.desk_io.specs.Giving.{AddsFront}
+use Rattle.crewdesk_main.specs.DayFile.{HasUnreadable}
+use Rattle.crewdesk_main.proofs.DayFileLemmas.{IsDayFile-readable}
+use Rattle.crewdesk_main.proofs.ReplayLemmas.{Replays-TookAll, IsReplayable-without}
 use Rattle.crewdesk_main.proofs.replay.run.Goals as goal
 
-pub returns-in-Err-NoOpening-clause-no_opening : goal.returns-in-Err-NoOpening-clause-no_opening
-returns-in-Err-NoOpening-clause-no_opening g c = λ _.
-    let none = c.in-Err-NoOpening.ensures.no_opening (ap Err c.in-Err-NoOpening.field-0-is) in
-    let within : length c.in-Ok.bytes.items ≤ 16_777_216 = omega (arith, c.in-Ok.ensures.bounded, c.in-Ok.bytes.ok.0) in
-    WasRead-TookAll _ _ c.in-Ok.bytes.items _ HasNoOpening c.in-Ok.ensures.whole within (subst HasNoOpening c.deref.ensures.value none)
+pub returns-in-Ok-read_day-clause-fine : goal.returns-in-Ok-read_day-clause-fine
+returns-in-Ok-read_day-clause-fine g c = λ fine.
+    Replays-TookAll _ _ c.in-Ok.bytes.items _ 16_777_216 _ _ (Appends _ _) c.in-Ok.ensures.whole (omega (arith, c.in-Ok.ensures.bounded, c.in-Ok.bytes.ok.0))
+    c.deref.ensures.value c.in-Ok-read_day.ensures.ok (c.replay_day.ensures.fine fine)
 
-pub returns-in-Err-NoOpening-clause-complete : goal.returns-in-Err-NoOpening-clause-complete
-returns-in-Err-NoOpening-clause-complete g c = λ words day source sink.
-    let none = c.in-Err-NoOpening.ensures.no_opening (ap Err c.in-Err-NoOpening.field-0-is) in
-    let same = c.deref.ensures.value ∙ TookAll-told _ _ _ _ c.in-Ok.ensures.whole day.told in
-    absurd (subst HasNoOpening same none day.opening [] day.day)
+pub returns-in-Ok-read_day-clause-write_fault : goal.returns-in-Ok-read_day-clause-write_fault
+returns-in-Ok-read_day-clause-write_fault g c = λ fault.
+    Replays-TookAll _ _ c.in-Ok.bytes.items _ 16_777_216 _ _ (AddsFront _ _) c.in-Ok.ensures.whole (omega (arith, c.in-Ok.ensures.bounded, c.in-Ok.bytes.ok.0))
+    c.deref.ensures.value c.in-Ok-read_day.ensures.ok (c.replay_day.ensures.write_fault fault)
+
+pub returns-in-Err-Unreadable-clause-complete : goal.returns-in-Err-Unreadable-clause-complete
+returns-in-Err-Unreadable-clause-complete g c = λ words day source sink.
+    let unreadable = c.in-Err-Unreadable.ensures.unreadable (ap Err c.in-Err-Unreadable.field-0-is) in
+    absurd (IsReplayable-without _ _ _ _ HasUnreadable IsDayFile-readable c.in-Ok.ensures.whole day (subst HasUnreadable c.deref.ensures.value unreadable))

@@ -1,0 +1,13 @@
+use Rattle.std.proofs.Common.{◌≡◌, ◌≤◌, ◌+◌, length}
+use Rattle.crewdesk_main.specs.Records.{records}
+use Rattle.crewdesk_main.specs.DayFile.{record_limit}
+use Rattle.crewdesk_main.proofs.day_file.count_records.Given as goal
+
+abbrev pub invariant-loop-after : goal.invariant-loop-after
+invariant-loop-after l = record {
+  counted : l.count + length (records l.rest) ≡ length (records l.fn.bytes);
+  few : l.count ≤ record_limit;
+}
+
+abbrev pub decreases-loop-after : goal.decreases-loop-after
+decreases-loop-after l = length (records l.rest)
