@@ -14,7 +14,7 @@ $(PROGRAM): $(SOURCES)
 	cp crates/crewdesk_main/out/crewdesk_main $@
 
 run: $(PROGRAM)
-	$(PROGRAM) replay < examples/opening_alone/stdin
+	$(PROGRAM) replay < examples/first_offer/stdin
 
 test:
 	rt ci

@@ -14,7 +14,7 @@ use Rattle.desk_model.specs.Fits.{IsStated}
 use Rattle.desk_model.specs.Texts.{stated_fields}
 use Rattle.desk_text.proofs.ApartLemmas.{minute_text-one, stated_fields-one}
 use Rattle.crewdesk_main.specs.Records.{fields_of}
-use Rattle.crewdesk_main.specs.DayFile.{IsCommandRecord, IsDayFile}
+use Rattle.crewdesk_main.specs.DayFile.{IsCommandRecord, IsDayFile, HasUnreadable}
 
 -- of all the records some were read, which state these commands, and the others are left
 pub record HasRead (all left : List (List ℕ)) (commands : List StatedValue) : Type 0 where
@@ -51,6 +51,17 @@ states-each all commands valid fields text among =
         fields = ap fields_of (sym among.2) ∙ sym (get_or-map fields_of all k text [] among.1) ∙ ap (λ l. get_or l k []) fields ∙ get_or-map stated_fields commands k d [] lt;
       },
     )
+
+-- two ways to part a list into its first and the others are one
+rest-unique : {X : Type 0} (xs : List X) (x y : X) (ys zs : List X) → xs ≡ x ∷ ys → xs ≡ y ∷ zs → ys ≡ zs
+rest-unique xs x y ys zs e f = cc
+
+-- a day file has no unreadable record
+pub IsDayFile-readable : (bytes : List ℕ) (o : OpeningValue) (commands : List StatedValue) → IsDayFile bytes o commands → ¬ HasUnreadable bytes
+IsDayFile-readable bytes o commands day un =
+    let rest = rest-unique _ un.first day.first un.rest day.rest un.parts day.parts in
+    let states = states-each day.rest commands day.valid day.fields un.bad (subst (λ xs. Contains xs un.bad) rest un.among) in
+    un.wrong states.0 states.1
 
 -- ---- bytes are one day file at most
 

@@ -1,7 +1,6 @@
 pub mod RecordLemmas
 pub mod OpeningLemmas
 pub mod DayLemmas
-pub mod DayFileLemmas
 pub mod JournalLemmas
 pub mod ReplayLemmas
 pub mod WordsLemmas

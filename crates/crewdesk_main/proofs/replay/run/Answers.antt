@@ -2,7 +2,7 @@ use Rattle.std.proofs.Common.{ap, subst, Err, arith}
 use Rattle.std.specs.Io.KnownBytes.{Appends}
 use Rattle.desk_io.specs.Giving.{AddsFront}
 use Rattle.crewdesk_main.specs.DayFile.{HasUnreadable}
-use Rattle.crewdesk_main.proofs.DayFileLemmas.{IsDayFile-readable}
+use Rattle.crewdesk_main.proofs.DayLemmas.{IsDayFile-readable}
 use Rattle.crewdesk_main.proofs.ReplayLemmas.{Replays-TookAll, IsReplayable-without}
 use Rattle.crewdesk_main.proofs.replay.run.Goals as goal
 
