@@ -1,13 +1,17 @@
 -- What a replay reads and writes.
-use Rattle.std.specs.Prelude.{◌≡◌, ℕ, ◌≤◌, Bool, true, false, Option, None, Some, List, [], length, map, ⊤}
+use Rattle.std.specs.Prelude.{◌≡◌, ◌≢◌, ◌⊎◌, ℕ, ◌≤◌, Bool, true, false, Option, None, Some, List, [], length, map, ⊤}
 use Rattle.desk_io.specs.declared.status.Status.{Status}
 use Rattle.desk_io.specs.declared.status.Status.TheVariants.{Fine, Usage, ReadFault, WriteFault, TooLong, NoMemory, AuditWrong, NoOpening, Unreadable}
+use Rattle.std.specs.Io.KnownBytes.{Appends}
+use Rattle.desk_io.specs.Faults.{Rose}
+use Rattle.desk_io.specs.Giving.{AddsFront}
+use Rattle.desk_io.specs.Input.{TookMore, TookFront}
 use Rattle.desk_model.specs.Opening.{OpeningValue, IsOpening}
 use Rattle.desk_model.specs.Statement.{StatedValue}
 use Rattle.desk_model.specs.Entry.{EntryValue}
 use Rattle.desk_model.specs.Legal.{IsLegal, given, history}
 use Rattle.desk_model.specs.Journal.{journal}
-use Rattle.crewdesk_main.specs.DayFile.{IsDayFile}
+use Rattle.crewdesk_main.specs.DayFile.{IsDayFile, HasTooMany, HasNoOpening, HasUnreadable}
 
 -- how many bytes a day file may have
 abbrev pub day_file_limit : ℕ
@@ -49,6 +53,19 @@ pub record IsReplayable (left : Option (List ℕ)) (limit : ℕ) : Type 0 where
   pub opening : OpeningValue
   pub commands : List StatedValue
   pub day : IsDayFile bytes opening commands
+
+-- a run that ended so did what a replay that ends so does: what its source and sink told before and after, and how many
+-- faults they counted
+pub record EndsReplay (result : Status) (left left' : Option (List ℕ)) (asked asked' : ℕ) (held held' : Option (List ℕ)) (given given' : ℕ) : Type 0 where
+  pub fine : result ≡ Fine → Replays left left' day_file_limit (Appends held held')
+  pub write_fault : result ≡ WriteFault → Replays left left' day_file_limit (AddsFront held held')
+  pub write_cause : result ≡ WriteFault → Rose given given'
+  pub read_cause : result ≡ ReadFault → Rose asked asked'
+  pub too_long : result ≡ TooLong → TookMore left left' day_file_limit ⊎ WasRead left left' day_file_limit HasTooMany
+  pub not_too_long : result ≢ TooLong → TookFront left left' day_file_limit
+  pub no_opening : result ≡ NoOpening → WasRead left left' day_file_limit HasNoOpening
+  pub unreadable : result ≡ Unreadable → WasRead left left' day_file_limit HasUnreadable
+  pub complete : IsReplayable left day_file_limit → ¬ Rose asked asked' → ¬ Rose given given' → (result ≡ Fine) ⊎ (result ≡ NoMemory)
 
 -- the ways to end in which the sink was given something
 abbrev pub writes : Status → Bool

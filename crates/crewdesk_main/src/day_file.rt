@@ -40,8 +40,8 @@ pub enum DayFault {
     NoMemory,
 }
 
-/// The day file that the bytes are. Of the faults the first that holds is told, in the order in which `DayFault`
-/// has them.
+/// The day file that the bytes are. Of the faults the first that holds is told: too many records, no opening, and then
+/// a record that states no command. `NoMemory` comes before the last of these, where there is no room for the commands.
 pub fn read_day(alloc: Global, bytes: &[u8]) -> Result<DayFile, DayFault>
     ensures ok { IfOk result (λ day. IsDayFile bytes.now day.opening day.commands.items) }
     ensures too_many { IsErrOf result DayFault.TooMany → HasTooMany bytes.now }

@@ -1,10 +1,11 @@
 //! The crew calling desk: reads a day file and writes its journal.
 #![tactic(auto)]
 
-ghost use Rattle.std.specs.Prelude.{◌≡◌, ◌↔◌, false, true};
-ghost use Rattle.std.specs.Io.KnownBytes.{Appends, Keeps};
+ghost use Rattle.std.specs.Prelude.{◌≡◌, ◌≤◌, ◌↔◌, false, true};
+ghost use Rattle.std.specs.Io.KnownBytes.{Keeps};
+ghost use Rattle.desk_io.specs.Faults.{Rose};
 ghost use Rattle.crewdesk_main.specs.Words.{is_form, is_replay};
-ghost use Rattle.crewdesk_main.specs.Replay.{Replays, day_file_limit, writes};
+ghost use Rattle.crewdesk_main.specs.Replay.{EndsReplay, writes};
 
 mod command_record;
 mod day_file;
@@ -69,10 +70,17 @@ fn perform<S: Source, K: Sink>(
 ) -> Status
     ensures usage { result ≡ Status.Usage ↔ (is_form words.now ≡ false) }
     ensures unasked { is_replay words.now ≡ false → S.left source.new ≡ S.left source.old }
-    ensures fine { is_replay words.now ≡ true → result ≡ Status.Fine
-        → Replays (S.left source.old) (S.left source.new) day_file_limit
-        (Appends (K.held sink.old) (K.held sink.new)) }
+    ensures unasked_faults { is_replay words.now ≡ false
+        → S.faults source.new ≡ S.faults source.old }
+    ensures replay { is_replay words.now ≡ true → EndsReplay result
+        (S.left source.old) (S.left source.new) (S.faults source.old) (S.faults source.new)
+        (K.held sink.old) (K.held sink.new) (K.faults sink.old) (K.faults sink.new) }
     ensures silent { writes result ≡ false → Keeps (K.held sink.old) (K.held sink.new) }
+    ensures silent_faults { writes result ≡ false → K.faults sink.new ≡ K.faults sink.old }
+    ensures write_cause { result ≡ Status.WriteFault
+        → Rose (K.faults sink.old) (K.faults sink.new) }
+    ensures later_source { S.faults source.old ≤ S.faults source.new }
+    ensures later_sink { K.faults sink.old ≤ K.faults sink.new }
 {
     if is_alone(words, "--help") {
         write_text(sink, HELP.as_bytes())

@@ -1,4 +1,5 @@
 //! Day files with commands, replayed from sources and into sinks that fail at given calls.
+use crate::perform;
 use crate::replay::run;
 use crate::tests::words_of;
 use desk_io::{MemorySink, MemorySource, Status, SureSource};
@@ -108,6 +109,26 @@ fn a_sink_that_fails_at_each_line(rt: HostRuntime) -> Result<(), Fail> {
         assert_eq!(rt; status, wanted);
         assert_eq!(rt; sink.bytes().len(), held);
         assert_eq!(rt; FIRST_OFFER_JOURNAL.starts_with(sink.bytes()), true);
+    }
+    Ok(())
+}
+
+#[test]
+fn a_day_of_one_record_too_many(rt: HostRuntime) -> Result<(), Fail> {
+    let alloc = rt.alloc();
+    let replay = words_of(alloc, &["replay"])?;
+    for (records, status) in [
+        (200_000, Status::Unreadable),
+        (200_001, Status::TooLong),
+    ] {
+        let mut day = FIRST_OFFER[..35].to_vec(alloc)?;
+        for _ in 0..records {
+            day.extend_from_slice(b"x\n")?;
+        }
+        let mut source = SureSource::new(day);
+        let mut sink = MemorySink::new(alloc, 512, 512, Vec::new(alloc))?;
+        assert_eq!(rt; perform(alloc, &replay, &mut source, &mut sink), status);
+        assert_eq!(rt; sink.bytes().len(), 0);
     }
     Ok(())
 }

@@ -1,5 +1,6 @@
 -- An entry that refuses or tells changes nothing.
-use Rattle.std.proofs.Common.{◌≡◌, ℕ, Bool, true, false, cond, ◌||◌, Option, None, Some, is_some, is_none, unwrap_or, List, [], ◌∷◌, ◌++◌, refl, sym, ap, ◌∙◌}
+use Rattle.std.proofs.Common.{◌≡◌, ℕ, ◌+◌, Bool, true, false, cond, ◌||◌, Option, None, Some, is_some, is_none, unwrap_or, List, [], ◌∷◌, ◌++◌, refl, sym, ap, subst, ◌∙◌, append-nil, append_assoc}
+use Rattle.std.specs.Option.{option_or}
 use Rattle.std.specs.List.{find}
 use Rattle.std.proofs.lemmas.Bool.{false≢true}
 use Rattle.desk_model.specs.declared.command.Cmd.{Cmd}
@@ -15,6 +16,7 @@ use Rattle.desk_model.specs.Register.{enrols, enrols_any, sets_up, sets_up_any, 
 use Rattle.desk_model.specs.Boards.{puts, is_on, sends, order, chain}
 use Rattle.desk_model.specs.Offers.{asks_for, offer_in, is_of, opened, offer_said, open_offer, is_to, on_offer, offered_state}
 use Rattle.desk_model.specs.Bars.{bar_of, may_have, is_free}
+use Rattle.desk_model.specs.Rank.{is_number, last_place}
 use Rattle.desk_model.specs.Refusal.{changes, IsSameDesk}
 use Rattle.desk_model.proofs.SaidLemmas.{first_of-silent, last_of-silent, all_of-silent}
 use Rattle.desk_model.proofs.OrderLemmas.{order-silent}
@@ -50,6 +52,14 @@ chain_agree : (h later : List EntryValue) → ((b : List ℕ) → order later b 
 chain_agree h later same [] = refl
 chain_agree h later same (b ∷ codes) = rw (same b, chain_agree h later same codes) refl
 
+-- an entry that sends nobody changes no rank
+last_place-silent : (b : List ℕ) (p place : ℕ) (before h : List EntryValue) (e : EntryValue) → said (sends b (before ++ h)) e ≡ None
+    → last_place b p place before (h ++ e ∷ []) ≡ last_place b p place before h
+last_place-silent b p place before [] e none = rw (subst (λ all. said (sends b all) e ≡ None) (append-nil before) none) refl
+last_place-silent b p place before (x ∷ h) e none =
+    let none_later = subst (λ all. said (sends b all) e ≡ None) (sym (append_assoc before (x ∷ []) h)) none in
+    ap (λ later. option_or later (cond (is_number p (said (sends b before) x)) (Some place) None)) (last_place-silent b p (place + 1) (before ++ x ∷ []) h e none_later)
+
 pub refused : (h : List EntryValue) (e : EntryValue) → changes e.reply ≡ false → IsSameDesk h (h ++ e ∷ [])
 refused h e same = record {
   person = λ p. first_of-silent (said (enrols p)) h e (said-refused (enrols p) e same);
@@ -59,6 +69,7 @@ refused h e same = record {
   boards = all_of-silent (said sets_up_any) h e (said-refused sets_up_any e same);
   vacancies = all_of-silent (said makes_any) h e (said-refused makes_any e same);
   on = on;
+  rank = λ b p. last_place-silent b p 0 [] h e (said-refused (sends b h) e same);
   order = orders;
   chain = chain_agree h (h ++ e ∷ []) orders;
   offer = offers;

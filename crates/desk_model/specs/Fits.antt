@@ -32,7 +32,7 @@ pub record IsStated (s : StatedValue) : Type 0 where
   pub minute : IsInYears s.minute
   pub cmd : IsCommand s.cmd
 
--- a minute that can be written lies in the years 2000 to 2099; one that is told as late may lie behind them
+-- the minute of a reply can be written: it lies in the years 2000 to 2099, and that of `lapsed` may lie behind them
 abbrev pub HasItsMinute : Reply → Type 0
 HasItsMinute (reply.ReportPast report) = IsInYears report
 HasItsMinute (reply.Lapsed report) = 15_778_080 ≤ report

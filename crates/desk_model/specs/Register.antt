@@ -12,32 +12,50 @@ use Rattle.desk_model.specs.History.{said, first_of, all_of}
 -- a command that enrols this person
 abbrev pub enrols : ℕ → Cmd → Option Person
 enrols p (cmd.Enrol person craft home quals) = if nat_eq person p then Some (record { craft = craft; home = home; quals = quals }) else None
-enrols p other = None
+enrols p (cmd.Board board extra place) = None
+enrols p (cmd.List person board) = None
+enrols p (cmd.Vacancy job) = None
+enrols p (cmd.Next vac) = None
 
 -- a command that enrols somebody
 abbrev pub enrols_any : Cmd → Option ℕ
 enrols_any (cmd.Enrol person craft home quals) = Some person
-enrols_any other = None
+enrols_any (cmd.Board board extra place) = None
+enrols_any (cmd.List person board) = None
+enrols_any (cmd.Vacancy job) = None
+enrols_any (cmd.Next vac) = None
 
 -- a command that sets up this board
 abbrev pub sets_up : List ℕ → Cmd → Option BoardSetup
 sets_up b (cmd.Board board extra place) = if bytes_eq board b then Some (record { extra = extra; place = place }) else None
-sets_up b other = None
+sets_up b (cmd.Enrol person craft home quals) = None
+sets_up b (cmd.List person board) = None
+sets_up b (cmd.Vacancy job) = None
+sets_up b (cmd.Next vac) = None
 
 -- a command that sets up some board
 abbrev pub sets_up_any : Cmd → Option (List ℕ)
 sets_up_any (cmd.Board board extra place) = Some board
-sets_up_any other = None
+sets_up_any (cmd.Enrol person craft home quals) = None
+sets_up_any (cmd.List person board) = None
+sets_up_any (cmd.Vacancy job) = None
+sets_up_any (cmd.Next vac) = None
 
 -- a command that makes this vacancy
 abbrev pub makes : ℕ → Cmd → Option JobValue
 makes v (cmd.Vacancy job) = if nat_eq job.vac v then Some job else None
-makes v other = None
+makes v (cmd.Enrol person craft home quals) = None
+makes v (cmd.Board board extra place) = None
+makes v (cmd.List person board) = None
+makes v (cmd.Next vac) = None
 
 -- a command that makes some vacancy
 abbrev pub makes_any : Cmd → Option ℕ
 makes_any (cmd.Vacancy job) = Some job.vac
-makes_any other = None
+makes_any (cmd.Enrol person craft home quals) = None
+makes_any (cmd.Board board extra place) = None
+makes_any (cmd.List person board) = None
+makes_any (cmd.Next vac) = None
 
 -- the person as enrolled, the board as set up, and the vacancy as made; None where there is none such
 abbrev pub person_of : List EntryValue → ℕ → Option Person

@@ -7,8 +7,8 @@ ghost use Rattle.desk_model.specs.Opening.{IsOpening, opening_of};
 use desk_base::{Minute, Window};
 use std::marker::Model;
 
-/// How a desk is opened: its first minute, the window of months in which all that it is told of lies, and how
-/// many minutes a person has to answer an offer.
+/// How a desk is opened: its first minute, the window of months outside which it takes no command, and how many
+/// minutes a person has to answer an offer.
 #[derive(Clone, Copy, Debug, PartialEq, Eq, Hash)]
 pub struct Opening {
     start: Minute,

@@ -12,11 +12,11 @@ pub enum Reply {
         board: Code,
         position: u16,
     },
-    /// Each of those listed, so many, is barred.
+    /// Everybody in the chain is barred: so many places, where who stands there twice counts twice.
     Unfilled {
         listed: u16,
     },
-    /// The minute isn't in the window.
+    /// The minute, or the end of the plan, isn't in the window.
     OutsideWindow,
     /// The number or the code is in use, or the person is on the board.
     Used,

@@ -2,12 +2,12 @@ use Rattle.std.proofs.Common.{◌∙◌, get_or, sym, ap, arith}
 use Rattle.crewdesk_main.proofs.WordsLemmas.{is_alone-unique}
 use Rattle.crewdesk_main.proofs.perform.Goals as goal
 
-pub returns-then-is_alone-clause-fine : goal.returns-then-is_alone-clause-fine
-returns-then-is_alone-clause-fine g c replay =
+pub returns-then-is_alone-clause-replay : goal.returns-then-is_alone-clause-replay
+returns-then-is_alone-clause-replay g c replay =
     let same = is_alone-unique _ _ c.args.words.now (sym c.is_alone.ensures ∙ c.if-is_alone.true) replay in
     absurd (omega (arith, ap (λ form. get_or form 0 0) same))
 
-pub returns-then-is_alone-2-clause-fine : goal.returns-then-is_alone-2-clause-fine
-returns-then-is_alone-2-clause-fine g c replay =
+pub returns-then-is_alone-2-clause-replay : goal.returns-then-is_alone-2-clause-replay
+returns-then-is_alone-2-clause-replay g c replay =
     let same = is_alone-unique _ _ c.args.words.now (sym c.is_alone-else-is_alone.ensures ∙ c.if-is_alone-2.true) replay in
     absurd (omega (arith, ap (λ form. get_or form 0 0) same))
