@@ -2,6 +2,7 @@ pub mod Month
 pub mod Day
 pub mod Civil
 pub mod Minute
+pub mod Span
 pub mod Window
 pub mod Code
 pub mod CodeInside

@@ -1,11 +1,14 @@
 -- Minutes of the desk's one civil time, numbered from 1970-01-01 00:00, which is 0.
-use Rattle.std.specs.Prelude.{ℕ, ◌/◌, ◌%◌, ◌<◌, ◌≤◌, List, ◌∷◌, ◌++◌}
+use Rattle.std.specs.Prelude.{ℕ, ◌/◌, ◌%◌, ◌<◌, ◌≤◌, Bool, ◌&&◌, nat_lt, nat_le, List, ◌∷◌, ◌++◌}
 use Rattle.desk_base.specs.Month.{month_of_day, two_digits}
 use Rattle.desk_base.specs.Day.{day_of, day_text}
 
 -- from 2000-01-01 00:00 to 2099-12-31 23:59
 abbrev pub IsInYears : ℕ → Type 0
 IsInYears minute = (15_778_080 ≤ minute) × (minute < 68_374_080)
+
+abbrev pub is_in_years : ℕ → Bool
+is_in_years minute = nat_le 15_778_080 minute && nat_lt minute 68_374_080
 
 -- the month of a minute
 abbrev pub month_of : ℕ → ℕ

@@ -11,6 +11,7 @@ mod month;
 mod no_memory;
 mod parts;
 mod person_no;
+mod span;
 mod vac_no;
 mod window;
 
@@ -22,6 +23,7 @@ pub use month::Month;
 pub use no_memory::NoMemory;
 pub use parts::split_once;
 pub use person_no::PersonNo;
+pub use span::Span;
 pub use vac_no::VacNo;
 pub use window::Window;
 

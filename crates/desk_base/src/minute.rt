@@ -1,6 +1,7 @@
 ghost use Rattle.std.specs.Prelude.{◌≡◌, ℕ, ◌+◌, ◌*◌, ◌<◌, ◌^◌, IfSome, pos};
 ghost use Rattle.std.specs.Option.{SomeIff};
-ghost use Rattle.desk_base.specs.Minute.{IsInYears, minute_text};
+ghost use Rattle.std.specs.Bool.{Decides};
+ghost use Rattle.desk_base.specs.Minute.{IsInYears, is_in_years, minute_text};
 ghost use Rattle.desk_base.specs.Civil.{IsMinuteAt, civil_text};
 ghost use Rattle.jiff_core.specs.declared.civil.date.Date.{Date};
 
@@ -51,6 +52,14 @@ impl Minute {
         ensures range { result < 2 ^ 28 }
     {
         self.0
+    }
+
+    /// Whether it lies in the years 2000 to 2099.
+    pub fn is_in_years(self) -> bool
+        ensures value { result ≡ is_in_years self }
+        ensures lies { Decides result (IsInYears self) }
+    {
+        self.0 >= 15_778_080 && self.0 < 68_374_080
     }
 
     /// The minute of the text `YYYY-MM-DD HH:MM`, of a real date of the years 2000 to 2099, hours 00 to 23

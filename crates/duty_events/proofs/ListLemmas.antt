@@ -1,0 +1,71 @@
+-- Lists of events, one event more.
+use Rattle.std.proofs.Common.{◌≡◌, ℕ, zero, suc, ◌+◌, ◌<◌, ◌≤◌, ◌⊎◌, inl, inr, Option, None, Some, List, [], ◌∷◌, ◌++◌, take, length, get_or, refl, sym, subst, ap, ◌∙◌, arith}
+use Rattle.std.specs.List.{slice_get}
+use Rattle.std.proofs.lemmas.Option.{slice_get-get_or, none-some, same_Some}
+use Rattle.std.proofs.lemmas.List.{take_at, take_all, take_more, take-take, take-append-le}
+use Rattle.std.proofs.lemmas.List.Sums.{fold_push}
+use Rattle.duty_events.specs.declared.event.Event.{Event}
+use Rattle.duty_events.specs.declared.stage.Stage.{Stage}
+use Rattle.duty_events.specs.declared.stage.Stage.TheVariants as stage
+use Rattle.duty_events.specs.Lists.{Follows, IsNext, IsLawful, stage_after, stage_of, last_event, latest}
+
+-- what stands in a list with one more stood there before, or is the one more
+slice_get-push : {X : Type 0} (xs : List X) (y : X) (k : ℕ) (x : X) → slice_get (xs ++ y ∷ []) k ≡ Some x
+    → ((k < length xs) × (slice_get xs k ≡ Some x)) ⊎ ((length xs ≡ k) × (y ≡ x))
+slice_get-push [] y zero x is = inr (refl, same_Some y x is)
+slice_get-push [] y (suc k) x is = absurd (none-some x is)
+slice_get-push (z ∷ xs) y zero x is = inl (omega arith, is)
+slice_get-push (z ∷ xs) y (suc k) x is =
+    elim (slice_get-push xs y k x is) [ inl old ↦ inl (omega (arith, old.0), old.1) | inr new ↦ inr (ap suc new.0, new.1) ]
+
+slice_get-take : {X : Type 0} (n : ℕ) (xs : List X) (k : ℕ) (x : X) → slice_get (take n xs) k ≡ Some x → (k < n) × (slice_get xs k ≡ Some x)
+slice_get-take zero xs k x is = absurd (none-some x is)
+slice_get-take (suc n) [] k x is = absurd (none-some x is)
+slice_get-take (suc n) (y ∷ xs) zero x is = (omega arith, is)
+slice_get-take (suc n) (y ∷ xs) (suc k) x is = let rest = slice_get-take n xs k x is in (omega (arith, rest.0), rest.1)
+
+-- a lawful list and an event that may follow it are a lawful list
+pub lawful-push : (es : List Event) (e : Event) → IsLawful es → IsNext es e → IsLawful (es ++ e ∷ [])
+lawful-push es e lawful next = record { each = each }
+  where
+    each : (k : ℕ) (x : Event) → slice_get (es ++ e ∷ []) k ≡ Some x → IsNext (take k (es ++ e ∷ [])) x
+    each k x is = elim (slice_get-push es e k x is) [
+      | inl old ↦ rw (take-append-le k es (e ∷ []) (omega (arith, old.0))) (lawful.each k x old.1)
+      | inr new ↦ rw (take_at es (e ∷ []) k new.0) (subst (IsNext es) new.1 next)
+    ]
+
+-- the first events of a lawful list are a lawful list, and the one behind them may follow them
+pub lawful-take : (es : List Event) (n : ℕ) → IsLawful es → IsLawful (take n es)
+lawful-take es n lawful = record { each = each }
+  where
+    each : (k : ℕ) (x : Event) → slice_get (take n es) k ≡ Some x → IsNext (take k (take n es)) x
+    each k x is =
+        let here = slice_get-take n es k x is in rw (take-take k n es (omega (arith, here.0))) (lawful.each k x here.1)
+
+pub lawful-here : (es : List Event) (i : ℕ) (e : Event) → IsLawful es → i < length es → e ≡ get_or es i e → IsNext (take i es) e
+lawful-here es i e lawful within is = lawful.each i e (slice_get-get_or es i e within ∙ ap Some (sym is))
+
+-- the first events and the one behind them
+pub take-push : {X : Type 0} (xs : List X) (i : ℕ) (x : X) → i < length xs → x ≡ get_or xs i x → take (i + 1) xs ≡ take i xs ++ x ∷ []
+take-push xs i x within is = take_more xs i x within ∙ ap (λ y. take i xs ++ y ∷ []) (sym is)
+
+pub stage_of-next : (es : List Event) (i : ℕ) (e : Event) → i < length es → e ≡ get_or es i e → stage_of (take (i + 1) es) ≡ stage_after (stage_of (take i es)) e
+stage_of-next es i e within is = ap stage_of (take-push es i e within is) ∙ fold_push stage_after stage.Off (take i es) e
+
+pub last_event-push : (es : List Event) (e : Event) → last_event (es ++ e ∷ []) ≡ Some e
+last_event-push es e = fold_push (λ o x. Some x) None es e
+
+pub last_event-next : (es : List Event) (i : ℕ) (e : Event) → i < length es → e ≡ get_or es i e → last_event (take (i + 1) es) ≡ Some e
+last_event-next es i e within is = ap last_event (take-push es i e within is) ∙ last_event-push (take i es) e
+
+pub lawful-next : (es : List Event) (i : ℕ) (e : Event) (s : Stage) (last : Option ℕ) → i < length es → e ≡ get_or es i e → s ≡ stage_of (take i es) → last ≡ latest (take i es)
+    → IsLawful (take i es) → Follows s last e → IsLawful (take (i + 1) es)
+lawful-next es i e s last within is stage last_is lawful follows =
+    rw (take-push es i e within is) (lawful-push (take i es) e lawful (rw (sym stage, sym last_is) follows))
+
+pub lawful-whole : (es : List Event) (i : ℕ) → length es ≤ i → IsLawful (take i es) → IsLawful es
+lawful-whole es i past lawful = subst IsLawful (take_all i es past) lawful
+
+pub lawful-not : (es : List Event) (i : ℕ) (e : Event) (s : Stage) (last : Option ℕ) → i < length es → e ≡ get_or es i e → s ≡ stage_of (take i es) → last ≡ latest (take i es)
+    → (Follows s last e → ⊥) → IsLawful es → ⊥
+lawful-not es i e s last within is stage last_is not lawful = not (rw (stage, last_is) (lawful-here es i e lawful within is))

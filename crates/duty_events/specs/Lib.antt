@@ -1,0 +1,7 @@
+pub mod Allowed
+pub mod Between
+pub mod Lists
+pub mod MinuteKind
+pub mod Minutes
+pub mod Places
+pub mod Tours

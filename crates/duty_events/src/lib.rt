@@ -1,0 +1,28 @@
+//! What train employees do and when, as events after 49 CFR 228.11, and what each minute counts as.
+#![tactic(auto)]
+
+mod end;
+mod event;
+mod event_fault;
+mod kind;
+mod lawful;
+mod laws;
+mod minute_kind;
+mod places;
+mod sequence;
+mod spell;
+mod stage;
+
+pub use event::Event;
+pub use event_fault::EventFault;
+pub use kind::Kind;
+pub use lawful::is_lawful;
+pub use laws::{a_next_event_is_lawful, kinds_when_an_event_comes};
+pub use minute_kind::MinuteKind;
+pub use places::place;
+pub use sequence::allowed;
+pub use spell::between;
+pub use stage::Stage;
+
+#[cfg(test)]
+mod tests;

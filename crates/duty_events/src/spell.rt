@@ -1,0 +1,40 @@
+ghost use Rattle.std.specs.Prelude.{◌≡◌, ◌-◌};
+ghost use Rattle.duty_events.specs.Allowed.{first_minute};
+ghost use Rattle.duty_events.specs.MinuteKind.{resumed, interim};
+ghost use Rattle.duty_events.specs.Between.{first_leads, between};
+
+use crate::{Event, Kind, MinuteKind};
+use desk_base::Minute;
+
+/// What the minutes from an event to the next count as, by 49 USC 21103(b).
+pub fn between(event: &Event, next: &Event) -> MinuteKind
+    ensures { result ≡ between event.now next.now }
+{
+    match event {
+        Event::Ride(_) | Event::Duty(_) | Event::Resume(_) => MinuteKind::OnDuty,
+        Event::Relieve(_) | Event::RideHome(_) => MinuteKind::Limbo,
+        Event::Final(_, _) | Event::Other(_, _) => MinuteKind::Off,
+        Event::Interim(since, kind, _) => interim(*since, kind, next),
+    }
+}
+
+// What an interim counts as that ends with this event.
+fn interim(since: Minute, kind: &Kind, next: &Event) -> MinuteKind
+    ensures { result ≡ interim kind.now (first_minute next.now - since) (first_leads next.now) }
+{
+    match next {
+        Event::Resume(at) => resumed(kind, at.number().saturating_sub(since.number())),
+        _ => MinuteKind::Off,
+    }
+}
+
+// What an interim of so many minutes counts as that ends with a resume.
+fn resumed(kind: &Kind, minutes: u64) -> MinuteKind
+    ensures { result ≡ resumed kind.now minutes }
+{
+    match kind {
+        Kind::O => MinuteKind::OnDuty,
+        Kind::D | Kind::P if minutes < 240 => MinuteKind::OnDuty,
+        Kind::D | Kind::P => MinuteKind::Off,
+    }
+}

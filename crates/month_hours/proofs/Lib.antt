@@ -1,0 +1,2 @@
+pub mod UsedLemmas
+pub mod CappedLemmas
