@@ -4,15 +4,14 @@ use Rattle.std.proofs.lemmas.List.{map-append, length-map, get_or-map}
 use Rattle.std.proofs.lemmas.List.Elements.{Contains-append_right, All-append, All-cons, All-nil, All-head, All-tail}
 use Rattle.std.proofs.lemmas.Fmt.{decimal_injective}
 use Rattle.std.specs.List.{All, Contains}
-use Rattle.desk_base.specs.Month.{month_text, IsMonthInYears}
+use Rattle.desk_base.specs.Month.{IsMonthInYears}
 use Rattle.desk_base.specs.Window.{WindowValue, IsWindow, window_of}
-use Rattle.desk_base.proofs.TextLemmas.{month_text_spells}
 use Rattle.desk_model.specs.Opening.{OpeningValue, IsOpening, opening_of, opening_fields}
 use Rattle.desk_model.specs.declared.command.Cmd.TheVariants as cmd
 use Rattle.desk_model.specs.Statement.{StatedValue, stated_of}
 use Rattle.desk_model.specs.Fits.{IsStated}
 use Rattle.desk_model.specs.Texts.{stated_fields}
-use Rattle.desk_text.proofs.ApartLemmas.{minute_text-one, stated_fields-one}
+use Rattle.desk_text.proofs.ApartLemmas.{minute_text-one, month_text-one, stated_fields-one}
 use Rattle.crewdesk_main.specs.Records.{fields_of}
 use Rattle.crewdesk_main.specs.DayFile.{IsCommandRecord, IsDayFile, HasUnreadable}
 
@@ -64,12 +63,6 @@ IsDayFile-readable bytes o commands day un =
     un.wrong states.0 states.1
 
 -- ---- bytes are one day file at most
-
-month_text-one : (a b : ℕ) → IsMonthInYears a → IsMonthInYears b → month_text a ≡ month_text b → a ≡ b
-month_text-one a b ha hb e =
-    let s = month_text_spells (month_text b) a ha (sym e) in
-    let t = month_text_spells (month_text b) b hb refl in
-    omega (arith, s.year, s.place, t.year, t.place)
 
 opening_fields-one : (o p : OpeningValue) → IsOpening o → IsOpening p → opening_fields o ≡ opening_fields p → o ≡ p
 opening_fields-one o p ho hp e =

@@ -117,10 +117,7 @@ fn a_sink_that_fails_at_each_line(rt: HostRuntime) -> Result<(), Fail> {
 fn a_day_of_one_record_too_many(rt: HostRuntime) -> Result<(), Fail> {
     let alloc = rt.alloc();
     let replay = words_of(alloc, &["replay"])?;
-    for (records, status) in [
-        (200_000, Status::Unreadable),
-        (200_001, Status::TooLong),
-    ] {
+    for (records, status) in [(200_000, Status::Unreadable), (200_001, Status::TooLong)] {
         let mut day = FIRST_OFFER[..35].to_vec(alloc)?;
         for _ in 0..records {
             day.extend_from_slice(b"x\n")?;

@@ -7,3 +7,5 @@ pub mod LegalLemmas
 pub mod BoundLemmas
 pub mod RefusalLemmas
 pub mod OneOfferLemmas
+pub mod DutyLemmas
+pub mod ToldLemmas

@@ -21,6 +21,7 @@ use Rattle.desk_model.specs.Job.{JobValue}
 use Rattle.desk_model.specs.History.{is_done, said}
 use Rattle.desk_model.specs.Register.{makes, makes_any, person_of, vacancy_of, vacancies}
 use Rattle.desk_model.specs.Boards.{chain}
+use Rattle.desk_model.specs.Duty.{in_tour}
 use Rattle.desk_model.specs.Offers.{asks_for, offer_in, is_of, opened, offer_said, open_offer, is_to, on_offer, state_of}
 use Rattle.desk_model.specs.Bars.{bar_of, may_have, is_free, first_free}
 use Rattle.desk_model.specs.NextAnswer.{choice_answer, state_answer, known_answer, next_answer}
@@ -55,7 +56,11 @@ free-no_offer : (h : List EntryValue) (m : ℕ) (job : JobValue) (p : ℕ) → i
 free-no_offer h m job p free = go (person_of h p) (on_offer h p) refl free
   where
     bar : (person : Person) (v : ℕ) → on_offer h p ≡ Some v → is_none (bar_of h m job p person) ≡ false
-    bar person v is = rw is refl
+    bar person v is = by_tour (in_tour h p) refl
+      where
+        by_tour : (tour : Bool) → in_tour h p ≡ tour → is_none (bar_of h m job p person) ≡ false
+        by_tour true busy = rw busy refl
+        by_tour false idle = rw (idle, is) refl
 
     go : (known : Option Person) (offer : Option ℕ) → on_offer h p ≡ offer → may_have h m job p known ≡ true → offer ≡ None
     go None offer is free = absurd (false≢true free)
@@ -73,7 +78,10 @@ makes-makes_any v (cmd.Vacancy other) job made = go (nat_eq other.vac v) refl ma
 makes-makes_any v (cmd.Enrol person craft home quals) job made = cc
 makes-makes_any v (cmd.Board board extra place) job made = cc
 makes-makes_any v (cmd.List person board) job made = cc
+makes-makes_any v (cmd.Past person event) job made = cc
+makes-makes_any v (cmd.Happened person event) job made = cc
 makes-makes_any v (cmd.Next vac) job made = cc
+makes-makes_any v (cmd.Hours person month) job made = cc
 
 said-makes_any : (v : ℕ) (e : EntryValue) (job : JobValue) → said (makes v) e ≡ Some job → said makes_any e ≡ Some v
 said-makes_any v e job made = go (is_done e.reply) made
@@ -175,7 +183,10 @@ next-says o h caller s = go (is_within o.window s.minute) s.cmd
     go true (cmd.Enrol person craft home quals) = inl (λ v. refl)
     go true (cmd.Board board extra place) = inl (λ v. refl)
     go true (cmd.List person board) = inl (λ v. refl)
+    go true (cmd.Past person event) = inl (λ v. refl)
+    go true (cmd.Happened person event) = inl (λ v. refl)
     go true (cmd.Vacancy job) = inl (λ v. refl)
+    go true (cmd.Hours person month) = inl (λ v. refl)
 
 -- ---- a legal history
 

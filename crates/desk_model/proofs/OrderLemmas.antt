@@ -69,7 +69,7 @@ filter-without f g p agree (q ∷ ps) = go (nat_eq p q) (g q) refl refl (filter-
     go false true is keeps rest = rw (is, keeps, is, agree q is, keeps) (ap (λ all. q ∷ all) rest)
     go false false is keeps rest = rw (is, keeps, agree q is, keeps) rest
 
-length-without : (p : ℕ) (ps : List ℕ) → length (without p ps) ≤ length ps
+pub length-without : (p : ℕ) (ps : List ℕ) → length (without p ps) ≤ length ps
 length-without p [] = omega arith
 length-without p (q ∷ ps) = go (nat_eq p q) (length-without p ps)
   where
@@ -103,3 +103,15 @@ pub length-order-sent : (h : List EntryValue) (e : EntryValue) (b : List ℕ) (p
     → length (order (h ++ e ∷ []) b) ≤ suc (length (order h b))
 length-order-sent h e b p is =
     rw is (omega (arith, length-append (without p (order h b)) (p ∷ []), length-without p (order h b)))
+
+-- an entry that sends a person there and puts nobody on it
+pub order-moved : (h : List EntryValue) (e : EntryValue) (b : List ℕ) (p : ℕ) → said (sends b h) e ≡ Some p → ((q : ℕ) → said (puts b q) e ≡ None)
+    → order (h ++ e ∷ []) b ≡ without p (order h b) ++ cond (is_on h p b) (p ∷ []) []
+order-moved h e b p sent unput =
+    let on : ℕ → Bool = λ q. is_on (h ++ e ∷ []) q b in
+    let same : (q : ℕ) → on q ≡ is_on h q b = λ q. ap (λ o. unwrap_or o false) (last_of-silent (said (puts b q)) h e (unput q)) in
+    ap (λ ps. filter on (keep_last ps)) (sent_to-snoc b [] h e ∙ ap (λ who. sent_to b [] h ++ cons_option who []) sent)
+    ∙ ap (filter on) (keep_last-snoc (sent_to b [] h) p)
+    ∙ filter-append on (without p (keep_last (sent_to b [] h))) (p ∷ [])
+    ∙ ap (λ t. filter on (without p (keep_last (sent_to b [] h))) ++ cond t (p ∷ []) []) (same p)
+    ∙ ap (λ front. front ++ cond (is_on h p b) (p ∷ []) []) (filter-without on (λ q. is_on h q b) p (λ q other. same q) (keep_last (sent_to b [] h)))

@@ -1,5 +1,5 @@
 -- The order of a board has just those who are on it, by rising rank.
-use Rattle.std.proofs.Common.{◌≡◌, ℕ, ◌+◌, ◌≤◌, inl, inr, Bool, true, false, cond, ◌&&◌, ◌||◌, nat_eq, Option, None, Some, unwrap_or, List, [], ◌∷◌, ◌++◌, filter, refl, sym, ap, subst, ◌∙◌, arith}
+use Rattle.std.proofs.Common.{◌≡◌, ℕ, suc, ◌+◌, not, length, length-append, ◌≤◌, inl, inr, Bool, true, false, cond, ◌&&◌, ◌||◌, nat_eq, Option, None, Some, unwrap_or, List, [], ◌∷◌, ◌++◌, filter, refl, sym, ap, subst, ◌∙◌, arith}
 use Rattle.std.specs.Str.{bytes_eq}
 use Rattle.std.specs.Option.{option_or}
 use Rattle.std.specs.List.{list_any, cons_option}
@@ -10,7 +10,7 @@ use Rattle.desk_model.specs.declared.command.Cmd.TheVariants as cmd
 use Rattle.desk_model.specs.Entry.{EntryValue}
 use Rattle.desk_model.specs.History.{is_done, said, last_of}
 use Rattle.desk_model.specs.Boards.{puts, is_on, sends, sent_to, keep_last, order}
-use Rattle.desk_model.proofs.OrderLemmas.{same_number, nat_eq-same}
+use Rattle.desk_model.proofs.OrderLemmas.{without, length-without, order-moved, same_number, nat_eq-same}
 use Rattle.desk_model.specs.Rank.{is_number, last_place, rank, IsBefore, Rises, IsByRank}
 
 and_false : (b : Bool) → (b && false) ≡ false
@@ -52,8 +52,11 @@ puts-sends b p before (cmd.List person board) put = go (bytes_eq board b) (nat_e
     go false same is put = cc
 puts-sends b p before (cmd.Enrol person craft home quals) put = cc
 puts-sends b p before (cmd.Board board extra place) put = cc
+puts-sends b p before (cmd.Past person event) put = cc
+puts-sends b p before (cmd.Happened person event) put = cc
 puts-sends b p before (cmd.Vacancy job) put = cc
 puts-sends b p before (cmd.Next vac) put = cc
+puts-sends b p before (cmd.Hours person month) put = cc
 
 said-puts-sends : (b : List ℕ) (p : ℕ) (before : List EntryValue) (e : EntryValue) → said (puts b p) e ≡ Some true → said (sends b before) e ≡ Some p
 said-puts-sends b p before e put = go (is_done e.reply) put
@@ -95,6 +98,25 @@ any-order h b p =
     go : (on any : Bool) → (on ≡ true → any ≡ true) → (on && any) ≡ on
     go true any known = known refl
     go false any known = refl
+
+-- who stands there is one at least
+length-without-in : (p : ℕ) (ps : List ℕ) → list_any (nat_eq p) ps ≡ true → suc (length (without p ps)) ≤ length ps
+length-without-in p [] any = absurd (false≢true any)
+length-without-in p (q ∷ ps) any = go (nat_eq p q) any (length-without-in p ps)
+  where
+    go : (same : Bool) → (same || list_any (nat_eq p) ps) ≡ true → (list_any (nat_eq p) ps ≡ true → suc (length (without p ps)) ≤ length ps)
+        → suc (length (cond (not same) (q ∷ without p ps) (without p ps))) ≤ suc (length ps)
+    go true any rest = omega (arith, length-without p ps)
+    go false any rest = omega (arith, rest any)
+
+-- who is sent to the bottom of a board makes it no longer
+pub length-order-moved : (h : List EntryValue) (e : EntryValue) (b : List ℕ) (p : ℕ) → said (sends b h) e ≡ Some p → ((q : ℕ) → said (puts b q) e ≡ None)
+    → length (order (h ++ e ∷ []) b) ≤ length (order h b)
+length-order-moved h e b p sent unput = rw (order-moved h e b p sent unput) (go (is_on h p b) (any-order h b p))
+  where
+    go : (on : Bool) → list_any (nat_eq p) (order h b) ≡ on → length (without p (order h b) ++ cond on (p ∷ []) []) ≤ length (order h b)
+    go true any = omega (arith, length-append (without p (order h b)) (p ∷ []), length-without-in p (order h b) any)
+    go false any = omega (arith, length-append (without p (order h b)) [], length-without p (order h b))
 
 -- ---- ranks
 

@@ -1,5 +1,5 @@
 -- An entry that refuses or tells changes nothing.
-use Rattle.std.proofs.Common.{◌≡◌, ℕ, ◌+◌, Bool, true, false, cond, ◌||◌, Option, None, Some, is_some, is_none, unwrap_or, List, [], ◌∷◌, ◌++◌, refl, sym, ap, subst, ◌∙◌, append-nil, append_assoc}
+use Rattle.std.proofs.Common.{◌≡◌, ℕ, ◌+◌, Bool, true, false, cond, ◌||◌, Option, None, Some, is_some, is_none, unwrap_or, fold, List, [], ◌∷◌, ◌++◌, refl, sym, ap, subst, ◌∙◌, append-nil, append_assoc}
 use Rattle.std.specs.Option.{option_or}
 use Rattle.std.specs.List.{find}
 use Rattle.std.proofs.lemmas.Bool.{false≢true}
@@ -15,6 +15,7 @@ use Rattle.desk_model.specs.History.{is_done, said}
 use Rattle.desk_model.specs.Register.{enrols, enrols_any, sets_up, sets_up_any, makes, makes_any, person_of, vacancies}
 use Rattle.desk_model.specs.Boards.{puts, is_on, sends, order, chain}
 use Rattle.desk_model.specs.Offers.{asks_for, offer_in, is_of, opened, offer_said, open_offer, is_to, on_offer, offered_state}
+use Rattle.desk_model.specs.Duty.{tells, keep, events, closes}
 use Rattle.desk_model.specs.Bars.{bar_of, may_have, is_free}
 use Rattle.desk_model.specs.Rank.{is_number, last_place}
 use Rattle.desk_model.specs.Refusal.{changes, IsSameDesk}
@@ -52,6 +53,10 @@ chain_agree : (h later : List EntryValue) → ((b : List ℕ) → order later b 
 chain_agree h later same [] = refl
 chain_agree h later same (b ∷ codes) = rw (same b, chain_agree h later same codes) refl
 
+events-silent : (h : List EntryValue) (e : EntryValue) (p : ℕ) → said (tells p) e ≡ None → events (h ++ e ∷ []) p ≡ events h p
+unfolding events
+events-silent h e p none = ap (fold keep []) (all_of-silent (said (tells p)) h e none)
+
 -- an entry that sends nobody changes no rank
 last_place-silent : (b : List ℕ) (p place : ℕ) (before h : List EntryValue) (e : EntryValue) → said (sends b (before ++ h)) e ≡ None
     → last_place b p place before (h ++ e ∷ []) ≡ last_place b p place before h
@@ -68,6 +73,8 @@ refused h e same = record {
   persons = all_of-silent (said enrols_any) h e (said-refused enrols_any e same);
   boards = all_of-silent (said sets_up_any) h e (said-refused sets_up_any e same);
   vacancies = all_of-silent (said makes_any) h e (said-refused makes_any e same);
+  events = told;
+  closed = λ p. ap is_some (first_of-silent (said (closes p)) h e (said-refused (closes p) e same));
   on = on;
   rank = λ b p. last_place-silent b p 0 [] h e (said-refused (sends b h) e same);
   order = orders;
@@ -81,6 +88,9 @@ refused h e same = record {
       ∙ find_agree (λ (link : Link). is_free (h ++ e ∷ []) m job link.person) (λ link. is_free h m job link.person) (λ link. free m job link.person) (chain h job.chain);
 }
   where
+    told : (p : ℕ) → events (h ++ e ∷ []) p ≡ events h p
+    told p = events-silent h e p (said-refused (tells p) e same)
+
     on : (p : ℕ) (b : List ℕ) → is_on (h ++ e ∷ []) p b ≡ is_on h p b
     on p b = ap (λ o. unwrap_or o false) (last_of-silent (said (puts b p)) h e (said-refused (puts b p) e same))
 
@@ -96,7 +106,7 @@ refused h e same = record {
         ∙ find_agree (λ v. is_to p (open_offer (h ++ e ∷ []) v)) (λ v. is_to p (open_offer h v)) (λ v. ap (is_to p) (offers v)) (vacancies h)
 
     bars : (m : ℕ) (job : JobValue) (p : ℕ) (person : Person) → bar_of (h ++ e ∷ []) m job p person ≡ bar_of h m job p person
-    bars m job p person = rw (on_offers p) refl
+    bars m job p person = rw (on_offers p, told p) refl
 
     free : (m : ℕ) (job : JobValue) (p : ℕ) → is_free (h ++ e ∷ []) m job p ≡ is_free h m job p
     free m job p = ap (may_have (h ++ e ∷ []) m job p) (first_of-silent (said (enrols p)) h e (said-refused (enrols p) e same)) ∙ go (person_of h p)

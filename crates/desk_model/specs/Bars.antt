@@ -10,22 +10,19 @@ use Rattle.desk_model.specs.Entry.{EntryValue}
 use Rattle.desk_model.specs.Job.{JobValue}
 use Rattle.desk_model.specs.Register.{person_of}
 use Rattle.desk_model.specs.Boards.{chain}
+use Rattle.desk_model.specs.Duty.{in_tour, place_of}
 use Rattle.desk_model.specs.Offers.{on_offer}
-
--- where an enrolled person is at a moment: at home, since no tours are told yet
-abbrev pub place_of : List EntryValue → ℕ → ℕ → Person → List ℕ
-place_of h m p person = person.home
 
 -- what an enrolled person can do: what they were enrolled with
 abbrev pub quals_of : List EntryValue → ℕ → Person → ℕ
 quals_of h p person = person.quals
 
--- what bears at a moment on whether an enrolled person may have the job. As yet nobody is marked off, in a tour of
--- duty, assigned or has answered, and no section of the law holds.
+-- what bears at a moment on whether an enrolled person may have the job. As yet nobody is marked off, assigned
+-- or has answered, and no section of the law holds.
 abbrev pub facts_of : List EntryValue → ℕ → JobValue → ℕ → Person → Facts
 facts_of h m job p person = record {
   marked_off = false;
-  in_tour = false;
+  in_tour = in_tour h p;
   assigned = None;
   on_offer = on_offer h p;
   place_is = place_of h m p person;

@@ -14,6 +14,8 @@ use Rattle.desk_model.specs.BoardAnswer.{board_answer}
 use Rattle.desk_model.specs.ListAnswer.{list_answer}
 use Rattle.desk_model.specs.VacancyAnswer.{vacancy_answer}
 use Rattle.desk_model.specs.NextAnswer.{next_answer}
+use Rattle.desk_model.specs.EventAnswer.{past_answer, event_answer}
+use Rattle.desk_model.specs.HoursAnswer.{hours_answer}
 
 -- the minute lies in the window
 abbrev pub is_within : WindowValue → ℕ → Bool
@@ -36,6 +38,9 @@ answer_to o h m (cmd.Board board extra place) = board_answer h board
 answer_to o h m (cmd.List person board) = list_answer h person board
 answer_to o h m (cmd.Vacancy job) = vacancy_answer o h m job
 answer_to o h m (cmd.Next vac) = next_answer h m vac
+answer_to o h m (cmd.Past person event) = past_answer o h m person event
+answer_to o h m (cmd.Happened person event) = event_answer o h m person event
+answer_to o h m (cmd.Hours person month) = hours_answer o h person month
 
 -- the answer to what is stated; a minute outside the window is named before all else
 abbrev pub answer : OpeningValue → List EntryValue → StatedValue → Reply

@@ -8,6 +8,7 @@ pub mod Entry
 pub mod History
 pub mod Register
 pub mod Boards
+pub mod Duty
 pub mod Rank
 pub mod Offers
 pub mod Bars
@@ -17,6 +18,8 @@ pub mod ListAnswer
 pub mod VacancyAnswer
 pub mod Refusal
 pub mod NextAnswer
+pub mod EventAnswer
+pub mod HoursAnswer
 pub mod Legal
 pub mod Texts
 pub mod Journal

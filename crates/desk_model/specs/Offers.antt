@@ -19,6 +19,9 @@ asks_for (cmd.Enrol person craft home quals) = None
 asks_for (cmd.Board board extra place) = None
 asks_for (cmd.List person board) = None
 asks_for (cmd.Vacancy job) = None
+asks_for (cmd.Past person event) = None
+asks_for (cmd.Happened person event) = None
+asks_for (cmd.Hours person month) = None
 
 -- the offer that a reply makes at this moment
 abbrev pub offer_in : ℕ → Reply → Option Offer
@@ -26,6 +29,11 @@ offer_in moment (reply.Offered person board position) = Some (record { person = 
 offer_in moment reply.Done = None
 offer_in moment reply.OutsideWindow = None
 offer_in moment (reply.Unfilled listed) = None
+offer_in moment (reply.Hours used capped) = None
+offer_in moment (reply.Frozen vac) = None
+offer_in moment reply.PastClosed = None
+offer_in moment (reply.EventAhead minute) = None
+offer_in moment (reply.Event fault) = None
 offer_in moment reply.Used = None
 offer_in moment reply.PersonsFull = None
 offer_in moment reply.BoardsFull = None

@@ -7,6 +7,7 @@ use Rattle.desk_model.specs.Job.{JobValue}
 use Rattle.desk_model.specs.History.{is_done}
 use Rattle.desk_model.specs.Register.{person_of, board_of, vacancy_of, persons, boards, vacancies}
 use Rattle.desk_model.specs.Boards.{is_on, order, chain}
+use Rattle.desk_model.specs.Duty.{events, is_closed}
 use Rattle.desk_model.specs.Rank.{rank}
 use Rattle.desk_model.specs.Offers.{offer_in, open_offer, on_offer, state_of}
 use Rattle.desk_model.specs.Bars.{bar_of, first_free}
@@ -24,6 +25,8 @@ pub record IsSameDesk (h later : List EntryValue) : Type 0 where
   pub persons : persons later ≡ persons h
   pub boards : boards later ≡ boards h
   pub vacancies : vacancies later ≡ vacancies h
+  pub events : (p : ℕ) → events later p ≡ events h p
+  pub closed : (p : ℕ) → is_closed later p ≡ is_closed h p
   pub on : (p : ℕ) (b : List ℕ) → is_on later p b ≡ is_on h p b
   pub rank : (b : List ℕ) (p : ℕ) → rank later b p ≡ rank h b p
   pub order : (b : List ℕ) → order later b ≡ order h b

@@ -16,6 +16,9 @@ enrols p (cmd.Board board extra place) = None
 enrols p (cmd.List person board) = None
 enrols p (cmd.Vacancy job) = None
 enrols p (cmd.Next vac) = None
+enrols p (cmd.Past person event) = None
+enrols p (cmd.Happened person event) = None
+enrols p (cmd.Hours person month) = None
 
 -- a command that enrols somebody
 abbrev pub enrols_any : Cmd → Option ℕ
@@ -24,6 +27,9 @@ enrols_any (cmd.Board board extra place) = None
 enrols_any (cmd.List person board) = None
 enrols_any (cmd.Vacancy job) = None
 enrols_any (cmd.Next vac) = None
+enrols_any (cmd.Past person event) = None
+enrols_any (cmd.Happened person event) = None
+enrols_any (cmd.Hours person month) = None
 
 -- a command that sets up this board
 abbrev pub sets_up : List ℕ → Cmd → Option BoardSetup
@@ -32,6 +38,9 @@ sets_up b (cmd.Enrol person craft home quals) = None
 sets_up b (cmd.List person board) = None
 sets_up b (cmd.Vacancy job) = None
 sets_up b (cmd.Next vac) = None
+sets_up b (cmd.Past person event) = None
+sets_up b (cmd.Happened person event) = None
+sets_up b (cmd.Hours person month) = None
 
 -- a command that sets up some board
 abbrev pub sets_up_any : Cmd → Option (List ℕ)
@@ -40,6 +49,9 @@ sets_up_any (cmd.Enrol person craft home quals) = None
 sets_up_any (cmd.List person board) = None
 sets_up_any (cmd.Vacancy job) = None
 sets_up_any (cmd.Next vac) = None
+sets_up_any (cmd.Past person event) = None
+sets_up_any (cmd.Happened person event) = None
+sets_up_any (cmd.Hours person month) = None
 
 -- a command that makes this vacancy
 abbrev pub makes : ℕ → Cmd → Option JobValue
@@ -48,6 +60,9 @@ makes v (cmd.Enrol person craft home quals) = None
 makes v (cmd.Board board extra place) = None
 makes v (cmd.List person board) = None
 makes v (cmd.Next vac) = None
+makes v (cmd.Past person event) = None
+makes v (cmd.Happened person event) = None
+makes v (cmd.Hours person month) = None
 
 -- a command that makes some vacancy
 abbrev pub makes_any : Cmd → Option ℕ
@@ -56,6 +71,9 @@ makes_any (cmd.Enrol person craft home quals) = None
 makes_any (cmd.Board board extra place) = None
 makes_any (cmd.List person board) = None
 makes_any (cmd.Next vac) = None
+makes_any (cmd.Past person event) = None
+makes_any (cmd.Happened person event) = None
+makes_any (cmd.Hours person month) = None
 
 -- the person as enrolled, the board as set up, and the vacancy as made; None where there is none such
 abbrev pub person_of : List EntryValue → ℕ → Option Person

@@ -1,5 +1,6 @@
 use crate::Job;
-use desk_base::{Code, PersonNo, VacNo};
+use desk_base::{Code, Month, PersonNo, VacNo};
+use duty_events::Event;
 use qualifications::{Craft, Quals};
 
 /// What the desk is told or asked.
@@ -23,10 +24,25 @@ pub enum Cmd {
         person: PersonNo,
         board: Code,
     },
+    /// What a person did before they were listed.
+    Past {
+        person: PersonNo,
+        event: Event,
+    },
+    /// What a person does.
+    Happened {
+        person: PersonNo,
+        event: Event,
+    },
     /// A job is to be filled.
     Vacancy(Job),
     /// A vacancy is offered to the first who may have it.
     Next {
         vac: VacNo,
+    },
+    /// How much of a month's limits a person has used is asked.
+    Hours {
+        person: PersonNo,
+        month: Month,
     },
 }

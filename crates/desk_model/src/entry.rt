@@ -8,7 +8,7 @@ use desk_base::Minute;
 use std::marker::Model;
 
 /// One entry of the journal: who stated what, when the desk took it, and what it answered.
-#[derive(Clone, Copy, Debug, PartialEq, Eq)]
+#[derive(Clone, Copy, Debug)]
 pub struct Entry {
     caller: u8,
     stated: Stated,
@@ -56,10 +56,10 @@ impl Entry {
     }
 
     /// What was stated, and when.
-    pub fn stated(&self) -> Stated
-        ensures { result ≡ self.now.stated }
+    pub fn stated(&self) -> &Stated
+        ensures { result.now ≡ self.now.stated }
     {
-        self.stated
+        &self.stated
     }
 
     /// When the desk took it, in the years 2000 to 2099.

@@ -58,8 +58,7 @@ impl Job {
         ensures { SomeIff result (IsPlan report duty limbo)
             (job_of vac craft quals place report duty limbo chain) }
     {
-        let in_years = report.number() >= 15_778_080 && report.number() < 68_374_080;
-        if in_years && duty >= 1 && duty <= 9_999 && limbo <= 999 {
+        if report.is_in_years() && duty >= 1 && duty <= 9_999 && limbo <= 999 {
             Some(Job {
                 vac,
                 craft,

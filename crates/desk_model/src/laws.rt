@@ -6,6 +6,10 @@ ghost use Rattle.desk_model.specs.Boards.{order};
 ghost use Rattle.desk_model.specs.Rank.{IsByRank};
 ghost use Rattle.desk_model.specs.Offers.{open_offer, is_to};
 ghost use Rattle.desk_model.specs.Refusal.{changes, IsSameDesk};
+ghost use Rattle.std.specs.List.{All};
+ghost use Rattle.desk_model.specs.Fits.{IsStated};
+ghost use Rattle.desk_model.specs.History.{said, all_of};
+ghost use Rattle.desk_model.specs.Duty.{tells, events};
 ghost use Rattle.desk_model.specs.Legal.{IsLegal};
 
 /// The order of a board is the one list of just those who are on it by rising rank: the place of the last entry that
@@ -16,8 +20,8 @@ pub fn order_is_by_rank()
         → ps ≡ order h b }
 {}
 
-/// An entry whose reply is neither `Done` nor `Offered` leaves persons, boards, lists, vacancies, offers and bars as
-/// they were. It does nothing: its clause is the law.
+/// An entry whose reply is neither `Done` nor `Offered` leaves persons, their events, boards, lists, ranks, orders,
+/// chains, vacancies, offers, bars and the first choice as they were. It does nothing: its clause is the law.
 pub fn a_refusal_changes_nothing()
     ensures { (h : List EntryValue) (e : EntryValue) → changes e.reply ≡ false
         → IsSameDesk h (h ++ e ∷ []) }
@@ -28,4 +32,12 @@ pub fn one_offer_to_a_person()
     ensures { (o : OpeningValue) (h : List EntryValue) → IsLegal o h
         → (v w p : ℕ) → is_to p (open_offer h v) ≡ true → is_to p (open_offer h w) ≡ true
         → v ≡ w }
+{}
+
+/// In a legal history whose statements are in their ranges, no event that was told of a person and accepted is left out
+/// of the person's events. It does nothing: its clause is the law.
+pub fn no_event_is_left_out()
+    ensures { (o : OpeningValue) (h : List EntryValue) → IsLegal o h
+        → All (λ e. IsStated e.stated) h
+        → (p : ℕ) → events h p ≡ all_of (said (tells p)) h }
 {}

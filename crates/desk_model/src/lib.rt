@@ -25,7 +25,9 @@ pub use command::Cmd;
 pub use desk_core::DeskCore;
 pub use entry::Entry;
 pub use job::Job;
-pub use laws::{a_refusal_changes_nothing, one_offer_to_a_person, order_is_by_rank};
+pub use laws::{
+    a_refusal_changes_nothing, no_event_is_left_out, one_offer_to_a_person, order_is_by_rank,
+};
 pub use legal::one_history_is_legal;
 pub use link::Link;
 pub use offer::Offer;

@@ -1,5 +1,6 @@
 use crate::VacState;
-use desk_base::{Code, Minute, PersonNo};
+use desk_base::{Code, Minute, PersonNo, VacNo};
+use duty_events::EventFault;
 
 /// What the desk answers.
 #[derive(Clone, Copy, Debug, PartialEq, Eq)]
@@ -16,7 +17,12 @@ pub enum Reply {
     Unfilled {
         listed: u16,
     },
-    /// The minute, or the end of the plan, isn't in the window.
+    /// So many minutes of the month are worked, and so many of limbo are capped.
+    Hours {
+        used: u32,
+        capped: u32,
+    },
+    /// The minute or the month isn't in the window, the event begins before it, or the plan ends after it.
     OutsideWindow,
     /// The number or the code is in use, or the person is on the board.
     Used,
@@ -32,6 +38,14 @@ pub enum Reply {
     ListsFull,
     /// 500 are on the board.
     MembersFull,
+    /// The vacancy is on offer to the person.
+    Frozen(VacNo),
+    /// The person was listed, or an event of theirs was accepted by `event`: what they did before is closed.
+    PastClosed,
+    /// The event isn't over at this moment.
+    EventAhead(Minute),
+    /// The event may not follow those before it.
+    Event(EventFault),
     /// 20,000 vacancies were made.
     VacanciesFull,
     /// This board of the chain, behind its first, is no extra board.

@@ -83,11 +83,11 @@ fn entries_keep_what_was_stated(rt: HostRuntime) -> Result<(), Fail> {
     let stated = Stated::new(minute, cmd).ok_or("not stated")?;
     let entry = Entry::new(63, stated, moment, Reply::UnknownVacancy);
     assert_eq!(rt;
-        (entry.caller(), entry.stated(), entry.moment()),
+        (entry.caller(), *entry.stated(), entry.moment()),
         (63, stated, moment)
     );
     assert_eq!(rt; entry.reply(), Reply::UnknownVacancy);
-    assert_eq!(rt; (stated.minute(), stated.cmd()), (minute, cmd));
+    assert_eq!(rt; (stated.minute(), *stated.cmd()), (minute, cmd));
     let after = Minute::new(68_374_080).ok_or("no minute")?;
     assert_eq!(rt; Stated::new(after, cmd), None);
     Ok(())

@@ -6,11 +6,16 @@ use Rattle.std.proofs.lemmas.Bool.Decides.{Decides-eqb}
 use Rattle.std.proofs.lemmas.Fmt.{decimal_injective}
 use Rattle.std.proofs.lemmas.Slice.Eq.{slice_eq-Decides}
 use Rattle.desk_base.specs.Number.{IsNumber}
-use Rattle.desk_base.specs.Month.{first_day}
+use Rattle.desk_base.specs.Month.{first_day, month_text, IsMonthInYears}
+use Rattle.desk_base.specs.Span.{span_of}
+use Rattle.duty_events.specs.declared.kind.Kind.{Kind}
+use Rattle.duty_events.specs.declared.kind.Kind.TheVariants as kind
+use Rattle.duty_events.specs.declared.event.Event.{Event}
+use Rattle.duty_events.specs.declared.event.Event.TheVariants as event
 use Rattle.desk_base.specs.Day.{day_of}
 use Rattle.desk_base.specs.Minute.{minute_text, month_of}
 use Rattle.desk_base.specs.Parts.{parts_by}
-use Rattle.desk_base.proofs.TextLemmas.{minute_text_spells}
+use Rattle.desk_base.proofs.TextLemmas.{minute_text_spells, month_text_spells}
 use Rattle.qualifications.specs.declared.craft.Craft.{Craft}
 use Rattle.qualifications.specs.declared.craft.Craft.TheVariants as craft
 use Rattle.qualifications.specs.Craft.{craft_text}
@@ -22,7 +27,7 @@ use Rattle.desk_model.specs.Chain.{IsChain, chain_text}
 use Rattle.desk_model.specs.Job.{JobValue}
 use Rattle.desk_model.specs.Statement.{StatedValue, stated_of}
 use Rattle.desk_model.specs.Fits.{IsCommand, IsJob, IsStated}
-use Rattle.desk_model.specs.Texts.{sort_text, job_fields, command_fields, stated_fields}
+use Rattle.desk_model.specs.Texts.{sort_text, kind_text, event_fields, job_fields, command_fields, stated_fields}
 use Rattle.desk_model.proofs.ChainLemmas.{parts_by-chain_text}
 use Rattle.desk_text.specs.Spelled.{StatesCommand}
 use Rattle.desk_text.proofs.SpelledLemmas.{apart, job-of}
@@ -93,6 +98,50 @@ job_fields-one a b ha hb e =
     let chain = chain_text-one a.chain b.chain ha.chain hb.chain (ap (λ l. get_or l 7 []) e) in
     job-of b a.vac a.craft a.quals a.place a.report a.duty a.limbo a.chain vac craft quals place report duty limbo chain
 
+kind_text-one : (a b : Kind) → kind_text a ≡ kind_text b → a ≡ b
+kind_text-one kind.D kind.D e = refl
+kind_text-one kind.P kind.P e = refl
+kind_text-one kind.O kind.O e = refl
+kind_text-one kind.D other e = absurd (apart (codes "D") (kind_text other) refl e)
+kind_text-one kind.P other e = absurd (apart (codes "P") (kind_text other) refl e)
+kind_text-one kind.O other e = absurd (apart (codes "O") (kind_text other) refl e)
+
+pub month_text-one : (a b : ℕ) → IsMonthInYears a → IsMonthInYears b → month_text a ≡ month_text b → a ≡ b
+month_text-one a b ha hb e =
+    let s = month_text_spells (month_text b) a ha (sym e) in
+    let t = month_text_spells (month_text b) b hb refl in
+    omega (arith, s.year, s.place, t.year, t.place)
+
+pub event_fields-one : (a b : Event) → event_fields a ≡ event_fields b → a ≡ b
+event_fields-one (event.Ride t) (event.Ride t') e = ap event.Ride (minute_text-one t t' (ap (λ l. get_or l 1 []) e))
+event_fields-one (event.Ride t) other e = absurd (apart (codes "ride") (get_or (event_fields other) 0 []) refl (ap (λ l. get_or l 0 []) e))
+event_fields-one (event.Duty t) (event.Duty t') e = ap event.Duty (minute_text-one t t' (ap (λ l. get_or l 1 []) e))
+event_fields-one (event.Duty t) other e = absurd (apart (codes "duty") (get_or (event_fields other) 0 []) refl (ap (λ l. get_or l 0 []) e))
+event_fields-one (event.Interim t k p) (event.Interim t' k' p') e =
+    let at = minute_text-one t t' (ap (λ l. get_or l 1 []) e) in
+    let kind = kind_text-one k k' (ap (λ l. get_or l 2 []) e) in
+    let place : p ≡ p' = ap (λ l. get_or l 3 []) e in
+    rw (at, kind, place) refl
+event_fields-one (event.Interim t k p) other e = absurd (apart (codes "interim") (get_or (event_fields other) 0 []) refl (ap (λ l. get_or l 0 []) e))
+event_fields-one (event.Resume t) (event.Resume t') e = ap event.Resume (minute_text-one t t' (ap (λ l. get_or l 1 []) e))
+event_fields-one (event.Resume t) other e = absurd (apart (codes "resume") (get_or (event_fields other) 0 []) refl (ap (λ l. get_or l 0 []) e))
+event_fields-one (event.Relieve t) (event.Relieve t') e = ap event.Relieve (minute_text-one t t' (ap (λ l. get_or l 1 []) e))
+event_fields-one (event.Relieve t) other e = absurd (apart (codes "relieve") (get_or (event_fields other) 0 []) refl (ap (λ l. get_or l 0 []) e))
+event_fields-one (event.RideHome t) (event.RideHome t') e = ap event.RideHome (minute_text-one t t' (ap (λ l. get_or l 1 []) e))
+event_fields-one (event.RideHome t) other e = absurd (apart (codes "ridehome") (get_or (event_fields other) 0 []) refl (ap (λ l. get_or l 0 []) e))
+event_fields-one (event.Final t p) (event.Final t' p') e =
+    let at = minute_text-one t t' (ap (λ l. get_or l 1 []) e) in
+    let place : p ≡ p' = ap (λ l. get_or l 2 []) e in
+    rw (at, place) refl
+event_fields-one (event.Final t p) other e = absurd (apart (codes "final") (get_or (event_fields other) 0 []) refl (ap (λ l. get_or l 0 []) e))
+event_fields-one (event.Other s p) (event.Other s' p') e =
+    let from = minute_text-one s.from s'.from (ap (λ l. get_or l 1 []) e) in
+    let to = minute_text-one s.to s'.to (ap (λ l. get_or l 2 []) e) in
+    let place : p ≡ p' = ap (λ l. get_or l 3 []) e in
+    let same : event.Other (span_of s.from s.to) p ≡ event.Other (span_of s'.from s'.to) p' = rw (from, to, place) refl in
+    same
+event_fields-one (event.Other s p) other e = absurd (apart (codes "other") (get_or (event_fields other) 0 []) refl (ap (λ l. get_or l 0 []) e))
+
 command_fields-one : (a b : Cmd) → IsCommand a → IsCommand b → command_fields a ≡ command_fields b → a ≡ b
 command_fields-one (cmd.Enrol p c h q) (cmd.Enrol p' c' h' q') ha hb e =
     let person = number-one p p' ha.0 hb.0 (ap (λ l. get_or l 1 []) e) in
@@ -112,10 +161,25 @@ command_fields-one (cmd.List p b) (cmd.List p' b') ha hb e =
     let board : b ≡ b' = ap (λ l. get_or l 2 []) e in
     rw (person, board) refl
 command_fields-one (cmd.List p b) other ha hb e = absurd (apart (codes "list") (get_or (command_fields other) 0 []) refl (ap (λ l. get_or l 0 []) e))
+command_fields-one (cmd.Past p t) (cmd.Past p' t') ha hb e =
+    let person = number-one p p' ha.0 hb.0 (ap (λ l. get_or l 1 []) e) in
+    let told = event_fields-one t t' (ap (λ l. drop 2 l) e) in
+    rw (person, told) refl
+command_fields-one (cmd.Past p t) other ha hb e = absurd (apart (codes "past") (get_or (command_fields other) 0 []) refl (ap (λ l. get_or l 0 []) e))
+command_fields-one (cmd.Happened p t) (cmd.Happened p' t') ha hb e =
+    let person = number-one p p' ha.0 hb.0 (ap (λ l. get_or l 1 []) e) in
+    let told = event_fields-one t t' (ap (λ l. drop 2 l) e) in
+    rw (person, told) refl
+command_fields-one (cmd.Happened p t) other ha hb e = absurd (apart (codes "event") (get_or (command_fields other) 0 []) refl (ap (λ l. get_or l 0 []) e))
 command_fields-one (cmd.Vacancy job) (cmd.Vacancy job') ha hb e = ap cmd.Vacancy (job_fields-one job job' ha hb (ap (λ l. drop 1 l) e))
 command_fields-one (cmd.Vacancy job) other ha hb e = absurd (apart (codes "vacancy") (get_or (command_fields other) 0 []) refl (ap (λ l. get_or l 0 []) e))
 command_fields-one (cmd.Next v) (cmd.Next v') ha hb e = ap cmd.Next (number-one v v' ha hb (ap (λ l. get_or l 1 []) e))
 command_fields-one (cmd.Next v) other ha hb e = absurd (apart (codes "next") (get_or (command_fields other) 0 []) refl (ap (λ l. get_or l 0 []) e))
+command_fields-one (cmd.Hours p m) (cmd.Hours p' m') ha hb e =
+    let person = number-one p p' ha.0 hb.0 (ap (λ l. get_or l 1 []) e) in
+    let month = month_text-one m m' ha.1 hb.1 (ap (λ l. get_or l 2 []) e) in
+    rw (person, month) refl
+command_fields-one (cmd.Hours p m) other ha hb e = absurd (apart (codes "hours") (get_or (command_fields other) 0 []) refl (ap (λ l. get_or l 0 []) e))
 
 -- fields state one thing at most
 pub stated_fields-one : (s t : StatedValue) → IsStated s → IsStated t → stated_fields s ≡ stated_fields t → s ≡ t

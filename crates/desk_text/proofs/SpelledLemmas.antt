@@ -44,8 +44,11 @@ pub has_word : (command : Cmd) → HasWord command
 has_word (cmd.Enrol person craft home quals) = record { word = word.Enrol; about = _; fields_are = refl }
 has_word (cmd.Board board extra place) = record { word = word.Board; about = _; fields_are = refl }
 has_word (cmd.List person board) = record { word = word.List; about = _; fields_are = refl }
+has_word (cmd.Past person event) = record { word = word.Past; about = _; fields_are = refl }
+has_word (cmd.Happened person event) = record { word = word.Event; about = _; fields_are = refl }
 has_word (cmd.Vacancy job) = record { word = word.Vacancy; about = _; fields_are = refl }
 has_word (cmd.Next vac) = record { word = word.Next; about = _; fields_are = refl }
+has_word (cmd.Hours person month) = record { word = word.Hours; about = _; fields_are = refl }
 
 -- an enrolment, and its fields behind the word
 pub record IsEnrolment (about : List (List ℕ)) (command : Cmd) : Type 0 where
@@ -101,6 +104,16 @@ pub record SpellsJob (about : List (Bor (List ℕ))) (d : Bor (List ℕ)) (job :
   pub duty_is : (get_or about 5 d).now ≡ decimal job.duty
   pub limbo_is : (get_or about 6 d).now ≡ decimal job.limbo
   pub chain_is : (get_or about 7 d).now ≡ chain_text job.chain
+
+-- four fields, each at its place
+pub four : (about : List (Bor (List ℕ))) (d : Bor (List ℕ)) → length about ≡ 4
+    → map (λ field. field.now) about ≡ (get_or about 0 d).now ∷ (get_or about 1 d).now ∷ (get_or about 2 d).now ∷ (get_or about 3 d).now ∷ []
+four [] d e = absurd (omega arith)
+four (_ ∷ []) d e = absurd (omega arith)
+four (_ ∷ _ ∷ []) d e = absurd (omega arith)
+four (_ ∷ _ ∷ _ ∷ []) d e = absurd (omega arith)
+four (_ ∷ _ ∷ _ ∷ _ ∷ []) d e = refl
+four (_ ∷ _ ∷ _ ∷ _ ∷ _ ∷ _) d e = absurd (omega arith)
 
 eight : (about : List (Bor (List ℕ))) (d : Bor (List ℕ)) → length about ≡ 8 → map (λ field. field.now) about
     ≡ (get_or about 0 d).now ∷ (get_or about 1 d).now ∷ (get_or about 2 d).now ∷ (get_or about 3 d).now

@@ -1,9 +1,10 @@
 -- What a record's fields state.
 use Rattle.std.specs.Prelude.{◌≡◌, ℕ, List, ◌∷◌}
 use Rattle.desk_model.specs.declared.command.Cmd.{Cmd}
+use Rattle.duty_events.specs.declared.event.Event.{Event}
 use Rattle.desk_model.specs.Statement.{StatedValue}
-use Rattle.desk_model.specs.Fits.{IsCommand, IsStated}
-use Rattle.desk_model.specs.Texts.{command_fields, stated_fields}
+use Rattle.desk_model.specs.Fits.{IsEvent, IsCommand, IsStated}
+use Rattle.desk_model.specs.Texts.{event_fields, command_fields, stated_fields}
 use Rattle.desk_text.specs.declared.word.Word.{Word}
 use Rattle.desk_text.specs.Word.{word_text}
 
@@ -15,6 +16,11 @@ pub record SpellsCommand (fields : List (List ℕ)) (cmd : Cmd) : Type 0 where
 -- the word, and behind it these fields, are this command's
 abbrev pub Spells : Word → List (List ℕ) → Cmd → Type 0
 Spells word about cmd = SpellsCommand (word_text word ∷ about) cmd
+
+-- the fields are this event's
+pub record SpellsEvent (fields : List (List ℕ)) (event : Event) : Type 0 where
+  pub valid : IsEvent event
+  pub fields_are : fields ≡ event_fields event
 
 -- the fields are those of this command and of the minute at which it was stated
 pub record StatesCommand (fields : List (List ℕ)) (s : StatedValue) : Type 0 where

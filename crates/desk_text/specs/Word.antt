@@ -8,5 +8,8 @@ abbrev pub word_text : Word → List ℕ
 word_text word.Enrol = codes "enrol"
 word_text word.Board = codes "board"
 word_text word.List = codes "list"
+word_text word.Past = codes "past"
+word_text word.Event = codes "event"
 word_text word.Vacancy = codes "vacancy"
 word_text word.Next = codes "next"
+word_text word.Hours = codes "hours"

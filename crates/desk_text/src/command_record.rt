@@ -4,7 +4,10 @@ ghost use Rattle.desk_model.specs.declared.command.Cmd.{Cmd as CmdValue};
 ghost use Rattle.desk_model.specs.Statement.{StatedValue};
 ghost use Rattle.desk_text.specs.Spelled.{SpellsCommand, StatesCommand};
 
-use crate::spelled_command::{read_board, read_enrol, read_list, read_next, read_vacancy};
+use crate::spelled_command::{
+    read_board, read_enrol, read_happened, read_hours, read_list, read_next, read_past,
+    read_vacancy,
+};
 use crate::word::Word;
 use desk_base::Minute;
 use desk_model::{Cmd, Stated};
@@ -17,8 +20,10 @@ use desk_model::{Cmd, Stated};
 /// | `enrol` | person, craft, home, qualifications |
 /// | `board` | board, `pool` or `extra`, place |
 /// | `list` | person, board |
+/// | `past`, `event` | person, and an event |
 /// | `vacancy` | vacancy, craft, qualifications, place, report, duty, limbo, chain |
 /// | `next` | vacancy |
+/// | `hours` | person, month |
 pub fn read_command(fields: &[&[u8]]) -> Option<Stated>
     ensures some { IfSome result (StatesCommand (map (λ field. field.now) fields.now)) }
     ensures only { (s : StatedValue) → StatesCommand (map (λ field. field.now) fields.now) s
@@ -27,7 +32,11 @@ pub fn read_command(fields: &[&[u8]]) -> Option<Stated>
     let [minute, command @ ..] = fields else {
         return None;
     };
-    Stated::new(Minute::read(minute)?, read_cmd(command)?)
+    let minute = Minute::read(minute)?;
+    match read_cmd(command) {
+        Some(cmd) => Stated::new(minute, cmd),
+        None => None,
+    }
 }
 
 // The command of its word and the fields behind it.
@@ -43,7 +52,10 @@ fn read_cmd(fields: &[&[u8]]) -> Option<Cmd>
         Word::Enrol => read_enrol(about),
         Word::Board => read_board(about),
         Word::List => read_list(about),
+        Word::Past => read_past(about),
+        Word::Event => read_happened(about),
         Word::Vacancy => read_vacancy(about),
         Word::Next => read_next(about),
+        Word::Hours => read_hours(about),
     }
 }

@@ -34,7 +34,7 @@ fn is_written_as(stated: Stated, record: &[u8]) -> Result<bool, Fail> {
 
 #[test]
 fn records_that_are_read(rt: HostRuntime) -> Result<(), Fail> {
-    let records: [&[u8]; 21] = [
+    let records: [&[u8]; 34] = [
         b"2024-03-04 00:01,enrol,101,E,HOM,-",
         b"2024-03-04 00:01,enrol,1,C,A,0",
         b"2024-03-04 00:01,enrol,9999999,B,AWAY01,0+63",
@@ -56,6 +56,19 @@ fn records_that_are_read(rt: HostRuntime) -> Result<(), Fail> {
         b"2024-03-04 00:01,next,12",
         b"2024-03-04 00:01,next,1",
         b"2024-03-04 00:01,next,9999999",
+        b"2024-03-04 00:01,past,101,ride,2024-03-04 00:00",
+        b"2024-03-04 00:01,past,1,duty,2000-01-01 00:00",
+        b"2024-03-04 00:01,past,101,interim,2024-03-04 00:00,D,HOM",
+        b"2024-03-04 00:01,event,101,interim,2024-03-04 00:00,P,AWAY01",
+        b"2024-03-04 00:01,event,101,interim,2099-12-31 23:59,O,A",
+        b"2024-03-04 00:01,event,101,resume,2024-03-04 00:00",
+        b"2024-03-04 00:01,event,101,relieve,2024-03-04 00:00",
+        b"2024-03-04 00:01,event,9999999,ridehome,2024-03-04 00:00",
+        b"2024-03-04 00:01,event,101,final,2024-03-04 00:00,HOM",
+        b"2024-03-04 00:01,past,101,other,2024-02-29 23:59,2024-03-01 00:00,HOM",
+        b"2024-03-04 00:01,hours,101,2024-03",
+        b"2024-03-04 00:01,hours,1,2000-01",
+        b"2024-03-04 00:01,hours,9999999,2099-12",
     ];
     for record in records {
         let stated = read_record(record).ok_or("not read")?;
@@ -66,7 +79,32 @@ fn records_that_are_read(rt: HostRuntime) -> Result<(), Fail> {
 
 #[test]
 fn records_that_are_refused(rt: HostRuntime) -> Result<(), Fail> {
-    let records: [&[u8]; 85] = [
+    let records: [&[u8]; 108] = [
+        // Events of no form.
+        b"2024-03-04 00:01,past,101",
+        b"2024-03-04 00:01,past,101,ride",
+        b"2024-03-04 00:01,past,0,ride,2024-03-04 00:00",
+        b"2024-03-04 00:01,event,101,Ride,2024-03-04 00:00",
+        b"2024-03-04 00:01,event,101,ride,2024-03-04 00:00,HOM",
+        b"2024-03-04 00:01,event,101,duty,2100-01-01 00:00",
+        b"2024-03-04 00:01,event,101,duty,1999-12-31 23:59",
+        b"2024-03-04 00:01,event,101,duty,2024-02-30 00:00",
+        b"2024-03-04 00:01,event,101,interim,2024-03-04 00:00,E,HOM",
+        b"2024-03-04 00:01,event,101,interim,2024-03-04 00:00,D",
+        b"2024-03-04 00:01,event,101,interim,2024-03-04 00:00,D,hom",
+        b"2024-03-04 00:01,event,101,final,2024-03-04 00:00",
+        b"2024-03-04 00:01,event,101,final,2024-03-04 00:00,",
+        b"2024-03-04 00:01,event,101,relieve,2024-03-04 00:00,HOM",
+        b"2024-03-04 00:01,event,101,other,2024-03-04 00:00,2024-03-04 00:00,HOM",
+        b"2024-03-04 00:01,event,101,other,2024-03-04 00:01,2024-03-04 00:00,HOM",
+        b"2024-03-04 00:01,event,101,other,2024-03-04 00:00,HOM",
+        b"2024-03-04 00:01,event,101,rest,2024-03-04 00:00",
+        // Months of no form.
+        b"2024-03-04 00:01,hours,101,2024-3",
+        b"2024-03-04 00:01,hours,101,2024-13",
+        b"2024-03-04 00:01,hours,101,2100-01",
+        b"2024-03-04 00:01,hours,101",
+        b"2024-03-04 00:01,hours,101,2024-03,1",
         // No word, or none of a command.
         b"",
         b"2024-03-04 00:01",

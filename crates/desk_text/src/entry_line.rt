@@ -14,7 +14,7 @@ pub fn write_entry(entry: &Entry) -> LineText
     let mut line = LineText::new();
     put_number(&mut line, u32::from(entry.caller()));
     put(&mut line, b"|");
-    put_stated(&mut line, &entry.stated());
+    put_stated(&mut line, entry.stated());
     put(&mut line, b"|");
     put(&mut line, &entry.moment().write());
     put(&mut line, b"|");

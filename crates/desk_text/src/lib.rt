@@ -9,6 +9,7 @@ mod one_statement;
 mod opening_line;
 mod reply_line;
 mod spelled_command;
+mod spelled_event;
 mod stated_line;
 mod word;
 

@@ -1,12 +1,14 @@
 //! Replies as texts.
 ghost use Rattle.std.specs.Prelude.{◌≡◌, ◌≤◌, ◌+◌, ◌++◌};
 ghost use Rattle.arrayvec.specs.ArrayVec.{array_vec_len};
-ghost use Rattle.desk_model.specs.Texts.{state_text, late_text, reply_text};
-ghost use Rattle.desk_model.specs.Fits.{HasItsMinute};
+ghost use Rattle.desk_model.specs.Texts.{state_text, stage_text, fault_text, late_text, reply_text};
+ghost use Rattle.desk_model.specs.Fits.{StageHasItsMinute, FaultHasItsMinute, HasItsMinute};
 
 use crate::line_text::{LineText, put, put_number};
+use crate::stated_line::kind_text;
 use desk_base::Minute;
 use desk_model::{Reply, VacState};
+use duty_events::{EventFault, Stage};
 
 /// Adds the text of a reply, 48 bytes at most.
 pub fn put_reply(line: &mut LineText, reply: &Reply)
@@ -18,6 +20,7 @@ pub fn put_reply(line: &mut LineText, reply: &Reply)
     match reply {
         Reply::Done => put(line, b"done"),
         Reply::OutsideWindow => put(line, b"outside window"),
+        Reply::PastClosed => put(line, b"past closed"),
         Reply::Used => put(line, b"used"),
         Reply::PersonsFull => put(line, b"persons full"),
         Reply::BoardsFull => put(line, b"boards full"),
@@ -31,6 +34,21 @@ pub fn put_reply(line: &mut LineText, reply: &Reply)
             put(line, b"unfilled ");
             put_number(line, u32::from(*listed));
         }
+        Reply::Hours { used, capped } => {
+            put(line, b"hours ");
+            put_number(line, *used);
+            put(line, b" ");
+            put_number(line, *capped);
+        }
+        Reply::Frozen(vac) => {
+            put(line, b"frozen ");
+            put_number(line, vac.number());
+        }
+        Reply::EventAhead(moment) => {
+            put(line, b"event ahead ");
+            put(line, &moment.write());
+        }
+        Reply::Event(fault) => put_fault(line, fault),
         Reply::UnknownBoard(board) => {
             put(line, b"unknown board ");
             put(line, board.text());
@@ -66,6 +84,57 @@ pub fn put_reply(line: &mut LineText, reply: &Reply)
             put(line, board.text());
             put(line, b" ");
             put_number(line, u32::from(*position));
+        }
+    }
+}
+
+// Why an event may not follow those before it.
+fn put_fault(line: &mut LineText, fault: &EventFault)
+    requires minute { FaultHasItsMinute fault.now }
+    requires room { array_vec_len line.old + 48 ≤ 512 }
+    ensures text { line.new.items ≡ line.old.items ++ fault_text fault.now }
+    ensures len { array_vec_len line.new ≤ array_vec_len line.old + 48 }
+{
+    match fault {
+        EventFault::WrongStage(stage) => {
+            put(line, b"wrong stage ");
+            put_stage(line, stage);
+        }
+        EventFault::Behind(last) => {
+            put(line, b"behind ");
+            put(line, &last.write());
+        }
+        EventFault::InterimTooLong(minutes) => {
+            put(line, b"interim too long ");
+            put_number(line, *minutes);
+        }
+        EventFault::OtherPlace(place) => {
+            put(line, b"other place ");
+            put(line, place.text());
+        }
+    }
+}
+
+// Where a person stands in a tour of duty.
+fn put_stage(line: &mut LineText, stage: &Stage)
+    requires minute { StageHasItsMinute stage.now }
+    requires room { array_vec_len line.old + 36 ≤ 512 }
+    ensures text { line.new.items ≡ line.old.items ++ stage_text stage.now }
+    ensures len { array_vec_len line.new ≤ array_vec_len line.old + 36 }
+{
+    match stage {
+        Stage::Off => put(line, b"off"),
+        Stage::Riding => put(line, b"riding"),
+        Stage::Duty => put(line, b"duty"),
+        Stage::Waiting => put(line, b"waiting"),
+        Stage::RidingHome => put(line, b"riding home"),
+        Stage::Interim { kind, since, place } => {
+            put(line, b"interim ");
+            put(line, kind_text(kind));
+            put(line, b" ");
+            put(line, &since.write());
+            put(line, b" ");
+            put(line, place.text());
         }
     }
 }

@@ -5,7 +5,8 @@ ghost use Rattle.desk_text.specs.declared.word.Word.TheVariants as word;
 ghost use Rattle.desk_text.specs.Spelled.{Spells};
 
 use crate::field::{read_extra, read_minutes, read_person, read_vac};
-use desk_base::{Code, Minute};
+use crate::spelled_event::read_event;
+use desk_base::{Code, Minute, Month};
 use desk_model::{Chain, Cmd, Job};
 use qualifications::{Craft, Quals};
 
@@ -57,6 +58,36 @@ pub fn read_list(about: &[&[u8]]) -> Option<Cmd>
     })
 }
 
+/// Person, and an event before the person was listed.
+pub fn read_past(about: &[&[u8]]) -> Option<Cmd>
+    ensures some { IfSome result (Spells word.Past (map (λ field. field.now) about.now)) }
+    ensures only { (cmd : CmdValue) → Spells word.Past (map (λ field. field.now) about.now) cmd
+        → result ≡ Some cmd }
+{
+    let [person, event @ ..] = about else {
+        return None;
+    };
+    Some(Cmd::Past {
+        person: read_person(person)?,
+        event: read_event(event)?,
+    })
+}
+
+/// Person, and an event.
+pub fn read_happened(about: &[&[u8]]) -> Option<Cmd>
+    ensures some { IfSome result (Spells word.Event (map (λ field. field.now) about.now)) }
+    ensures only { (cmd : CmdValue) → Spells word.Event (map (λ field. field.now) about.now) cmd
+        → result ≡ Some cmd }
+{
+    let [person, event @ ..] = about else {
+        return None;
+    };
+    Some(Cmd::Happened {
+        person: read_person(person)?,
+        event: read_event(event)?,
+    })
+}
+
 /// Vacancy, craft, qualifications, place, report, duty, limbo and chain.
 pub fn read_vacancy(about: &[&[u8]]) -> Option<Cmd>
     ensures some { IfSome result (Spells word.Vacancy (map (λ field. field.now) about.now)) }
@@ -90,5 +121,20 @@ pub fn read_next(about: &[&[u8]]) -> Option<Cmd>
     };
     Some(Cmd::Next {
         vac: read_vac(vac)?,
+    })
+}
+
+/// Person and month.
+pub fn read_hours(about: &[&[u8]]) -> Option<Cmd>
+    ensures some { IfSome result (Spells word.Hours (map (λ field. field.now) about.now)) }
+    ensures only { (cmd : CmdValue) → Spells word.Hours (map (λ field. field.now) about.now) cmd
+        → result ≡ Some cmd }
+{
+    let [person, month] = about else {
+        return None;
+    };
+    Some(Cmd::Hours {
+        person: read_person(person)?,
+        month: Month::read(month)?,
     })
 }

@@ -1,12 +1,16 @@
 //! What is stated, as the fields of a record.
-ghost use Rattle.std.specs.Prelude.{◌≡◌, ◌≤◌, ◌+◌, ◌++◌};
+ghost use Rattle.std.specs.Prelude.{◌≡◌, ◌≤◌, ◌+◌, ◌++◌, length};
 ghost use Rattle.std.specs.List.{join_with_byte};
 ghost use Rattle.arrayvec.specs.ArrayVec.{array_vec_len};
-ghost use Rattle.desk_model.specs.Texts.{command_fields, stated_fields, job_fields};
+ghost use Rattle.desk_model.specs.Texts.{command_fields, stated_fields, kind_text, event_fields, job_fields};
+ghost use Rattle.desk_model.specs.Fits.{TellsYears};
+ghost use Rattle.desk_base.specs.Minute.{IsInYears};
+ghost use Rattle.duty_events.specs.Allowed.{first_minute, last_minute};
 ghost use Rattle.desk_text.specs.Marked.{marked};
 
 use crate::line_text::{LineText, put, put_field, put_number_field};
 use desk_model::{Cmd, Job, Stated};
+use duty_events::{Event, Kind};
 
 /// Adds the fields of what is stated, joined by commas, 360 bytes at most.
 pub fn put_stated(line: &mut LineText, stated: &Stated)
@@ -15,12 +19,13 @@ pub fn put_stated(line: &mut LineText, stated: &Stated)
     ensures len { array_vec_len line.new ≤ array_vec_len line.old + 360 }
 {
     put(line, &stated.minute().write());
-    put_command(line, &stated.cmd());
+    put_command(line, stated.cmd());
 }
 
 // Adds each field of the command behind a comma.
 fn put_command(line: &mut LineText, cmd: &Cmd)
-    requires { array_vec_len line.old + 340 ≤ 512 }
+    requires years { TellsYears cmd.now }
+    requires room { array_vec_len line.old + 340 ≤ 512 }
     ensures text { line.new.items ≡ line.old.items ++ marked (command_fields cmd.now) }
     ensures len { array_vec_len line.new ≤ array_vec_len line.old + 340 }
 {
@@ -52,6 +57,16 @@ fn put_command(line: &mut LineText, cmd: &Cmd)
             put_number_field(line, person.number());
             put_field(line, board.text());
         }
+        Cmd::Past { person, event } => {
+            put_field(line, b"past");
+            put_number_field(line, person.number());
+            put_event(line, event);
+        }
+        Cmd::Happened { person, event } => {
+            put_field(line, b"event");
+            put_number_field(line, person.number());
+            put_event(line, event);
+        }
         Cmd::Vacancy(job) => {
             put_field(line, b"vacancy");
             put_job(line, job);
@@ -60,6 +75,72 @@ fn put_command(line: &mut LineText, cmd: &Cmd)
             put_field(line, b"next");
             put_number_field(line, vac.number());
         }
+        Cmd::Hours { person, month } => {
+            put_field(line, b"hours");
+            put_number_field(line, person.number());
+            put_field(line, &month.write());
+        }
+    }
+}
+
+// Adds each field of the event behind a comma.
+fn put_event(line: &mut LineText, event: &Event)
+    requires first { IsInYears (first_minute event.now) }
+    requires last { IsInYears (last_minute event.now) }
+    requires room { array_vec_len line.old + 60 ≤ 512 }
+    ensures text { line.new.items ≡ line.old.items ++ marked (event_fields event.now) }
+    ensures len { array_vec_len line.new ≤ array_vec_len line.old + 60 }
+{
+    match event {
+        Event::Ride(at) => {
+            put_field(line, b"ride");
+            put_field(line, &at.write());
+        }
+        Event::Duty(at) => {
+            put_field(line, b"duty");
+            put_field(line, &at.write());
+        }
+        Event::Interim(at, kind, place) => {
+            put_field(line, b"interim");
+            put_field(line, &at.write());
+            put_field(line, kind_text(kind));
+            put_field(line, place.text());
+        }
+        Event::Resume(at) => {
+            put_field(line, b"resume");
+            put_field(line, &at.write());
+        }
+        Event::Relieve(at) => {
+            put_field(line, b"relieve");
+            put_field(line, &at.write());
+        }
+        Event::RideHome(at) => {
+            put_field(line, b"ridehome");
+            put_field(line, &at.write());
+        }
+        Event::Final(at, place) => {
+            put_field(line, b"final");
+            put_field(line, &at.write());
+            put_field(line, place.text());
+        }
+        Event::Other(span, place) => {
+            put_field(line, b"other");
+            put_field(line, &span.from().write());
+            put_field(line, &span.to().write());
+            put_field(line, place.text());
+        }
+    }
+}
+
+/// The letter of an interim's kind.
+pub fn kind_text(kind: &Kind) -> &'static [u8]
+    ensures text { result.now ≡ kind_text kind.now }
+    ensures len { length result.now ≡ 1 }
+{
+    match kind {
+        Kind::D => b"D",
+        Kind::P => b"P",
+        Kind::O => b"O",
     }
 }
 

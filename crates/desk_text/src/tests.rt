@@ -6,6 +6,7 @@ ghost use Rattle.desk_model.specs.Fits.{HasItsMinute};
 use crate::write_entry;
 use desk_base::{Code, Minute, PersonNo, VacNo};
 use desk_model::{Chain, Cmd, Entry, Job, Reply, Stated};
+use duty_events::{EventFault, Kind, Stage};
 use qualifications::{Craft, Quals};
 use std::test::Fail;
 
@@ -34,6 +35,14 @@ fn line_is(caller: u8, cmd: Cmd, reply: Reply, line: &[u8]) -> Result<bool, Fail
     let moment = minute(b"2024-03-04 00:02")?;
     let entry = Entry::new(caller, stated, moment, reply);
     Ok(write_entry(&entry).as_slice() == line)
+}
+
+// Whether the entry of `next` and this reply has this line.
+fn reply_is(reply: Reply, line: &[u8]) -> Result<bool, Fail>
+    requires { HasItsMinute reply }
+{
+    let vac = VacNo::new(12).ok_or("no vacancy")?;
+    line_is(0, Cmd::Next { vac }, reply, line)
 }
 
 #[test]
@@ -108,14 +117,47 @@ fn lines_of_replies(rt: HostRuntime) -> Result<(), Fail> {
         position: 500,
     };
     let line = b"0|2024-03-04 00:01,next,12|2024-03-04 00:02|offered 101 P1 500\n";
-    assert!(rt; line_is(0, next()?, offered, line)?);
+    assert!(rt; reply_is(offered, line)?);
     let unknown = Reply::UnknownBoard(code(b"P2")?);
     let line = b"0|2024-03-04 00:01,next,12|2024-03-04 00:02|unknown board P2\n";
-    assert!(rt; line_is(0, next()?, unknown, line)?);
+    assert!(rt; reply_is(unknown, line)?);
     let lapsed = Reply::Lapsed(minute(b"2024-03-04 08:00")?);
     let line = b"0|2024-03-04 00:01,next,12|2024-03-04 00:02|lapsed 2024-03-04 08:00\n";
-    assert!(rt; line_is(0, next()?, lapsed, line)?);
+    assert!(rt; reply_is(lapsed, line)?);
     let line = b"0|2024-03-04 00:01,next,12|2024-03-04 00:02|plan too long 21103(a)(2)\n";
-    assert!(rt; line_is(0, next()?, Reply::PlanTooLong, line)?);
+    assert!(rt; reply_is(Reply::PlanTooLong, line)?);
+    Ok(())
+}
+
+#[test]
+fn lines_of_refused_events(rt: HostRuntime) -> Result<(), Fail> {
+    let since = minute(b"2024-03-04 00:00")?;
+    let stage = Stage::Interim {
+        kind: Kind::D,
+        since,
+        place: code(b"HOM")?,
+    };
+    let wrong = Reply::Event(EventFault::WrongStage(stage));
+    let line =
+        b"0|2024-03-04 00:01,next,12|2024-03-04 00:02|wrong stage interim D 2024-03-04 00:00 HOM\n";
+    assert!(rt; reply_is(wrong, line)?);
+    let home = Reply::Event(EventFault::WrongStage(Stage::RidingHome));
+    let line = b"0|2024-03-04 00:01,next,12|2024-03-04 00:02|wrong stage riding home\n";
+    assert!(rt; reply_is(home, line)?);
+    let behind = Reply::Event(EventFault::Behind(since));
+    let line = b"0|2024-03-04 00:01,next,12|2024-03-04 00:02|behind 2024-03-04 00:00\n";
+    assert!(rt; reply_is(behind, line)?);
+    let long = Reply::Event(EventFault::InterimTooLong(600));
+    let line = b"0|2024-03-04 00:01,next,12|2024-03-04 00:02|interim too long 600\n";
+    assert!(rt; reply_is(long, line)?);
+    let other = Reply::Event(EventFault::OtherPlace(code(b"ALT")?));
+    let line = b"0|2024-03-04 00:01,next,12|2024-03-04 00:02|other place ALT\n";
+    assert!(rt; reply_is(other, line)?);
+    let hours = Reply::Hours {
+        used: 2_520,
+        capped: 1_800,
+    };
+    let line = b"0|2024-03-04 00:01,next,12|2024-03-04 00:02|hours 2520 1800\n";
+    assert!(rt; reply_is(hours, line)?);
     Ok(())
 }

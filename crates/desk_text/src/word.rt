@@ -8,8 +8,11 @@ pub enum Word {
     Enrol,
     Board,
     List,
+    Past,
+    Event,
     Vacancy,
     Next,
+    Hours,
 }
 
 impl Word {
@@ -24,10 +27,16 @@ impl Word {
             Some(Word::Board)
         } else if text == b"list".as_slice() {
             Some(Word::List)
+        } else if text == b"past".as_slice() {
+            Some(Word::Past)
+        } else if text == b"event".as_slice() {
+            Some(Word::Event)
         } else if text == b"vacancy".as_slice() {
             Some(Word::Vacancy)
         } else if text == b"next".as_slice() {
             Some(Word::Next)
+        } else if text == b"hours".as_slice() {
+            Some(Word::Hours)
         } else {
             None
         }

@@ -5,18 +5,14 @@ ghost use Rattle.desk_model.specs.EnrolAnswer.{enrol_answer};
 ghost use Rattle.desk_model.specs.BoardAnswer.{board_answer};
 ghost use Rattle.desk_model.specs.ListAnswer.{list_answer};
 ghost use Rattle.desk_model.specs.VacancyAnswer.{is_extra, unknown_in, bad_in, plan_answer, chain_answer, vacancy_answer};
-ghost use Rattle.desk_model.specs.NextAnswer.{choice_answer, vacant_answer, state_answer, next_answer};
 ghost use Rattle.desk_model.specs.Fits.{HasItsMinute};
-ghost use Rattle.plain_core.specs.Fits.{BoardsFit};
 
-use crate::bars::first_free;
-use crate::boards::{count_boards_of, count_listed, count_on, is_on};
-use crate::offers::state_of;
+use crate::boards::{count_boards_of, count_on, is_on};
 use crate::register::{
     board_of, count_boards, count_persons, count_vacancies, person_of, vacancy_of,
 };
-use desk_base::{Code, Minute, PersonNo, VacNo};
-use desk_model::{Entry, Job, Link, Opening, Reply, VacState};
+use desk_base::{Code, Minute, PersonNo};
+use desk_model::{Entry, Job, Opening, Reply};
 
 /// The answer to `enrol`.
 pub(crate) fn enrol_answer(entries: &[Entry], person: PersonNo) -> Reply
@@ -173,58 +169,4 @@ pub(crate) fn vacancy_answer(
         unknown_in(entries, codes),
         bad_in(entries, codes),
     )
-}
-
-// An offer to the link, or none where so many are listed and all are barred.
-fn choice_answer(listed: u16, link: Option<Link>) -> Reply
-    ensures value { result ≡ choice_answer listed link }
-    ensures range { HasItsMinute result }
-{
-    match &link {
-        Some(link) => Reply::Offered {
-            person: link.person,
-            board: link.board,
-            position: link.position,
-        },
-        None => Reply::Unfilled { listed },
-    }
-}
-
-// The answer where the vacancy is open.
-fn vacant_answer(entries: &[Entry], moment: Minute, job: &Job) -> Reply
-    requires { BoardsFit entries.now }
-    ensures value { result ≡ vacant_answer entries.now moment job.now }
-    ensures range { HasItsMinute result }
-{
-    if job.report() < moment {
-        return Reply::Lapsed(job.report());
-    }
-    let chain = job.chain();
-    let listed = count_listed(entries, chain.codes());
-    choice_answer(listed, first_free(entries, moment, job))
-}
-
-// The answer by how the vacancy stands.
-fn state_answer(entries: &[Entry], moment: Minute, job: &Job, state: VacState) -> Reply
-    requires { BoardsFit entries.now }
-    ensures value { result ≡ state_answer entries.now moment job.now state }
-    ensures range { HasItsMinute result }
-{
-    match &state {
-        VacState::Taken(_) | VacState::Begun(_) | VacState::Annulled => Reply::Closed(state),
-        VacState::OnOffer(person) => Reply::OfferOpen(*person),
-        VacState::Vacant => vacant_answer(entries, moment, job),
-    }
-}
-
-/// The answer to `next` at a moment.
-pub(crate) fn next_answer(entries: &[Entry], moment: Minute, vac: VacNo) -> Reply
-    requires { BoardsFit entries.now }
-    ensures value { result ≡ next_answer entries.now moment vac }
-    ensures range { HasItsMinute result }
-{
-    match &vacancy_of(entries, vac) {
-        Some(job) => state_answer(entries, moment, job, state_of(entries, job.vac())),
-        None => Reply::UnknownVacancy,
-    }
 }

@@ -1,15 +1,16 @@
-ghost use Rattle.std.specs.Prelude.{◌≡◌, ◌≤◌, ◌<◌, ◌+◌, nat_eq, length, List};
+ghost use Rattle.std.specs.Prelude.{◌≡◌, ◌≤◌, ◌<◌, ◌+◌, nat_eq, length, Some, None, if◌then◌else◌};
+ghost use Rattle.std.specs.Str.{bytes_eq};
 ghost use Rattle.std.specs.List.{cons_option, list_any};
-ghost use Rattle.desk_model.specs.Entry.{EntryValue};
 ghost use Rattle.desk_model.specs.History.{said};
-ghost use Rattle.desk_model.specs.Boards.{puts, sends, is_on, boards_of, order, chain};
+ghost use Rattle.desk_model.specs.Boards.{puts, is_at, released, sends, is_on, boards_of, order, chain};
 ghost use Rattle.plain_core.specs.Fits.{BoardsFit};
 ghost use Rattle.plain_core.specs.Orders.{sent_from, order_from};
 
 use crate::history::{accepted, is_same};
-use crate::register::sets_up_any;
+use crate::register::{board_of, sets_up_any};
 use desk_base::{Code, PersonNo};
-use desk_model::{Cmd, Entry};
+use desk_model::{BoardSetup, Cmd, Entry};
+use duty_events::Event;
 
 // Whether the entry puts this person on this board; `None` where it says nothing of that.
 fn puts(entry: &Entry, person: PersonNo, board: &Code) -> Option<bool>
@@ -19,7 +20,7 @@ fn puts(entry: &Entry, person: PersonNo, board: &Code) -> Option<bool>
     let Cmd::List {
         person: listed,
         board: code,
-    } = &cmd
+    } = cmd
     else {
         return None;
     };
@@ -33,22 +34,53 @@ fn puts(entry: &Entry, person: PersonNo, board: &Code) -> Option<bool>
     }
 }
 
-// Whom the entry sends to the bottom of this board, whatever came before it.
-fn sends(entry: &Entry, board: &Code) -> Option<PersonNo>
-    ensures { (before : List EntryValue) → result ≡ said (sends board.now before) entry.now }
+// Whom the entry behind these sends to the bottom of this board.
+fn sends(before: &[Entry], entry: &Entry, board: &Code) -> Option<PersonNo>
+    ensures { result ≡ said (sends board.now before.now) entry.now }
 {
     let cmd = accepted(entry)?;
-    let Cmd::List {
-        person,
-        board: code,
-    } = &cmd
-    else {
-        return None;
-    };
+    match cmd {
+        Cmd::List {
+            person,
+            board: code,
+        } => listed(*person, code, board),
+        Cmd::Happened { person, event } => released(&board_of(before, board), *person, event),
+        _ => None,
+    }
+}
+
+// The person, where the code is this board's.
+fn listed(person: PersonNo, code: &Code, board: &Code) -> Option<PersonNo>
+    ensures { result ≡ (if bytes_eq code.now board.now then Some person else None) }
+{
     if is_same(code, board) {
-        Some(*person)
+        Some(person)
     } else {
         None
+    }
+}
+
+// Whom an event of a person sends to the bottom of a board that was set up so.
+fn released(board: &Option<BoardSetup>, person: PersonNo, event: &Event) -> Option<PersonNo>
+    ensures { result ≡ released board.now person event.now }
+{
+    let Event::Final(_, place) = event else {
+        return None;
+    };
+    if is_at(place, board) {
+        Some(person)
+    } else {
+        None
+    }
+}
+
+// The board is at this place.
+fn is_at(place: &Code, board: &Option<BoardSetup>) -> bool
+    ensures { result ≡ is_at place.now board.now }
+{
+    match board {
+        Some(board) => is_same(&board.place, place),
+        None => false,
     }
 }
 
@@ -88,7 +120,7 @@ fn sent_at(entries: &[Entry], place: usize, board: &Code) -> Option<PersonNo>
     ensures { sent_from entries.now board.now place
         ≡ cons_option result (sent_from entries.now board.now (place + 1)) }
 {
-    sends(&entries[place], board)
+    sends(&entries[..place], &entries[place], board)
 }
 
 // Whether an entry from this place on sends the person to the bottom of the board.

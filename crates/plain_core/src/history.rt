@@ -1,6 +1,6 @@
-ghost use Rattle.std.specs.Prelude.{◌≡◌, Some};
+ghost use Rattle.std.specs.Prelude.{◌≡◌, true, false, IfSome, IfNone};
 ghost use Rattle.std.specs.Str.{bytes_eq};
-ghost use Rattle.desk_model.specs.History.{is_done, said};
+ghost use Rattle.desk_model.specs.History.{is_done};
 
 use desk_base::Code;
 use desk_model::{Cmd, Entry, Reply};
@@ -13,8 +13,9 @@ fn is_done(reply: &Reply) -> bool
 }
 
 // The entry's command, where it was accepted.
-pub(crate) fn accepted(entry: &Entry) -> Option<Cmd>
-    ensures { result ≡ said (λ cmd. Some cmd) entry.now }
+pub(crate) fn accepted(entry: &Entry) -> Option<&Cmd>
+    ensures done { IfSome result (λ cmd. (is_done entry.now.reply ≡ true) × (cmd.now ≡ entry.now.stated.cmd)) }
+    ensures refused { IfNone result (is_done entry.now.reply ≡ false) }
 {
     if is_done(&entry.reply()) {
         Some(entry.stated().cmd())

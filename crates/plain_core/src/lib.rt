@@ -4,8 +4,12 @@
 mod answers;
 mod bars;
 mod boards;
+mod duty;
+mod event_answer;
 mod history;
+mod hours_answer;
 mod moment;
+mod next_answer;
 mod next_entry;
 mod offers;
 mod plain_core;

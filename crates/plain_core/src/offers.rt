@@ -10,7 +10,7 @@ fn asks_for(entry: &Entry) -> Option<VacNo>
     ensures { result ≡ asks_for entry.now.stated.cmd }
 {
     let cmd = entry.stated().cmd();
-    let Cmd::Next { vac } = &cmd else {
+    let Cmd::Next { vac } = cmd else {
         return None;
     };
     Some(*vac)

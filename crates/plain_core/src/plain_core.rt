@@ -4,15 +4,19 @@ ghost use Rattle.desk_model.specs.Legal.{IsLegal};
 use crate::next_entry::next_entry;
 use desk_base::NoMemory;
 use desk_model::{DeskCore, Entry, Opening, Stated};
+use duty_events::Event;
 use std::alloc::Global;
 
-/// A desk that keeps its opening and its entries, and finds each answer by reading the entries from the first on.
+/// A desk that keeps its opening and its entries, and finds each answer by reading the entries from the first on. It has
+/// a list for the events of one person, which it fills anew where it asks about somebody.
 #[derive(Drop)]
 pub struct PlainCore {
     opening: Opening,
     entries: Vec<Entry>,
+    events: Vec<Event>,
     left: u64,
     ghost roomy: { vec_len entries + left ≤ vec_capacity entries },
+    ghost spacious: { vec_len entries + left ≤ vec_capacity events },
     ghost legal: { ∥ IsLegal opening entries.items ∥₁ },
 }
 
@@ -26,6 +30,7 @@ impl PlainCore {
         Ok(PlainCore {
             opening,
             entries: Vec::with_capacity(alloc, steps as usize)?,
+            events: Vec::with_capacity(alloc, steps as usize)?,
             left: steps,
         })
     }
@@ -41,7 +46,13 @@ impl DeskCore for PlainCore {
     ghost stands = { λ core h. IsKept core.opening core.entries.items h };
 
     fn step(&mut self, caller: u8, stated: Stated) -> Entry {
-        let entry = next_entry(&self.opening, &self.entries, caller, stated);
+        let entry = next_entry(
+            &self.opening,
+            &self.entries,
+            &mut self.events,
+            caller,
+            stated,
+        );
         self.entries.push_reserved(entry);
         self.left -= 1;
         entry

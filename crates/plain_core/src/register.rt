@@ -17,7 +17,7 @@ fn enrols(entry: &Entry, person: PersonNo) -> Option<Person>
         craft,
         home,
         quals,
-    } = &cmd
+    } = cmd
     else {
         return None;
     };
@@ -36,7 +36,7 @@ fn enrols_any(entry: &Entry) -> Option<PersonNo>
     ensures { result ≡ said enrols_any entry.now }
 {
     let cmd = accepted(entry)?;
-    let Cmd::Enrol { person, .. } = &cmd else {
+    let Cmd::Enrol { person, .. } = cmd else {
         return None;
     };
     Some(*person)
@@ -51,7 +51,7 @@ fn sets_up(entry: &Entry, board: &Code) -> Option<BoardSetup>
         board: code,
         extra,
         place,
-    } = &cmd
+    } = cmd
     else {
         return None;
     };
@@ -69,7 +69,7 @@ pub(crate) fn sets_up_any(entry: &Entry) -> Option<Code>
     ensures { result ≡ said sets_up_any entry.now }
 {
     let cmd = accepted(entry)?;
-    let Cmd::Board { board, .. } = &cmd else {
+    let Cmd::Board { board, .. } = cmd else {
         return None;
     };
     Some(*board)
@@ -80,7 +80,7 @@ fn makes(entry: &Entry, vac: VacNo) -> Option<Job>
     ensures { result ≡ said (makes vac) entry.now }
 {
     let cmd = accepted(entry)?;
-    let Cmd::Vacancy(job) = &cmd else {
+    let Cmd::Vacancy(job) = cmd else {
         return None;
     };
     if job.vac().number() != vac.number() {
@@ -94,7 +94,7 @@ pub(crate) fn makes_any(entry: &Entry) -> Option<VacNo>
     ensures { result ≡ said makes_any entry.now }
 {
     let cmd = accepted(entry)?;
-    let Cmd::Vacancy(job) = &cmd else {
+    let Cmd::Vacancy(job) = cmd else {
         return None;
     };
     Some(job.vac())

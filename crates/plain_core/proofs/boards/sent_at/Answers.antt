@@ -1,4 +1,4 @@
-use Rattle.std.proofs.Common.{◌+◌, take, sym, ap, ◌∙◌}
+use Rattle.std.proofs.Common.{◌+◌, sym, ap, ◌∙◌}
 use Rattle.std.specs.List.{cons_option}
 use Rattle.plain_core.specs.Orders.{sent_from}
 use Rattle.plain_core.proofs.OrderLemmas.{sent_from-next}
@@ -8,4 +8,4 @@ pub returns : goal.returns
 returns c =
     let h = c.args.entries.now in
     sent_from-next h c.args.board.now c.args.place c.index-entries-place.result c.requires c.index-entries-place.is
-    ∙ ap (λ who. cons_option who (sent_from h c.args.board.now (c.args.place + 1))) (sym (c.sends.ensures (take c.args.place h)))
+    ∙ ap (λ who. cons_option who (sent_from h c.args.board.now (c.args.place + 1))) (sym c.sends.ensures)

@@ -13,17 +13,17 @@ pub invariant_of-self-clause-legal : goal.invariant_of-self-clause-legal
 invariant_of-self-clause-legal c =
     let o = c.args.self.now.opening in
     let h = c.args.self.now.entries.items in
-    let entry = c.next_entry-entry.ensures ∙ ap (λ x. next o x c.args.caller c.args.stated) c.deref.ensures.value in
+    let entry = c.next_entry-entry.ensures.entry ∙ ap (λ x. next o x c.args.caller c.args.stated) c.deref.ensures.value in
     subst (λ x. ∥ IsLegal o x ∥₁) (sym (c.push_reserved.ensures.items ∙ ap (λ e. h ++ e ∷ []) entry)) (known-next o h c.args.caller c.args.stated c.args.self.now.legal)
 
 pub returns-clause-answer : goal.returns-clause-answer
 returns-clause-answer c h stands =
-    c.next_entry-entry.ensures ∙ ap (λ x. next c.args.self.now.opening x c.args.caller c.args.stated) (c.deref.ensures.value ∙ sym stands.0)
+    c.next_entry-entry.ensures.entry ∙ ap (λ x. next c.args.self.now.opening x c.args.caller c.args.stated) (c.deref.ensures.value ∙ sym stands.0)
 
 pub returns-clause-stands : goal.returns-clause-stands
 returns-clause-stands c h stands =
     let o = c.args.self.now.opening in
-    let entry = c.next_entry-entry.ensures ∙ ap (λ x. next o x c.args.caller c.args.stated) (c.deref.ensures.value ∙ sym stands.0) in (
+    let entry = c.next_entry-entry.ensures.entry ∙ ap (λ x. next o x c.args.caller c.args.stated) (c.deref.ensures.value ∙ sym stands.0) in (
       ap (λ x. x ++ c.next_entry-entry.result ∷ []) stands.0 ∙ sym c.push_reserved.ensures.items,
       subst (λ e. IsLegal o (h ++ e ∷ [])) (sym entry) (legal-next o h c.args.caller c.args.stated stands.1),
     )

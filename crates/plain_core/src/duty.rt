@@ -1,0 +1,115 @@
+ghost use Rattle.std.specs.Prelude.{◌≡◌, ◌≤◌, nat_eq, length, vec_capacity, is_some, Some, None, if◌then◌else◌};
+ghost use Rattle.duty_events.specs.Lists.{stage_of, latest};
+ghost use Rattle.desk_model.specs.History.{said};
+ghost use Rattle.desk_model.specs.Duty.{tells, may_follow, events, closes, is_closed};
+
+use crate::history::accepted;
+use desk_base::{Minute, PersonNo};
+use desk_model::{Cmd, Entry};
+use duty_events::{Event, Stage, allowed};
+
+// The event that the entry tells of this person.
+fn told(entry: &Entry, person: PersonNo) -> Option<Event>
+    ensures { result ≡ said (tells person) entry.now }
+{
+    let cmd = accepted(entry)?;
+    match cmd {
+        Cmd::Past {
+            person: other,
+            event,
+        } => told_of(*other, person, event),
+        Cmd::Happened {
+            person: other,
+            event,
+        } => told_of(*other, person, event),
+        _ => None,
+    }
+}
+
+// The event, where it is told of this person.
+fn told_of(other: PersonNo, person: PersonNo, event: &Event) -> Option<Event>
+    ensures { result ≡ (if nat_eq other person then Some event.now else None) }
+{
+    if other.number() == person.number() {
+        Some(*event)
+    } else {
+        None
+    }
+}
+
+// The event may follow events that ended in the stage, with that latest minute.
+fn may_follow(stage: &Stage, last: &Option<Minute>, event: &Event) -> bool
+    ensures { result ≡ may_follow stage.now last.now event.now }
+{
+    let first = event.first_minute();
+    let end = event.last_minute();
+    let is_allowed = allowed(*stage, *event, *last).is_ok();
+    is_allowed && first.is_in_years() && end.is_in_years() && first <= end
+}
+
+/// Puts the person's events into a list that has room for them, and nothing else.
+pub(crate) fn gather(entries: &[Entry], person: PersonNo, list: &mut Vec<Event>)
+    requires { length entries.now ≤ vec_capacity list.old }
+    ensures events { list.new.items ≡ events entries.now person }
+    ensures room { vec_capacity list.new ≡ vec_capacity list.old }
+{
+    list.clear();
+    let mut stage = Stage::Off;
+    let mut last = None;
+    for entry in entries {
+        let Some(event) = told(entry, person) else {
+            continue;
+        };
+        if !may_follow(&stage, &last, &event) {
+            continue;
+        }
+        list.push_reserved(event);
+        stage = stage.after(&event);
+        last = Some(event.last_minute());
+    }
+}
+
+/// The stage that a list of events ends in.
+pub(crate) fn stage_of(events: &[Event]) -> Stage
+    ensures { result ≡ stage_of events.now }
+{
+    let mut stage = Stage::Off;
+    for event in events {
+        stage = stage.after(event);
+    }
+    stage
+}
+
+/// The latest minute of a list of events.
+pub(crate) fn latest(events: &[Event]) -> Option<Minute>
+    ensures { result ≡ latest events.now }
+{
+    let event = events.last()?;
+    Some(event.last_minute())
+}
+
+// Whether after the entry the person's past can't be told any more.
+fn closes(entry: &Entry, person: PersonNo) -> bool
+    ensures { result ≡ is_some (said (closes person) entry.now) }
+{
+    let Some(cmd) = accepted(entry) else {
+        return false;
+    };
+    match cmd {
+        Cmd::List { person: other, .. } => other.number() == person.number(),
+        Cmd::Happened { person: other, .. } => other.number() == person.number(),
+        _ => false,
+    }
+}
+
+/// Whether the person's past can't be told any more.
+pub(crate) fn is_closed(entries: &[Entry], person: PersonNo) -> bool
+    ensures { result ≡ is_closed entries.now person }
+{
+    for entry in entries {
+        if closes(entry, person) {
+            return true;
+        }
+    }
+    false
+}
