@@ -38,6 +38,17 @@ impl Minute {
         }
     }
 
+    /// 1970-01-01 00:00, before which there is no minute.
+    pub const FIRST: Minute = Minute(0);
+
+    /// The minute that comes so many minutes after this one.
+    pub fn after(self, minutes: u64) -> Minute
+        requires { self + minutes < 2 ^ 28 }
+        ensures { result ≡ self + minutes }
+    {
+        Minute(self.0 + minutes)
+    }
+
     // The first minute of a day.
     pub(crate) fn from_day(day: u32) -> Minute
         requires { day < 186_414 }

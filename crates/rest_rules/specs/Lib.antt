@@ -1,0 +1,3 @@
+pub mod Excess
+pub mod OffFrom
+pub mod Rest

@@ -1,0 +1,33 @@
+-- Since when someone is off.
+use Rattle.std.specs.Prelude.{◌≡◌, ℕ, zero, suc, ◌-◌, ◌<◌, ◌≤◌, Bool, true, false, ◌&&◌, nat_lt, Option, None, Some, if◌then◌else◌, List}
+use Rattle.duty_events.specs.declared.event.Event.{Event}
+use Rattle.duty_events.specs.Allowed.{last_minute}
+use Rattle.duty_events.specs.Lists.{last_event}
+use Rattle.duty_events.specs.MinuteKind.{kind_of, is_worked}
+
+-- a minute is worked
+abbrev pub works : List Event → ℕ → Bool
+works es t = is_worked (kind_of es t)
+
+-- one past the last minute before another of which something holds, 0 if it holds of none
+unfoldable pub past_last : (ℕ → Bool) → ℕ → ℕ
+past_last holds zero = 0
+past_last holds (suc t) = if holds t then suc t else past_last holds t
+
+-- the latest minute of events, 0 if there are none. None is worked from there on
+abbrev pub latest_minute : Option Event → ℕ
+latest_minute None = 0
+latest_minute (Some e) = last_minute e
+
+-- one past the last worked minute, 0 if none is
+unfoldable pub off_from : List Event → ℕ
+off_from es = past_last (works es) (latest_minute (last_event es))
+
+-- the same in other words: the minute before is worked, if there is one, and none after it is
+pub record IsOffFrom (es : List Event) (n : ℕ) : Type 0 where
+  pub last : 0 < n → works es (n - 1) ≡ true
+  pub after : (t : ℕ) → n ≤ t → works es t ≡ false
+
+-- where work ends that ended at a minute before those from one on and before another, which are all worked or none
+abbrev pub end_after : ℕ → Bool → ℕ → ℕ → ℕ
+end_after end is_worked from to = if is_worked && nat_lt from to then to else end

@@ -1,0 +1,79 @@
+ghost use Rattle.std.specs.Prelude.{◌≡◌, ℕ, ◌<◌, ◌≤◌, nat_le};
+ghost use Rattle.std.specs.Bool.{Decides};
+ghost use Rattle.stretches.specs.Stretch.{Stretch};
+ghost use Rattle.duty_events.specs.declared.stage.Stage.TheVariants as stage;
+ghost use Rattle.duty_events.specs.Lists.{IsLawful, stage_of};
+ghost use Rattle.duty_events.specs.EndedTours.{last_tour, end_of};
+ghost use Rattle.rest_rules.specs.Rest.{is_off, was_off, rest_ok, rest_end, RestOk, EndsRest};
+
+use crate::{excess, off_from};
+use desk_base::Minute;
+use duty_events::{Event, kind_behind, kind_until, last_tour};
+use stretches::Gauge;
+
+/// Whether someone has rested at a minute, by a lawful list of events: no minute is worked; or they have been off since
+/// ten hours at least, and were off for ten hours and so many minutes `more` in one stretch since their last tour ended
+/// (since ever, if none has). With no minutes more it is 49 USC 21103(a)(3), with the excess (c)(4) and (e).
+pub fn rest_ok(events: &[Event], at: Minute, more: u32) -> bool
+    requires { IsLawful events.now }
+    ensures value { result ≡ rest_ok events.now at more }
+    ensures cases { Decides result (RestOk events.now at more) }
+{
+    let off_from = off_from(events).number();
+    if off_from == 0 {
+        return true;
+    }
+    off_from + 600 <= at.number() && was_off(events, 600 + u64::from(more), at)
+}
+
+/// The minute at which rest ends, by a lawful list of events after which no tour runs: 0 where no minute is worked; ten
+/// hours after the last worked minute, where before it ten hours and the excess were taken in one stretch since the last
+/// tour ended; else ten hours and the excess after it.
+pub fn rest_end(events: &[Event]) -> Minute
+    requires lawful { IsLawful events.now }
+    requires off { stage_of events.now ≡ stage.Off }
+    ensures value { result ≡ rest_end events.now }
+    ensures law { EndsRest events.now result }
+{
+    let off_from = off_from(events);
+    if off_from == Minute::FIRST {
+        return off_from;
+    }
+    let excess = u64::from(excess(events));
+    if was_off(events, 600 + excess, off_from) {
+        off_from.after(600)
+    } else {
+        off_from.after(600 + excess)
+    }
+}
+
+// So many minutes off lie in one stretch between the end of the last tour and a minute.
+fn was_off(events: &[Event], many: u64, to: Minute) -> bool
+    requires lawful { IsLawful events.now }
+    requires some { 0 < many }
+    ensures { result ≡ was_off events.now many to }
+{
+    let from = match last_tour(events) {
+        Some(tour) => tour.end,
+        None => Minute::FIRST,
+    };
+    many <= longest_off(events, from.number(), to.number())
+}
+
+// How many minutes the longest stretch of minutes off has between two minutes.
+fn longest_off(events: &[Event], from: u64, to: u64) -> u64
+    requires { IsLawful events.now }
+    ensures { (many : ℕ) → 0 < many → Decides (nat_le many result) (Stretch (is_off events.now) many from to) }
+{
+    let mut gauge = Gauge::new(from);
+    let mut before = None;
+    for event in events {
+        let first = event.first_minute().number().min(to);
+        let last = event.last_minute().number().min(to);
+        gauge = gauge
+            .pass(first, kind_until(&before, event).is_off_duty())
+            .pass(last, false);
+        before = Some(*event);
+    }
+    gauge.pass(to, kind_behind(&before).is_off_duty()).longest()
+}
