@@ -12,11 +12,12 @@ use Rattle.duty_events.specs.declared.stage.Stage.{Stage}
 use Rattle.duty_events.specs.declared.stage.Stage.TheVariants as stage
 use Rattle.duty_events.specs.declared.minute_kind.MinuteKind.TheVariants as minute
 use Rattle.duty_events.specs.Allowed.{first_minute, last_minute, refuse, follow}
+pub use Rattle.duty_events.specs.Lists.{reached}
 use Rattle.duty_events.specs.Lists.{Follows, IsNext, IsLawful, stage_after, stage_of, last_event}
 use Rattle.duty_events.specs.MinuteKind.{Mark, mark_of, ToOther, ToOff, marks_of, marks_from, marks, counted, unended, kind_of}
 use Rattle.duty_events.specs.Between.{first_leads, last_leads, between, kind_until, kind_behind, begins}
 use Rattle.duty_events.proofs.MarkLemmas.{kind_by, AreBy, kind_by-early, kind_by-between, kind_by-first, kind_by-late, are_by-push, are_by-later, are_by-append}
-use Rattle.duty_events.proofs.ListLemmas.{last_event-push, take-push, lawful-here}
+use Rattle.duty_events.proofs.ListLemmas.{last_event-push, last_event-next, take-push, lawful-here}
 
 -- an event that may follow doesn't begin before the latest minute
 not_behind : (o : Option Stage) (s : Stage) (e : Event) (last : ℕ) → IsOk (follow o s e (Some last)) → last ≤ first_minute e
@@ -107,11 +108,6 @@ pub record IsLast (p : Event) (ms : List Mark) : Type 0 where
 abbrev pub Shape : Option Event → List Mark → Type 0
 Shape None ms = ms ≡ []
 Shape (Some p) ms = IsLast p ms
-
--- the latest minute, 0 if none
-abbrev pub reached : Option Event → ℕ
-reached None = 0
-reached (Some p) = last_minute p
 
 pub follows-reached : (o : Option Event) (s : Stage) (e : Event) → Follows s (option_map last_minute o) e → reached o ≤ first_minute e
 follows-reached None s e follows = omega arith
@@ -214,3 +210,19 @@ kind_of-behind es lawful t late = go (last_event es) (marks es) (shape_of es law
     go None ms shape late = ap (λ ns. kind_by ns t) shape
     go (Some p) ms shape late =
         ap (λ ns. kind_by ns t) shape.is ∙ kind_by-late shape.earlier (last_mark shape.from p) t (are_by-later (last_minute p) t late shape.earlier shape.by) late
+
+-- the latest minute lies before the year 2100
+reached-take : (es : List Event) → IsLawful es → (i : ℕ) → i ≤ length es → reached (last_event (take i es)) < 68_374_080
+reached-take es lawful zero within = omega arith
+reached-take es lawful (suc i) within =
+    let next : i + 1 ≡ suc i = omega arith in
+    elim (slice_get_cases es i).1 [
+      | inl here ↦
+          subst (λ n. reached (last_event (take n es)) < 68_374_080) next
+          (omega (arith, ap reached (last_event-next es i here.0 here.1 (sym here.3)), (lawful-here es i here.0 lawful here.1 (sym here.3)).last_in))
+      | inr past ↦ absurd (omega (arith, past.0, within))
+    ]
+
+pub reached-years : (es : List Event) → IsLawful es → reached (last_event es) < 68_374_080
+reached-years es lawful =
+    subst (λ xs. reached (last_event xs) < 68_374_080) (take_all (length es) es (omega arith)) (reached-take es lawful (length es) (omega arith))

@@ -24,6 +24,11 @@ last_event es = fold (λ o e. Some e) None es
 abbrev pub latest : List Event → Option ℕ
 latest es = option_map last_minute (last_event es)
 
+-- the same, 0 where there are no events
+abbrev pub reached : Option Event → ℕ
+reached None = 0
+reached (Some e) = last_minute e
+
 -- an event may follow a stage and a latest minute: it is allowed, its minutes lie in the years 2000 to 2099, and it
 -- doesn't end before it begins
 pub record Follows (s : Stage) (last : Option ℕ) (e : Event) : Type 0 where

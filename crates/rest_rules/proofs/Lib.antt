@@ -1,0 +1,4 @@
+pub mod ExcessLemmas
+pub mod LongestOffLemmas
+pub mod OffFromLemmas
+pub mod RestLemmas

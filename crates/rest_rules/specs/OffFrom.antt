@@ -1,8 +1,7 @@
 -- Since when someone is off.
-use Rattle.std.specs.Prelude.{◌≡◌, ℕ, zero, suc, ◌-◌, ◌<◌, ◌≤◌, Bool, true, false, ◌&&◌, nat_lt, Option, None, Some, if◌then◌else◌, List}
+use Rattle.std.specs.Prelude.{◌≡◌, ℕ, zero, suc, ◌-◌, ◌<◌, ◌≤◌, Bool, true, false, ◌&&◌, nat_lt, if◌then◌else◌, List}
 use Rattle.duty_events.specs.declared.event.Event.{Event}
-use Rattle.duty_events.specs.Allowed.{last_minute}
-use Rattle.duty_events.specs.Lists.{last_event}
+use Rattle.duty_events.specs.Lists.{last_event, reached}
 use Rattle.duty_events.specs.MinuteKind.{kind_of, is_worked}
 
 -- a minute is worked
@@ -14,14 +13,9 @@ unfoldable pub past_last : (ℕ → Bool) → ℕ → ℕ
 past_last holds zero = 0
 past_last holds (suc t) = if holds t then suc t else past_last holds t
 
--- the latest minute of events, 0 if there are none. None is worked from there on
-abbrev pub latest_minute : Option Event → ℕ
-latest_minute None = 0
-latest_minute (Some e) = last_minute e
-
--- one past the last worked minute, 0 if none is
+-- one past the last worked minute, 0 if none is; no minute is worked from the latest of the events on
 unfoldable pub off_from : List Event → ℕ
-off_from es = past_last (works es) (latest_minute (last_event es))
+off_from es = past_last (works es) (reached (last_event es))
 
 -- the same in other words: the minute before is worked, if there is one, and none after it is
 pub record IsOffFrom (es : List Event) (n : ℕ) : Type 0 where

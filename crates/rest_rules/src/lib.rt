@@ -2,13 +2,13 @@
 //! twelve hours, and whether they have rested by a minute.
 #![tactic(auto)]
 
-mod excess;
-mod off_from;
+mod off_since;
 mod rest;
+mod tour_excess;
 
-pub use excess::excess;
-pub use off_from::off_from;
+pub use off_since::off_from;
 pub use rest::{rest_end, rest_ok};
+pub use tour_excess::excess;
 
 #[cfg(test)]
 mod tests;

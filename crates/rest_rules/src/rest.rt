@@ -53,11 +53,17 @@ fn was_off(events: &[Event], many: u64, to: Minute) -> bool
     requires some { 0 < many }
     ensures { result ≡ was_off events.now many to }
 {
-    let from = match last_tour(events) {
+    many <= longest_off(events, last_end(events).number(), to.number())
+}
+
+// Where the last tour ended, 0 if none has.
+fn last_end(events: &[Event]) -> Minute
+    ensures { result ≡ end_of (last_tour events.now) }
+{
+    match last_tour(events) {
         Some(tour) => tour.end,
         None => Minute::FIRST,
-    };
-    many <= longest_off(events, from.number(), to.number())
+    }
 }
 
 // How many minutes the longest stretch of minutes off has between two minutes.

@@ -1,15 +1,18 @@
-ghost use Rattle.std.specs.Prelude.{◌≡◌, ◌&&◌, nat_lt, if◌then◌else◌};
+ghost use Rattle.std.specs.Prelude.{◌≡◌, ◌⊎◌};
+ghost use Rattle.desk_base.specs.Minute.{IsInYears};
 ghost use Rattle.duty_events.specs.Lists.{IsLawful};
 ghost use Rattle.rest_rules.specs.OffFrom.{off_from, IsOffFrom, end_after};
 
 use desk_base::Minute;
 use duty_events::{Event, kind_until};
 
-/// One past the last worked minute of a lawful list of events, 0 if none is worked.
+/// One past the last worked minute of a lawful list of events, 0 if none is worked. Where one is it lies in the years
+/// 2000 to 2099, as events do.
 pub fn off_from(events: &[Event]) -> Minute
     requires { IsLawful events.now }
     ensures value { result ≡ off_from events.now }
     ensures minutes { IsOffFrom events.now result }
+    ensures range { (result ≡ 0) ⊎ IsInYears result }
 {
     let mut end = Minute::FIRST;
     let mut latest = Minute::FIRST;

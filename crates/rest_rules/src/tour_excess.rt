@@ -1,8 +1,7 @@
 ghost use Rattle.std.specs.Prelude.{◌≡◌, ◌<◌, ◌≤◌, ◌^◌};
-ghost use Rattle.duty_events.specs.Lists.{IsLawful, last_event};
+ghost use Rattle.duty_events.specs.Lists.{IsLawful, last_event, reached};
 ghost use Rattle.duty_events.specs.Tours.{is_in_tour};
 ghost use Rattle.duty_events.specs.Between.{minutes_between};
-ghost use Rattle.rest_rules.specs.OffFrom.{latest_minute};
 ghost use Rattle.rest_rules.specs.Excess.{tour_sum, excess};
 
 use duty_events::{Event, Tour, between, last_tour, shared};
@@ -12,7 +11,7 @@ use duty_events::{Event, Tour, between, last_tour, shared};
 pub fn excess(events: &[Event]) -> u32
     requires { IsLawful events.now }
     ensures value { result ≡ excess events.now }
-    ensures most { result ≤ latest_minute (last_event events.now) }
+    ensures most { result ≤ reached (last_event events.now) }
 {
     match last_tour(events) {
         Some(tour) => tour_sum(events, &tour).saturating_sub(720),
@@ -24,7 +23,7 @@ pub fn excess(events: &[Event]) -> u32
 fn tour_sum(events: &[Event], tour: &Tour) -> u32
     requires { IsLawful events.now }
     ensures value { result ≡ tour_sum events.now tour.now }
-    ensures most { result ≤ latest_minute (last_event events.now) }
+    ensures most { result ≤ reached (last_event events.now) }
 {
     let first = tour.start.number();
     let many = tour.end.number().saturating_sub(first) as u32;

@@ -1,0 +1,60 @@
+use Rattle.std.proofs.Common.{◌≡◌, ◌+◌, ◌≤◌, min, [], take, refl, sym, subst, ap, ◌∙◌, arith}
+use Rattle.stretches.specs.Gauge.{Tells}
+use Rattle.duty_events.specs.Allowed.{first_minute, last_minute}
+use Rattle.duty_events.specs.Lists.{last_event, reached, stage_of}
+use Rattle.duty_events.specs.MinuteKind.{is_off_duty}
+use Rattle.duty_events.proofs.ListLemmas.{last_event-next, lawful-here}
+use Rattle.duty_events.proofs.EventLemmas.{follows-reached, kind_of-behind}
+use Rattle.std.proofs.lemmas.List.{take_all}
+use Rattle.rest_rules.specs.Rest.{is_off}
+use Rattle.rest_rules.proofs.LongestOffLemmas.{is_off-early, is_off-until, is_off-own}
+use Rattle.rest_rules.proofs.rest.longest_off.Goals as goal
+
+pub loop-event-init : goal.loop-event-init
+loop-event-init c = record {
+  until = omega (arith, c.new-gauge.ensures.until);
+  tells = c.new-gauge.ensures.tells (is_off []);
+  before = refl;
+}
+
+pub loop-event-preserved : goal.loop-event-preserved
+loop-event-preserved c =
+    let es = c.args.events.now in
+    let i = c.loop-event.event-index in
+    let e = c.event-item.result in
+    let lawful = c.requires in
+    let within = c.loop-event-test.true in
+    let is = c.event-item.is in
+    let kept = c.loop-event.invariant in
+    let now = is_off (take (i + 1) es) in
+    let latest = reached (last_event (take i es)) in
+    let order : latest ≤ first_minute e = follows-reached (last_event (take i es)) (stage_of (take i es)) e (lawful-here es i e lawful within is) in
+    let first : c.min-first.result ≡ min (first_minute e) c.args.to = omega (arith, c.min-first.ensures, c.number.ensures.value, c.first_minute.ensures) in
+    let last : c.min-last.result ≡ min (last_minute e) c.args.to = omega (arith, c.min-last.ensures, c.number-in-loop-event.ensures.value, c.last_minute.ensures.value) in
+    let whole : first_minute e ≤ last_minute e = omega (arith, c.last_minute.ensures.whole, c.last_minute.ensures.value) in
+    let reaches : reached (last_event (take (i + 1) es)) ≡ last_minute e = ap reached (last_event-next es i e within is) in
+    let passed =
+    c.pass.ensures.tells (is_off (take i es)) now c.args.from kept.tells
+    (λ t early. is_off-early es i e lawful within is t (omega (arith, early, kept.until)))
+    (λ t from to. rw (c.is_off_duty.ensures, c.kind_until.ensures, kept.before) (is_off-until es i e lawful within is t (omega (arith, from, kept.until, to, first)) (omega (arith, to, first))))
+    in record {
+      until = omega (arith, c.pass-gauge.ensures.until, c.pass.ensures.until, kept.until, first, last, order, whole, reaches);
+      tells =
+          c.pass-gauge.ensures.tells now now c.args.from passed (λ t early. refl)
+          (λ t from to. is_off-own es i e lawful within is t (omega (arith, from, c.pass.ensures.until, first, to, last)) (omega (arith, to, last)));
+      before = sym (last_event-next es i e within is);
+    }
+
+pub returns : goal.returns
+returns c many some =
+    let es = c.args.events.now in
+    let kept = c.loop-event.invariant in
+    let whole = take_all c.loop-event.event-index es c.loop-event-test.false in
+    let until : c.loop-event.gauge.until ≡ min (reached (last_event es)) c.args.to = kept.until ∙ ap (λ xs. min (reached (last_event xs)) c.args.to) whole in
+    let before = kept.before ∙ ap last_event whole in
+    let tells =
+    c.pass-2.ensures.tells (is_off es) (is_off es) c.args.from (subst (λ xs. Tells (is_off xs) c.args.from c.loop-event.gauge) whole kept.tells) (λ t early. refl)
+    (λ t from to. rw (c.is_off_duty-2.ensures, c.kind_behind.ensures, before) (ap is_off_duty (kind_of-behind es c.requires t (omega (arith, from, until, to)))))
+    in
+    let end : c.pass-2.result.until ≡ c.args.to = omega (arith, c.pass-2.ensures.until, until) in
+    rw (c.longest.ensures, sym end) (tells.longest many some)
