@@ -25,7 +25,7 @@ pub use laws::{a_next_event_is_lawful, kinds_when_an_event_comes};
 pub use minute_kind::MinuteKind;
 pub use minutes::shared;
 pub use places::place;
-pub use sequence::allowed;
+pub use sequence::{allowed, stage_of};
 pub use spell::{between, kind_behind, kind_until};
 pub use stage::Stage;
 pub use tour::Tour;

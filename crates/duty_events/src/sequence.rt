@@ -1,5 +1,6 @@
 ghost use Rattle.std.specs.Prelude.{◌≡◌, ◌-◌};
 ghost use Rattle.std.specs.Str.{bytes_eq};
+ghost use Rattle.duty_events.specs.Lists.{stage_of};
 ghost use Rattle.duty_events.specs.Allowed.{row, is_limited, behind, too_long, other_place, interim_fault, judge};
 
 use crate::{Event, EventFault, Kind, Stage};
@@ -24,6 +25,17 @@ pub fn allowed(stage: Stage, event: Event, last: Option<Minute>) -> Result<Stage
         Some(fault) => Err(fault),
         None => Ok(next),
     }
+}
+
+/// The stage that a list of events ends in.
+pub fn stage_of(events: &[Event]) -> Stage
+    ensures { result ≡ stage_of events.now }
+{
+    let mut stage = Stage::Off;
+    for event in events {
+        stage = stage.after(event);
+    }
+    stage
 }
 
 /// The table of stages: the stage that an event leads to; `None` where nothing of that kind follows the stage.
