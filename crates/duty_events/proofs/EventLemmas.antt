@@ -14,7 +14,7 @@ use Rattle.duty_events.specs.declared.minute_kind.MinuteKind.TheVariants as minu
 use Rattle.duty_events.specs.Allowed.{first_minute, last_minute, refuse, follow}
 use Rattle.duty_events.specs.Lists.{Follows, IsNext, IsLawful, stage_after, stage_of, last_event}
 use Rattle.duty_events.specs.MinuteKind.{Mark, mark_of, ToOther, ToOff, marks_of, marks_from, marks, counted, unended, kind_of}
-use Rattle.duty_events.specs.Between.{first_leads, last_leads, between, begins}
+use Rattle.duty_events.specs.Between.{first_leads, last_leads, between, kind_until, kind_behind, begins}
 use Rattle.duty_events.proofs.MarkLemmas.{kind_by, AreBy, kind_by-early, kind_by-between, kind_by-first, kind_by-late, are_by-push, are_by-later, are_by-append}
 use Rattle.duty_events.proofs.ListLemmas.{last_event-push, take-push, lawful-here}
 
@@ -195,3 +195,22 @@ kind_of-late es e lawful next t late =
     let order = follows-reached (last_event es) (stage_of es) e next in
     let by = shape-by (last_event es) (marks es) t (shape_of es lawful) (omega (arith, order, next.whole, late)) in
     kind_of-push es e t ∙ kinds-late (marks es) (stage_of es) e t by next.whole late
+
+-- the same of whatever event comes before
+pub kind_of-until : (es : List Event) (e : Event) → IsLawful es → IsNext es e → (t : ℕ) → reached (last_event es) ≤ t → t < first_minute e
+    → kind_of (es ++ e ∷ []) t ≡ kind_until (last_event es) e
+kind_of-until es e lawful next t from to = go (last_event es) refl from
+  where
+    go : (o : Option Event) → last_event es ≡ o → reached o ≤ t → kind_of (es ++ e ∷ []) t ≡ kind_until o e
+    go None last from = kind_of-first es e lawful next last t to
+    go (Some p) last from = kind_of-between es p e lawful next last t from to
+
+-- the minutes of a list from its latest on
+pub kind_of-behind : (es : List Event) → IsLawful es → (t : ℕ) → reached (last_event es) ≤ t → kind_of es t ≡ kind_behind (last_event es)
+unfolding kind_of
+kind_of-behind es lawful t late = go (last_event es) (marks es) (shape_of es lawful) late
+  where
+    go : (o : Option Event) (ms : List Mark) → Shape o ms → reached o ≤ t → kind_by ms t ≡ kind_behind o
+    go None ms shape late = ap (λ ns. kind_by ns t) shape
+    go (Some p) ms shape late =
+        ap (λ ns. kind_by ns t) shape.is ∙ kind_by-late shape.earlier (last_mark shape.from p) t (are_by-later (last_minute p) t late shape.earlier shape.by) late

@@ -1,7 +1,9 @@
 pub mod CountLemmas
+pub mod EndedTourLemmas
 pub mod EventLemmas
 pub mod ListLemmas
 pub mod MarkLemmas
+pub mod OffLemmas
 pub mod PlaceLemmas
 pub mod PointLemmas
 pub mod TourLemmas

@@ -4,8 +4,9 @@ use Rattle.duty_events.specs.declared.event.Event.{Event}
 use Rattle.duty_events.specs.declared.event.Event.TheVariants as event
 use Rattle.duty_events.specs.declared.stage.Stage.{Stage}
 use Rattle.duty_events.specs.declared.minute_kind.MinuteKind.{MinuteKind}
+use Rattle.duty_events.specs.declared.minute_kind.MinuteKind.TheVariants as minute
 use Rattle.duty_events.specs.Allowed.{first_minute, last_minute}
-use Rattle.duty_events.specs.MinuteKind.{Leads, ToOff, ToOther, ToRiding, ToDuty, ToResumed, ToInterim, ToWaiting, ToRidingHome, is_off, counted}
+use Rattle.duty_events.specs.MinuteKind.{Leads, ToOff, ToOther, ToRiding, ToDuty, ToResumed, ToInterim, ToWaiting, ToRidingHome, is_off, counted, unended}
 use Rattle.duty_events.specs.Minutes.{shared}
 
 -- what an event's first mark leads to, and its last
@@ -32,6 +33,16 @@ last_leads (event.Other span place) = ToOff
 -- what the minutes from an event to the next count as
 abbrev pub between : Event → Event → MinuteKind
 between e next = counted (last_leads e) (first_minute next - last_minute e) (first_leads next)
+
+-- what the minutes before an event count as that come behind the event before it; those before the first event are off
+abbrev pub kind_until : Option Event → Event → MinuteKind
+kind_until None next = minute.Off
+kind_until (Some e) next = between e next
+
+-- what the minutes behind the last event count as
+abbrev pub kind_behind : Option Event → MinuteKind
+kind_behind None = minute.Off
+kind_behind (Some e) = unended (last_leads e)
 
 -- how many of the minutes between two events, among so many from a first one on, are of a kind that is asked about
 abbrev pub minutes_between : (MinuteKind → Bool) → Option Event → Event → ℕ → ℕ → ℕ

@@ -1,5 +1,6 @@
 pub mod Allowed
 pub mod Between
+pub mod EndedTours
 pub mod Lists
 pub mod MinuteKind
 pub mod Minutes

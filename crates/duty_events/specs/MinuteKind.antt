@@ -116,3 +116,11 @@ is_worked minute.Limbo = true
 is_worked minute.Other = true
 is_worked minute.Off = false
 is_worked minute.Open = false
+
+-- it is off: not worked, and not of an interim that has not ended
+abbrev pub is_off_duty : MinuteKind → Bool
+is_off_duty minute.Off = true
+is_off_duty minute.OnDuty = false
+is_off_duty minute.Limbo = false
+is_off_duty minute.Other = false
+is_off_duty minute.Open = false

@@ -2,6 +2,7 @@
 #![tactic(auto)]
 
 mod end;
+mod ended_tours;
 mod event;
 mod event_fault;
 mod kind;
@@ -12,7 +13,9 @@ mod places;
 mod sequence;
 mod spell;
 mod stage;
+mod tour;
 
+pub use ended_tours::last_tour;
 pub use event::Event;
 pub use event_fault::EventFault;
 pub use kind::Kind;
@@ -21,8 +24,9 @@ pub use laws::{a_next_event_is_lawful, kinds_when_an_event_comes};
 pub use minute_kind::MinuteKind;
 pub use places::place;
 pub use sequence::allowed;
-pub use spell::between;
+pub use spell::{between, kind_behind, kind_until};
 pub use stage::Stage;
+pub use tour::Tour;
 
 #[cfg(test)]
 mod tests;

@@ -1,5 +1,5 @@
 ghost use Rattle.std.specs.Prelude.{◌≡◌};
-ghost use Rattle.duty_events.specs.MinuteKind.{is_worked};
+ghost use Rattle.duty_events.specs.MinuteKind.{is_worked, is_off_duty};
 ghost use Rattle.duty_events.specs.Tours.{is_in_tour};
 
 /// What a minute counts as.
@@ -27,6 +27,13 @@ impl MinuteKind {
             self,
             MinuteKind::OnDuty | MinuteKind::Limbo | MinuteKind::Other
         )
+    }
+
+    /// Whether it is off duty. A minute of an interim that has not ended is neither worked nor off.
+    pub fn is_off_duty(&self) -> bool
+        ensures { result ≡ is_off_duty self.now }
+    {
+        matches!(self, MinuteKind::Off)
     }
 
     /// Whether it is on duty or limbo, as a tour's minutes are that are summed.

@@ -39,7 +39,7 @@ fn end_by(stage: &Stage, event: &Event) -> Option<End>
 }
 
 // Where a tour ends with a final release that comes at a stage.
-fn tour_end(stage: &Stage, at: Minute) -> Minute
+pub(crate) fn tour_end(stage: &Stage, at: Minute) -> Minute
     ensures { result ≡ tour_end stage.now at }
 {
     match stage {

@@ -1,7 +1,7 @@
 ghost use Rattle.std.specs.Prelude.{◌≡◌, ◌-◌};
 ghost use Rattle.duty_events.specs.Allowed.{first_minute};
 ghost use Rattle.duty_events.specs.MinuteKind.{resumed, interim};
-ghost use Rattle.duty_events.specs.Between.{first_leads, between};
+ghost use Rattle.duty_events.specs.Between.{first_leads, between, kind_until, kind_behind};
 
 use crate::{Event, Kind, MinuteKind};
 use desk_base::Minute;
@@ -15,6 +15,27 @@ pub fn between(event: &Event, next: &Event) -> MinuteKind
         Event::Relieve(_) | Event::RideHome(_) => MinuteKind::Limbo,
         Event::Final(_, _) | Event::Other(_, _) => MinuteKind::Off,
         Event::Interim(since, kind, _) => interim(*since, kind, next),
+    }
+}
+
+/// What the minutes before an event count as that come behind the event before it; those before the first event are
+/// off.
+pub fn kind_until(before: &Option<Event>, next: &Event) -> MinuteKind
+    ensures { result ≡ kind_until before.now next.now }
+{
+    match before {
+        Some(event) => between(event, next),
+        None => MinuteKind::Off,
+    }
+}
+
+/// What the minutes behind the last event count as: off, but for those of an interim that has not ended.
+pub fn kind_behind(last: &Option<Event>) -> MinuteKind
+    ensures { result ≡ kind_behind last.now }
+{
+    match last {
+        Some(Event::Interim(_, _, _)) => MinuteKind::Open,
+        _ => MinuteKind::Off,
     }
 }
 

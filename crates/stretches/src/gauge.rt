@@ -1,0 +1,71 @@
+ghost use Rattle.std.specs.Prelude.{◌≡◌, ℕ, ◌<◌, ◌≤◌, Bool, max};
+ghost use Rattle.stretches.specs.Gauge.{GaugeValue, Tells};
+
+use std::marker::Model;
+
+/// The longest stretch of minutes of one kind, from one minute on up to one that moves on. It doesn't know the minutes:
+/// whoever moves it on says whether those up to there are of the kind.
+#[derive(Clone, Copy, Debug, PartialEq, Eq)]
+pub struct Gauge {
+    since: u64,
+    longest: u64,
+    until: u64,
+}
+
+impl Model for Gauge {
+    ghost use Rattle.stretches.specs.Gauge.{GaugeValue};
+
+    ghost Value = { GaugeValue };
+
+    ghost view = { λ g. record { since = g.since; longest = g.longest; until = g.until } };
+
+    ghost inverse = { λ v. record { since = v.since; longest = v.longest; until = v.until } };
+}
+
+impl Gauge {
+    /// A gauge of the minutes from one on, none of which it has looked at.
+    pub fn new(from: u64) -> Gauge
+        ensures until { result.until ≡ 0 }
+        ensures tells { (asked : ℕ → Bool) → Tells asked from result }
+    {
+        Gauge {
+            since: from,
+            longest: 0,
+            until: 0,
+        }
+    }
+
+    /// The gauge after looking at the minutes up to one, that are all of the kind, or none of them. It stays where it
+    /// has looked so far already.
+    pub fn pass(self, to: u64, are_asked: bool) -> Gauge
+        ensures until { result.until ≡ max self.until to }
+        ensures tells { (was asked : ℕ → Bool) (from : ℕ) → Tells was from self
+            → ((t : ℕ) → t < self.until → asked t ≡ was t)
+            → ((t : ℕ) → self.until ≤ t → t < to → asked t ≡ are_asked)
+            → Tells asked from result }
+    {
+        if to <= self.until {
+            self
+        } else if are_asked {
+            let so_far = to.saturating_sub(self.since);
+            Gauge {
+                since: self.since,
+                longest: self.longest.max(so_far),
+                until: to,
+            }
+        } else {
+            Gauge {
+                since: self.since.max(to),
+                longest: self.longest,
+                until: to,
+            }
+        }
+    }
+
+    /// How many minutes the longest stretch has, 0 if there is none.
+    pub fn longest(self) -> u64
+        ensures { result ≡ self.longest }
+    {
+        self.longest
+    }
+}
