@@ -1,2 +1,4 @@
 pub mod UsedLemmas
 pub mod CappedLemmas
+pub mod PlanLemmas
+pub mod OverLemmas

@@ -1,3 +1,5 @@
 pub mod Capped
+pub mod Over
+pub mod Plan
 pub mod Steps
 pub mod Used

@@ -1,13 +1,21 @@
-//! The hours of a month, by scanning events: how many of its minutes are worked, and how many of its limbo minutes
-//! count against the month's limit.
+//! The hours of a month, by scanning events: how many of its minutes are worked, how many of its limbo minutes count
+//! against the month's limit, and which month a plan would bring over a limit.
 #![tactic(auto)]
 
 mod limbo;
+mod limit;
+mod over;
+mod passed;
+mod plan;
 mod stretch;
 mod work;
 
 pub use limbo::capped;
+pub use over::Over;
+pub use passed::{over_limbo, over_month};
 pub use work::used;
 
+#[cfg(test)]
+mod plan_tests;
 #[cfg(test)]
 mod tests;

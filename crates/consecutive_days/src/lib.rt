@@ -1,0 +1,6 @@
+//! Days in a row on which tours begin, and the time off at home that they need, 49 USC 21103(a)(4)(A).
+#![tactic(auto)]
+
+mod run;
+
+pub use run::{need, run_days};
