@@ -1,5 +1,6 @@
 -- The names of the bars.
-use Rattle.std.specs.Prelude.{ℕ, List, codes}
+use Rattle.std.specs.Prelude.{ℕ, ◌≤◌, List, codes}
+use Rattle.desk_base.specs.Month.{IsMonthInYears}
 use Rattle.denial_rules.specs.declared.bar.Bar.{Bar}
 use Rattle.denial_rules.specs.declared.bar.Bar.TheVariants as bar
 
@@ -20,3 +21,22 @@ name_of (bar.SixDays run need) = codes "21103(a)(4)(A)"
 name_of (bar.SevenDays run need) = codes "21103(a)(4)(A)(ii)"
 name_of (bar.MonthHours month total) = codes "21103(a)(1)"
 name_of (bar.LimboHours month total) = codes "21103(c)(1)"
+
+-- what a bar keeps can be written: the minute at which a rest ends isn't before the year 2000, and may lie behind 2099;
+-- the month lies in the years 2000 to 2099; and a qualification has a number of 0 to 63
+abbrev pub HasItsValues : Bar → Type 0
+HasItsValues (bar.Rest ends) = 15_778_080 ≤ ends
+HasItsValues (bar.MoreRest ends) = 15_778_080 ≤ ends
+HasItsValues (bar.Undisturbed ends) = 15_778_080 ≤ ends
+HasItsValues (bar.MonthHours month total) = IsMonthInYears month
+HasItsValues (bar.LimboHours month total) = IsMonthInYears month
+HasItsValues (bar.Lacks number) = number ≤ 63
+HasItsValues bar.MarkedOff = ⊤
+HasItsValues bar.InTour = ⊤
+HasItsValues (bar.Assigned vacancy) = ⊤
+HasItsValues (bar.OnOffer vacancy) = ⊤
+HasItsValues (bar.Elsewhere place) = ⊤
+HasItsValues (bar.OtherCraft craft) = ⊤
+HasItsValues bar.Answered = ⊤
+HasItsValues (bar.SixDays run need) = ⊤
+HasItsValues (bar.SevenDays run need) = ⊤

@@ -1,0 +1,65 @@
+-- The bars of 49 USC 21103, in the order in which the desk looks at them: over a person's events, their home, the moment
+-- of the call, and the plan of the job, which begins at its report.
+use Rattle.std.specs.Prelude.{◌≡◌, ℕ, ◌+◌, ◌<◌, ◌≤◌, ◌==◌, Bool, true, false, ◌&&◌, not, Option, None, Some, if◌then◌else◌, List, [], ◌∷◌}
+use Rattle.std.specs.Option.{option_map}
+use Rattle.duty_events.specs.declared.event.Event.{Event}
+use Rattle.month_hours.specs.declared.plan.Plan.{Plan}
+use Rattle.denial_rules.specs.declared.bar.Bar.{Bar}
+use Rattle.denial_rules.specs.declared.bar.Bar.TheVariants as bar
+use Rattle.denial_rules.specs.Table.{first_some}
+use Rattle.rest_rules.specs.OffFrom.{off_from}
+use Rattle.rest_rules.specs.Excess.{excess}
+use Rattle.rest_rules.specs.Rest.{is_off, rest_ok, rest_end}
+use Rattle.month_hours.specs.Over.{over_month, over_limbo}
+use Rattle.consecutive_days.specs.Run.{run_days, need}
+use Rattle.consecutive_days.specs.Days.{days_ok}
+
+-- 21103(a)(3): ten hours off before the report; keeps the minute at which they are over
+abbrev pub rest_row : List Event → ℕ → Option Bar
+rest_row es report = if rest_ok es report 0 then None else Some (bar.Rest (off_from es + 600))
+
+-- 21103(c)(4): as much more as the last tour had over twelve hours; keeps the minute at which rest ends
+abbrev pub more_rest_row : List Event → ℕ → Option Bar
+more_rest_row es report = if rest_ok es report (excess es) then None else Some (bar.MoreRest (rest_end es))
+
+-- 21103(e): nobody calls before that rest is over; keeps the same minute
+abbrev pub undisturbed_row : List Event → ℕ → Option Bar
+undisturbed_row es moment = if rest_ok es moment (excess es) then None else Some (bar.Undisturbed (rest_end es))
+
+-- 21103(a)(4)(A), after six days in a row, and (ii), after seven or more: 48 hours, and 72, off at home before the report;
+-- keeps how many days these are, and how many minutes they need
+abbrev pub six_days_row : List Event → List ℕ → ℕ → Option Bar
+six_days_row es home report =
+    if not (days_ok es home report) && (need (run_days es) == 2_880) then Some (bar.SixDays (run_days es) (need (run_days es))) else None
+
+abbrev pub seven_days_row : List Event → List ℕ → ℕ → Option Bar
+seven_days_row es home report =
+    if not (days_ok es home report) && (need (run_days es) == 4_320) then Some (bar.SevenDays (run_days es) (need (run_days es))) else None
+
+-- 21103(a)(1): 276 hours in a month; keeps the first month that the plan would bring over them, with its total
+abbrev pub month_row : List Event → Plan → Option Bar
+month_row es plan = option_map (λ over. bar.MonthHours over.month over.total) (over_month es plan)
+
+-- 21103(c)(1): 30 hours of limbo in a month, behind twelve hours of a tour; keeps the same of these
+abbrev pub limbo_row : List Event → Plan → Option Bar
+limbo_row es plan = option_map (λ over. bar.LimboHours over.month over.total) (over_limbo es plan)
+
+-- the rows in order
+abbrev pub law_rows : List Event → List ℕ → ℕ → Plan → List (Option Bar)
+law_rows es home moment plan =
+    rest_row es plan.report
+    ∷ more_rest_row es plan.report
+    ∷ undisturbed_row es moment
+    ∷ six_days_row es home plan.report
+    ∷ seven_days_row es home plan.report
+    ∷ month_row es plan
+    ∷ limbo_row es plan
+    ∷ []
+
+-- the first row that holds
+unfoldable pub law_bar : List Event → List ℕ → ℕ → Plan → Option Bar
+law_bar es home moment plan = first_some (law_rows es home moment plan)
+
+-- each of the ten hours before a minute is off
+abbrev pub WasOffTenHours : List Event → ℕ → Type 0
+WasOffTenHours es at = (t : ℕ) → t < at → at ≤ t + 600 → is_off es t ≡ true

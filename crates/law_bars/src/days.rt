@@ -1,0 +1,29 @@
+ghost use Rattle.std.specs.Prelude.{◌≡◌, IfSome, [], ◌∷◌};
+ghost use Rattle.duty_events.specs.Lists.{IsLawful};
+ghost use Rattle.denial_rules.specs.Bar.{HasItsValues};
+ghost use Rattle.denial_rules.specs.Table.{first_some};
+ghost use Rattle.law_bars.specs.Law.{six_days_row, seven_days_row};
+
+use consecutive_days::{days_ok, need, run_days};
+use denial_rules::Bar;
+use desk_base::{Code, Minute};
+use duty_events::Event;
+
+/// The first bar of days in a row, from a job with this report.
+pub(crate) fn days_bar(events: &[Event], home: Code, report: Minute) -> Option<Bar>
+    requires { IsLawful events.now }
+    ensures value { result ≡ first_some (six_days_row events.now home report
+        ∷ seven_days_row events.now home report ∷ []) }
+    ensures range { IfSome result HasItsValues }
+{
+    if days_ok(events, home, report) {
+        return None;
+    }
+    let run = run_days(events);
+    let need = need(run);
+    match need {
+        2_880 => Some(Bar::SixDays { run, need }),
+        4_320 => Some(Bar::SevenDays { run, need }),
+        _ => None,
+    }
+}

@@ -1,0 +1,34 @@
+ghost use Rattle.std.specs.Prelude.{◌≡◌, ◌+◌, ◌<◌, ◌≤◌, ◌^◌, IfSome, [], ◌∷◌};
+ghost use Rattle.duty_events.specs.Lists.{IsLawful};
+ghost use Rattle.month_hours.specs.Plan.{plan_of};
+ghost use Rattle.denial_rules.specs.Bar.{HasItsValues};
+ghost use Rattle.denial_rules.specs.Table.{first_some};
+ghost use Rattle.desk_base.specs.Minute.{IsInYears};
+ghost use Rattle.law_bars.specs.Law.{month_row, limbo_row};
+
+use denial_rules::Bar;
+use desk_base::Minute;
+use duty_events::Event;
+use month_hours::{over_limbo, over_month};
+
+/// The first bar of a month's hours, from a job of so many minutes on duty from the report on, and so many of limbo
+/// behind them.
+pub(crate) fn hours_bar(events: &[Event], report: Minute, duty: u32, limbo: u32) -> Option<Bar>
+    requires lawful { IsLawful events.now }
+    requires range { report + duty + limbo < 2 ^ 28 }
+    ensures value { result ≡ first_some (month_row events.now (plan_of report duty limbo)
+        ∷ limbo_row events.now (plan_of report duty limbo) ∷ []) }
+    ensures range { IsInYears report → report + duty + limbo ≤ 68_374_080 → IfSome result HasItsValues }
+{
+    if let Some(over) = over_month(events, report, duty, limbo) {
+        return Some(Bar::MonthHours {
+            month: over.month,
+            total: over.total,
+        });
+    }
+    let over = over_limbo(events, report, duty, limbo)?;
+    Some(Bar::LimboHours {
+        month: over.month,
+        total: over.total,
+    })
+}

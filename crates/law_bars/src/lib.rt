@@ -1,0 +1,14 @@
+//! The bars of 49 USC 21103: the first that keeps someone from a job, by what they did.
+#![tactic(auto)]
+
+mod days;
+mod hours;
+mod laws;
+mod rest;
+mod section;
+
+pub use laws::who_is_rested_was_off_ten_hours;
+pub use section::law_bar;
+
+#[cfg(test)]
+mod tests;
