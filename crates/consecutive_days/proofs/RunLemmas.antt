@@ -4,6 +4,7 @@ use Rattle.std.specs.List.{filter, list_any}
 use Rattle.std.proofs.Math.Bool.{or-false}
 use Rattle.std.proofs.lemmas.Bool.{cases_eq}
 use Rattle.std.proofs.lemmas.Bool.Decides.{nat_tests}
+use Rattle.std.proofs.lemmas.Option.{same_Some}
 use Rattle.std.proofs.lemmas.List.{append-nil, map-append, take_all}
 use Rattle.std.proofs.lemmas.List.Elements.{filter-append}
 use Rattle.std.proofs.lemmas.List.Folds.{list_any-append}
@@ -19,7 +20,7 @@ use Rattle.duty_events.specs.MinuteKind.{mark_of, ToRiding, ToDuty, marks, marks
 use Rattle.duty_events.proofs.ListLemmas.{take-push, last_event-push, lawful-here}
 use Rattle.duty_events.proofs.EventLemmas.{reached, follows-reached, marks-push}
 use Rattle.consecutive_days.specs.Run.{starts, starts_on, last_start, run_before, run_from, run_days, IsRunTo, IsRun}
-use Rattle.consecutive_days.specs.Steps.{next_run}
+use Rattle.consecutive_days.specs.Steps.{last_day, start_day, next_run}
 
 -- the days in a row, day by day
 run_before-same : (p q : ℕ → Bool) (day : ℕ) → ((d : ℕ) → d < day → p d ≡ q d) → run_before p day ≡ run_before q day
@@ -259,7 +260,7 @@ run-by es (Some t) run last counts = omega (arith, counts.counts.counts, run_bef
 pub stands-run : (es : List Event) (run last : ℕ) → Stands es run last → run ≤ last + 1
 stands-run es run last stands = run-by es (last_start es) run last stands.is
 
-pub stands-last : (es : List Event) (i : ℕ) (e : Event) (run last : ℕ) → IsLawful es → i < length es → e ≡ get_or es i e → Stands (take i es) run last → last ≤ day_of (first_minute e)
+stands-last : (es : List Event) (i : ℕ) (e : Event) (run last : ℕ) → IsLawful es → i < length es → e ≡ get_or es i e → Stands (take i es) run last → last ≤ day_of (first_minute e)
 stands-last es i e run last lawful within is stands =
     last-by (take i es) (last_start (take i es)) run last (first_minute e) stands.is
     (follows-reached (last_event (take i es)) (stage_of (take i es)) e (lawful-here es i e lawful within is))
@@ -305,16 +306,36 @@ stands-other es e run last next is stands = record {
   is = rw (last_start-other es e is) (other-counts es e (last_start es) run last next is stands.is);
 }
 
--- the same in a loop
-pub stands-next_begins : (es : List Event) (i : ℕ) (e : Event) (run last : ℕ) → IsLawful es → i < length es → e ≡ get_or es i e → begins (stage_of (take i es)) e ≡ true
-    → Stands (take i es) run last → Stands (take (i + 1) es) (next_run run last (day_of (first_minute e))) (day_of (first_minute e))
-stands-next_begins es i e run last lawful within is begins stands =
-    rw (take-push es i e within is) (stands-begins (take i es) e run last (lawful-here es i e lawful within is) begins stands)
+-- the same in a loop, by whether the event gives a day
+begins-day : (s : Stage) (e : Event) (day : ℕ) → Some day ≡ start_day s e → (begins s e ≡ true) × (day ≡ day_of (first_minute e))
+begins-day s e day is = go (begins s e) refl
+  where
+    go : (b : Bool) → begins s e ≡ b → (begins s e ≡ true) × (day ≡ day_of (first_minute e))
+    go true begins = let same : Some day ≡ Some (day_of (first_minute e)) = rw begins at is in (begins, same_Some day (day_of (first_minute e)) same)
+    go false begins = let none : Some day ≡ None = rw begins at is in absurd (cc)
 
-pub stands-next_other : (es : List Event) (i : ℕ) (e : Event) (run last : ℕ) → IsLawful es → i < length es → e ≡ get_or es i e → begins (stage_of (take i es)) e ≡ false
+begins-none : (s : Stage) (e : Event) → None ≡ start_day s e → begins s e ≡ false
+begins-none s e is = go (begins s e) refl
+  where
+    go : (b : Bool) → begins s e ≡ b → begins s e ≡ false
+    go true begins = let some : None ≡ Some (day_of (first_minute e)) = rw begins at is in absurd (cc)
+    go false begins = begins
+
+pub stands-order : (es : List Event) (i : ℕ) (e : Event) (run last day : ℕ) → IsLawful es → i < length es → e ≡ get_or es i e → Some day ≡ start_day (stage_of (take i es)) e
+    → Stands (take i es) run last → last ≤ day
+stands-order es i e run last day lawful within is start stands =
+    rw (begins-day (stage_of (take i es)) e day start).1 (stands-last es i e run last lawful within is stands)
+
+pub stands-next_start : (es : List Event) (i : ℕ) (e : Event) (run last day : ℕ) → IsLawful es → i < length es → e ≡ get_or es i e → Some day ≡ start_day (stage_of (take i es)) e
+    → Stands (take i es) run last → Stands (take (i + 1) es) (next_run run last day) day
+stands-next_start es i e run last day lawful within is start stands =
+    let begun = begins-day (stage_of (take i es)) e day start in
+    rw (take-push es i e within is, begun.1) (stands-begins (take i es) e run last (lawful-here es i e lawful within is) begun.0 stands)
+
+pub stands-next_other : (es : List Event) (i : ℕ) (e : Event) (run last : ℕ) → IsLawful es → i < length es → e ≡ get_or es i e → None ≡ start_day (stage_of (take i es)) e
     → Stands (take i es) run last → Stands (take (i + 1) es) run last
-stands-next_other es i e run last lawful within is begins stands =
-    rw (take-push es i e within is) (stands-other (take i es) e run last (lawful-here es i e lawful within is) begins stands)
+stands-next_other es i e run last lawful within is none stands =
+    rw (take-push es i e within is) (stands-other (take i es) e run last (lawful-here es i e lawful within is) (begins-none (stage_of (take i es)) e none) stands)
 
 -- in the end
 counted : (es : List Event) (o : Option ℕ) (run last : ℕ) → CountsTo es o run last → run ≡ run_from (starts_on es) o
@@ -335,3 +356,11 @@ stands-counts es run last stands = counted es (last_start es) run last stands.is
 pub stands-is_run : (es : List Event) (run last : ℕ) → Stands es run last → IsRun (starts_on es) (last_start es) run
 stands-is_run es run last stands =
     subst (IsRun (starts_on es) (last_start es)) (sym (counted es (last_start es) run last stands.is)) (is_run es (last_start es) run last stands.is)
+
+-- the day of the last start
+day_is : (es : List Event) (o : Option ℕ) (run last : ℕ) → CountsTo es o run last → last ≡ last_day o
+day_is es None run last counts = counts.behind
+day_is es (Some t) run last counts = counts.day
+
+pub stands-day : (es : List Event) (run last : ℕ) → Stands es run last → last ≡ last_day (last_start es)
+stands-day es run last stands = day_is es (last_start es) run last stands.is

@@ -1,43 +1,73 @@
-ghost use Rattle.std.specs.Prelude.{◌≡◌, ◌+◌, ◌<◌, ◌≤◌};
+ghost use Rattle.std.specs.Prelude.{◌≡◌, ◌+◌, ◌<◌, ◌≤◌, IfSome};
 ghost use Rattle.duty_events.specs.Lists.{IsLawful};
 ghost use Rattle.consecutive_days.specs.Run.{run_days, starts_on, last_start, IsRun, need};
-ghost use Rattle.consecutive_days.specs.Steps.{next_run};
+ghost use Rattle.consecutive_days.specs.Steps.{last_day, start_day, next_run};
 
 use desk_base::Day;
 use duty_events::{Event, Stage};
 
+// Days in a row that have a tour's start.
+#[derive(Clone, Copy)]
+pub(crate) struct Run {
+    // How many they are.
+    pub days: u32,
+    // The number of the last of them, 0 if there is none.
+    pub last: u32,
+}
+
 /// How many days in a row have a tour's start, back from the day on which the last tour began; 0 without a tour. A tour
-/// begins at a ride to duty or duty from off.
+/// begins at a ride or duty from off.
 pub fn run_days(events: &[Event]) -> u32
     requires { IsLawful events.now }
     ensures value { result ≡ run_days events.now }
     ensures run { IsRun (starts_on events.now) (last_start events.now) result }
 {
-    let mut run = 0;
+    last_run(events).days
+}
+
+// The days in a row, to that on which the last tour began.
+pub(crate) fn last_run(events: &[Event]) -> Run
+    requires { IsLawful events.now }
+    ensures days { result.days ≡ run_days events.now }
+    ensures run { IsRun (starts_on events.now) (last_start events.now) result.days }
+    ensures last { result.last ≡ last_day (last_start events.now) }
+{
+    let mut days = 0;
     let mut last = 0;
     let mut stage = Stage::Off;
     for event in events {
-        if stage.begins(event) {
-            let day = Day::of(event.first_minute()).number();
-            run = next_run(run, last, day);
+        if let Some(day) = start_day(&stage, event) {
+            days = next_run(days, last, day);
             last = day;
         }
         stage = stage.after(event);
     }
-    run
+    Run { days, last }
 }
 
-// The days in a row where a tour begins on a day, after so many up to a last day.
-fn next_run(run: u32, last: u32, day: u32) -> u32
-    requires run { run ≤ last + 1 }
+// The day on which a tour begins with an event that comes at a stage.
+fn start_day(stage: &Stage, event: &Event) -> Option<u32>
+    ensures day { result ≡ start_day stage.now event.now }
+    ensures range { IfSome result (λ day. day < 186_414) }
+{
+    if stage.begins(event) {
+        Some(Day::of(event.first_minute()).number())
+    } else {
+        None
+    }
+}
+
+// How many days in a row there are where a tour begins on a day, after so many up to a last day.
+fn next_run(days: u32, last: u32, day: u32) -> u32
+    requires days { days ≤ last + 1 }
     requires day { day < 186_414 }
     requires order { last ≤ day }
-    ensures { result ≡ next_run run last day }
+    ensures { result ≡ next_run days last day }
 {
-    if run > 0 && day == last {
-        run
-    } else if run > 0 && day == last + 1 {
-        run + 1
+    if days > 0 && day == last {
+        days
+    } else if days > 0 && day == last + 1 {
+        days + 1
     } else {
         1
     }
