@@ -1,5 +1,5 @@
 -- The names of the bars.
-use Rattle.std.specs.Prelude.{ℕ, ◌≤◌, List, codes}
+use Rattle.std.specs.Prelude.{ℕ, ◌≤◌, ⊤, List, codes}
 use Rattle.desk_base.specs.Month.{IsMonthInYears}
 use Rattle.denial_rules.specs.declared.bar.Bar.{Bar}
 use Rattle.denial_rules.specs.declared.bar.Bar.TheVariants as bar

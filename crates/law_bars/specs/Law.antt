@@ -1,15 +1,15 @@
 -- The bars of 49 USC 21103, in the order in which the desk looks at them: over a person's events, their home, the moment
--- of the call, and the plan of the job, which begins at its report.
-use Rattle.std.specs.Prelude.{◌≡◌, ℕ, ◌+◌, ◌<◌, ◌≤◌, ◌==◌, Bool, true, false, ◌&&◌, not, Option, None, Some, if◌then◌else◌, List, [], ◌∷◌}
+-- of the call, and the job: its report, so many minutes on duty from there on, and so many of limbo behind them.
+use Rattle.std.specs.Prelude.{◌≡◌, ℕ, ◌+◌, ◌<◌, ◌≤◌, ◌==◌, true, ◌&&◌, not, Option, None, Some, if◌then◌else◌, List, [], ◌∷◌}
 use Rattle.std.specs.Option.{option_map}
 use Rattle.duty_events.specs.declared.event.Event.{Event}
-use Rattle.month_hours.specs.declared.plan.Plan.{Plan}
 use Rattle.denial_rules.specs.declared.bar.Bar.{Bar}
 use Rattle.denial_rules.specs.declared.bar.Bar.TheVariants as bar
 use Rattle.denial_rules.specs.Table.{first_some}
 use Rattle.rest_rules.specs.OffFrom.{off_from}
 use Rattle.rest_rules.specs.Excess.{excess}
 use Rattle.rest_rules.specs.Rest.{is_off, rest_ok, rest_end}
+use Rattle.month_hours.specs.Plan.{plan_of}
 use Rattle.month_hours.specs.Over.{over_month, over_limbo}
 use Rattle.consecutive_days.specs.Run.{run_days, need}
 use Rattle.consecutive_days.specs.Days.{days_ok}
@@ -37,28 +37,28 @@ seven_days_row es home report =
     if not (days_ok es home report) && (need (run_days es) == 4_320) then Some (bar.SevenDays (run_days es) (need (run_days es))) else None
 
 -- 21103(a)(1): 276 hours in a month; keeps the first month that the plan would bring over them, with its total
-abbrev pub month_row : List Event → Plan → Option Bar
-month_row es plan = option_map (λ over. bar.MonthHours over.month over.total) (over_month es plan)
+abbrev pub month_row : List Event → ℕ → ℕ → ℕ → Option Bar
+month_row es report duty limbo = option_map (λ over. bar.MonthHours over.month over.total) (over_month es (plan_of report duty limbo))
 
 -- 21103(c)(1): 30 hours of limbo in a month, behind twelve hours of a tour; keeps the same of these
-abbrev pub limbo_row : List Event → Plan → Option Bar
-limbo_row es plan = option_map (λ over. bar.LimboHours over.month over.total) (over_limbo es plan)
+abbrev pub limbo_row : List Event → ℕ → ℕ → ℕ → Option Bar
+limbo_row es report duty limbo = option_map (λ over. bar.LimboHours over.month over.total) (over_limbo es (plan_of report duty limbo))
 
 -- the rows in order
-abbrev pub law_rows : List Event → List ℕ → ℕ → Plan → List (Option Bar)
-law_rows es home moment plan =
-    rest_row es plan.report
-    ∷ more_rest_row es plan.report
+abbrev pub law_rows : List Event → List ℕ → ℕ → ℕ → ℕ → ℕ → List (Option Bar)
+law_rows es home moment report duty limbo =
+    rest_row es report
+    ∷ more_rest_row es report
     ∷ undisturbed_row es moment
-    ∷ six_days_row es home plan.report
-    ∷ seven_days_row es home plan.report
-    ∷ month_row es plan
-    ∷ limbo_row es plan
+    ∷ six_days_row es home report
+    ∷ seven_days_row es home report
+    ∷ month_row es report duty limbo
+    ∷ limbo_row es report duty limbo
     ∷ []
 
 -- the first row that holds
-unfoldable pub law_bar : List Event → List ℕ → ℕ → Plan → Option Bar
-law_bar es home moment plan = first_some (law_rows es home moment plan)
+unfoldable pub law_bar : List Event → List ℕ → ℕ → ℕ → ℕ → ℕ → Option Bar
+law_bar es home moment report duty limbo = first_some (law_rows es home moment report duty limbo)
 
 -- each of the ten hours before a minute is off
 abbrev pub WasOffTenHours : List Event → ℕ → Type 0

@@ -1,6 +1,5 @@
 ghost use Rattle.std.specs.Prelude.{◌≡◌, ◌+◌, ◌<◌, ◌≤◌, ◌^◌, IfSome, [], ◌∷◌};
 ghost use Rattle.duty_events.specs.Lists.{IsLawful};
-ghost use Rattle.month_hours.specs.Plan.{plan_of};
 ghost use Rattle.denial_rules.specs.Bar.{HasItsValues};
 ghost use Rattle.denial_rules.specs.Table.{first_some};
 ghost use Rattle.desk_base.specs.Minute.{IsInYears};
@@ -16,8 +15,8 @@ use month_hours::{over_limbo, over_month};
 pub(crate) fn hours_bar(events: &[Event], report: Minute, duty: u32, limbo: u32) -> Option<Bar>
     requires lawful { IsLawful events.now }
     requires range { report + duty + limbo < 2 ^ 28 }
-    ensures value { result ≡ first_some (month_row events.now (plan_of report duty limbo)
-        ∷ limbo_row events.now (plan_of report duty limbo) ∷ []) }
+    ensures value { result ≡ first_some (month_row events.now report duty limbo
+        ∷ limbo_row events.now report duty limbo ∷ []) }
     ensures range { IsInYears report → report + duty + limbo ≤ 68_374_080 → IfSome result HasItsValues }
 {
     if let Some(over) = over_month(events, report, duty, limbo) {
@@ -26,9 +25,11 @@ pub(crate) fn hours_bar(events: &[Event], report: Minute, duty: u32, limbo: u32)
             total: over.total,
         });
     }
-    let over = over_limbo(events, report, duty, limbo)?;
-    Some(Bar::LimboHours {
-        month: over.month,
-        total: over.total,
-    })
+    match over_limbo(events, report, duty, limbo) {
+        Some(over) => Some(Bar::LimboHours {
+            month: over.month,
+            total: over.total,
+        }),
+        None => None,
+    }
 }

@@ -2,7 +2,6 @@ ghost use Rattle.std.specs.Prelude.{◌≡◌, ◌+◌, ◌<◌, ◌≤◌, ◌^
 ghost use Rattle.desk_base.specs.Minute.{IsInYears};
 ghost use Rattle.duty_events.specs.declared.stage.Stage.TheVariants as stage;
 ghost use Rattle.duty_events.specs.Lists.{IsLawful, stage_of};
-ghost use Rattle.month_hours.specs.Plan.{plan_of};
 ghost use Rattle.denial_rules.specs.Bar.{HasItsValues};
 ghost use Rattle.law_bars.specs.Law.{law_bar};
 
@@ -28,7 +27,7 @@ pub fn law_bar(
     requires lawful { IsLawful events.now }
     requires off { stage_of events.now ≡ stage.Off }
     requires range { report + duty + limbo < 2 ^ 28 }
-    ensures value { result ≡ law_bar events.now home moment (plan_of report duty limbo) }
+    ensures value { result ≡ law_bar events.now home moment report duty limbo }
     ensures range { IsInYears report → report + duty + limbo ≤ 68_374_080 → IfSome result HasItsValues }
 {
     if let Some(bar) = rest_bar(events, moment, report) {

@@ -63,6 +63,13 @@ rest_ok-decides es lawful at more = (cases, test)
     test (inl none) = rw (off_from-none es lawful none) refl
     test (inr has) = rw (le-leb (off_from es + 600) at has.ten_hours, there.1 has.stretch) (or (nat_eq (off_from es) 0))
 
+-- who has not rested is off since a minute
+pub off_from-some : (es : List Event) (at more : ℕ) → rest_ok es at more ≡ false → 0 < off_from es
+off_from-some es at more not = elim (cases_lt 0 (off_from es)) [
+  | inl some ↦ some
+  | inr zero ↦ let none : off_from es ≡ 0 = omega (arith, zero) in absurd (false≢true (sym not ∙ rw none refl))
+]
+
 -- the values of the end of rest
 end-none : (es : List Event) → off_from es ≡ 0 → rest_end es ≡ 0
 end-none es is = rw is refl
@@ -72,6 +79,15 @@ end-taken es some is = let not : nat_eq (off_from es) 0 ≡ false = grind (arith
 
 pub end-owed : (es : List Event) → 0 < off_from es → was_off es (600 + excess es) (off_from es) ≡ false → rest_end es ≡ off_from es + 600 + excess es
 end-owed es some is = let not : nat_eq (off_from es) 0 ≡ false = grind (arith, nat_tests, some) in rw (not, is) refl
+
+pub rest_end-some : (es : List Event) (at more : ℕ) → rest_ok es at more ≡ false → 0 < rest_end es
+rest_end-some es at more not = go (was_off es (600 + excess es) (off_from es)) refl
+  where
+    some : 0 < off_from es
+    some = off_from-some es at more not
+    go : (b : Bool) → was_off es (600 + excess es) (off_from es) ≡ b → 0 < rest_end es
+    go true is = omega (arith, end-taken es some is)
+    go false is = omega (arith, end-owed es some is)
 
 -- the law of the end of rest
 pub rest_end-law : (es : List Event) → IsLawful es → stage_of es ≡ stage.Off → EndsRest es (rest_end es)

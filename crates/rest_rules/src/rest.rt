@@ -1,4 +1,4 @@
-ghost use Rattle.std.specs.Prelude.{◌≡◌, ℕ, ◌<◌, ◌≤◌, nat_le};
+ghost use Rattle.std.specs.Prelude.{◌≡◌, ℕ, ◌<◌, ◌≤◌, ◌⊎◌, nat_le};
 ghost use Rattle.std.specs.Bool.{Decides};
 ghost use Rattle.stretches.specs.Stretch.{Stretch};
 ghost use Rattle.duty_events.specs.declared.stage.Stage.TheVariants as stage;
@@ -34,6 +34,7 @@ pub fn rest_end(events: &[Event]) -> Minute
     requires off { stage_of events.now ≡ stage.Off }
     ensures value { result ≡ rest_end events.now }
     ensures law { EndsRest events.now result }
+    ensures range { (result ≡ 0) ⊎ (15_778_680 ≤ result) }
 {
     let off_from = off_from(events);
     if off_from == Minute::FIRST {
