@@ -1,5 +1,5 @@
 -- What the first bar keeps can be written.
-use Rattle.std.proofs.Common.{◌≡◌, ℕ, zero, suc, ◌<◌, ◌≤◌, Bool, true, false, not, cond, ◌&&◌, Option, None, Some, IfSome, List, [], ◌∷◌, refl, arith}
+use Rattle.std.proofs.Common.{◌≡◌, ℕ, zero, suc, ◌<◌, Bool, true, false, not, cond, ◌&&◌, Option, None, Some, IfSome, List, [], ◌∷◌, refl, arith}
 use Rattle.std.specs.Option.{option_or, option_map}
 use Rattle.std.specs.Str.{bytes_eq}
 use Rattle.qualifications.specs.Quals.{has, lowest, lowest_missing}

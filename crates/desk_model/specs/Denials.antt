@@ -1,5 +1,5 @@
 -- What `next` answers, told by bars: a vacancy is unfilled where all are barred, and else offered to the first who isn't.
-use Rattle.std.specs.Prelude.{◌≡◌, ℕ, ◌≤◌, Option, None, Some, List, ◌∷◌, ◌++◌}
+use Rattle.std.specs.Prelude.{◌≡◌, ℕ, ◌≤◌, None, Some, List, ◌∷◌, ◌++◌}
 use Rattle.std.specs.List.{All}
 use Rattle.denial_rules.specs.declared.bar.Bar.{Bar}
 use Rattle.desk_model.specs.declared.person.Person.{Person}
