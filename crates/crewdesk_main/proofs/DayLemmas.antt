@@ -10,7 +10,7 @@ use Rattle.desk_model.specs.Opening.{OpeningValue, IsOpening, opening_of, openin
 use Rattle.desk_model.specs.declared.command.Cmd.TheVariants as cmd
 use Rattle.desk_model.specs.Statement.{StatedValue, stated_of}
 use Rattle.desk_model.specs.Fits.{IsStated}
-use Rattle.desk_model.specs.Texts.{stated_fields}
+use Rattle.desk_model.specs.StatedTexts.{stated_fields}
 use Rattle.desk_text.proofs.ApartLemmas.{minute_text-one, month_text-one, stated_fields-one}
 use Rattle.crewdesk_main.specs.Records.{fields_of}
 use Rattle.crewdesk_main.specs.DayFile.{IsCommandRecord, IsDayFile, HasUnreadable}

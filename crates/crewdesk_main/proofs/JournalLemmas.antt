@@ -9,7 +9,7 @@ use Rattle.desk_io.specs.Giving.{AddsFront}
 use Rattle.desk_model.specs.Opening.{OpeningValue}
 use Rattle.desk_model.specs.Statement.{StatedValue}
 use Rattle.desk_model.specs.Entry.{EntryValue}
-use Rattle.desk_model.specs.Texts.{entry_line}
+use Rattle.desk_model.specs.Journal.{entry_line}
 use Rattle.desk_model.specs.Journal.{opening_line, entry_lines, journal}
 use Rattle.desk_model.specs.Legal.{next, history_from}
 use Rattle.desk_model.proofs.LegalLemmas.{legal-nil, legal-history_from, given-history_from}

@@ -7,7 +7,7 @@ use Rattle.desk_base.specs.Window.{WindowValue, IsWindow}
 use Rattle.desk_model.specs.Opening.{OpeningValue, IsOpening, opening_fields}
 use Rattle.desk_model.specs.Statement.{StatedValue}
 use Rattle.desk_model.specs.Fits.{IsStated}
-use Rattle.desk_model.specs.Texts.{stated_fields}
+use Rattle.desk_model.specs.StatedTexts.{stated_fields}
 use Rattle.crewdesk_main.specs.Records.{records, fields_of}
 
 -- how many records a day file may have: its opening and 200,000 commands

@@ -5,7 +5,7 @@ ghost use Rattle.std.specs.Result.{IsOkUnless};
 ghost use Rattle.desk_model.specs.Opening.{OpeningValue};
 ghost use Rattle.desk_model.specs.Statement.{StatedValue};
 ghost use Rattle.desk_model.specs.Fits.{IsStated};
-ghost use Rattle.desk_model.specs.Texts.{stated_fields};
+ghost use Rattle.desk_model.specs.StatedTexts.{stated_fields};
 ghost use Rattle.crewdesk_main.specs.Records.{records, fields_of};
 ghost use Rattle.crewdesk_main.specs.DayFile.{IsCommandRecord, IsDayFile, HasTooMany, HasNoOpening, HasUnreadable, record_limit};
 

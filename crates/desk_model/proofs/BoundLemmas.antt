@@ -80,6 +80,7 @@ done_room o h m (cmd.Happened person event) b done = releases h b person event
 done_room o h m (cmd.Vacancy job) b done = inl (refl, λ p. refl)
 done_room o h m (cmd.Next vac) b done = inl (refl, λ p. refl)
 done_room o h m (cmd.Hours person month) b done = inl (refl, λ p. refl)
+done_room o h m (cmd.Explain vac person) b done = inl (refl, λ p. refl)
 
 -- so does the entry that the rules give
 next_room : (o : OpeningValue) (h : List EntryValue) (caller : ℕ) (s : StatedValue) (b : List ℕ)

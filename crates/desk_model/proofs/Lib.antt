@@ -9,3 +9,6 @@ pub mod RefusalLemmas
 pub mod OneOfferLemmas
 pub mod DutyLemmas
 pub mod ToldLemmas
+pub mod BarLemmas
+pub mod EnrolledLemmas
+pub mod DenialLemmas

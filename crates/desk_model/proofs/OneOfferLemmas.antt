@@ -82,6 +82,7 @@ makes-makes_any v (cmd.Past person event) job made = cc
 makes-makes_any v (cmd.Happened person event) job made = cc
 makes-makes_any v (cmd.Next vac) job made = cc
 makes-makes_any v (cmd.Hours person month) job made = cc
+makes-makes_any v (cmd.Explain vac person) job made = cc
 
 said-makes_any : (v : ℕ) (e : EntryValue) (job : JobValue) → said (makes v) e ≡ Some job → said makes_any e ≡ Some v
 said-makes_any v e job made = go (is_done e.reply) made
@@ -187,6 +188,7 @@ next-says o h caller s = go (is_within o.window s.minute) s.cmd
     go true (cmd.Happened person event) = inl (λ v. refl)
     go true (cmd.Vacancy job) = inl (λ v. refl)
     go true (cmd.Hours person month) = inl (λ v. refl)
+    go true (cmd.Explain vac person) = inl (λ v. refl)
 
 -- ---- a legal history
 

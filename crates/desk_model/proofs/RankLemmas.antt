@@ -57,6 +57,7 @@ puts-sends b p before (cmd.Happened person event) put = cc
 puts-sends b p before (cmd.Vacancy job) put = cc
 puts-sends b p before (cmd.Next vac) put = cc
 puts-sends b p before (cmd.Hours person month) put = cc
+puts-sends b p before (cmd.Explain vac person) put = cc
 
 said-puts-sends : (b : List ℕ) (p : ℕ) (before : List EntryValue) (e : EntryValue) → said (puts b p) e ≡ Some true → said (sends b before) e ≡ Some p
 said-puts-sends b p before e put = go (is_done e.reply) put

@@ -109,6 +109,7 @@ command-follows o h m (cmd.List person board) p t is told done = cc
 command-follows o h m (cmd.Vacancy job) p t is told done = cc
 command-follows o h m (cmd.Next vac) p t is told done = cc
 command-follows o h m (cmd.Hours person month) p t is told done = cc
+command-follows o h m (cmd.Explain vac person) p t is told done = cc
 
 next-follows : (o : OpeningValue) (h : List EntryValue) (caller : ℕ) (s : StatedValue) (p : ℕ) (t : Event) → IsStated s → said (tells p) (next o h caller s) ≡ Some t
     → may_follow (stage_of (events h p)) (latest (events h p)) t ≡ true

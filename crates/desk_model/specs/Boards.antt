@@ -22,6 +22,7 @@ puts b p (cmd.Happened person event) = None
 puts b p (cmd.Vacancy job) = None
 puts b p (cmd.Next vac) = None
 puts b p (cmd.Hours person month) = None
+puts b p (cmd.Explain vac person) = None
 
 -- the person is on the board: the last accepted command that says whether they are says so
 abbrev pub is_on : List EntryValue → ℕ → List ℕ → Bool
@@ -58,6 +59,7 @@ sends b before (cmd.Past person event) = None
 sends b before (cmd.Vacancy job) = None
 sends b before (cmd.Next vac) = None
 sends b before (cmd.Hours person month) = None
+sends b before (cmd.Explain vac person) = None
 
 -- all whom these entries, which come after those before, sent to the bottom of the board, in order
 abbrev pub sent_to : List ℕ → List EntryValue → List EntryValue → List ℕ

@@ -23,6 +23,7 @@ tells p (cmd.List person board) = None
 tells p (cmd.Vacancy job) = None
 tells p (cmd.Next vac) = None
 tells p (cmd.Hours person month) = None
+tells p (cmd.Explain vac person) = None
 
 -- the event may follow a stage and a latest minute: it is allowed, its minutes lie in the years 2000 to 2099, and it
 -- doesn't end before it begins
@@ -55,6 +56,7 @@ closes p (cmd.Board board extra place) = None
 closes p (cmd.Vacancy job) = None
 closes p (cmd.Next vac) = None
 closes p (cmd.Hours person month) = None
+closes p (cmd.Explain vac person) = None
 
 abbrev pub is_closed : List EntryValue → ℕ → Bool
 is_closed h p = is_some (first_of (said (closes p)) h)

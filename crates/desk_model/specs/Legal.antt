@@ -16,6 +16,7 @@ use Rattle.desk_model.specs.VacancyAnswer.{vacancy_answer}
 use Rattle.desk_model.specs.NextAnswer.{next_answer}
 use Rattle.desk_model.specs.EventAnswer.{past_answer, event_answer}
 use Rattle.desk_model.specs.HoursAnswer.{hours_answer}
+use Rattle.desk_model.specs.ExplainAnswer.{explain_answer}
 
 -- the minute lies in the window
 abbrev pub is_within : WindowValue → ℕ → Bool
@@ -41,6 +42,7 @@ answer_to o h m (cmd.Next vac) = next_answer h m vac
 answer_to o h m (cmd.Past person event) = past_answer o h m person event
 answer_to o h m (cmd.Happened person event) = event_answer o h m person event
 answer_to o h m (cmd.Hours person month) = hours_answer o h person month
+answer_to o h m (cmd.Explain vac person) = explain_answer h m vac person
 
 -- the answer to what is stated; a minute outside the window is named before all else
 abbrev pub answer : OpeningValue → List EntryValue → StatedValue → Reply

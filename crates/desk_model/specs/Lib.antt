@@ -18,8 +18,12 @@ pub mod ListAnswer
 pub mod VacancyAnswer
 pub mod Refusal
 pub mod NextAnswer
+pub mod Denials
 pub mod EventAnswer
 pub mod HoursAnswer
+pub mod ExplainAnswer
 pub mod Legal
-pub mod Texts
+pub mod StatedTexts
+pub mod BarTexts
+pub mod ReplyTexts
 pub mod Journal

@@ -22,6 +22,7 @@ asks_for (cmd.Vacancy job) = None
 asks_for (cmd.Past person event) = None
 asks_for (cmd.Happened person event) = None
 asks_for (cmd.Hours person month) = None
+asks_for (cmd.Explain vac person) = None
 
 -- the offer that a reply makes at this moment
 abbrev pub offer_in : ℕ → Reply → Option Offer
@@ -30,6 +31,9 @@ offer_in moment reply.Done = None
 offer_in moment reply.OutsideWindow = None
 offer_in moment (reply.Unfilled listed) = None
 offer_in moment (reply.Hours used capped) = None
+offer_in moment reply.NotListed = None
+offer_in moment (reply.Denied bar) = None
+offer_in moment (reply.Clear board position) = None
 offer_in moment (reply.Frozen vac) = None
 offer_in moment reply.PastClosed = None
 offer_in moment (reply.EventAhead minute) = None

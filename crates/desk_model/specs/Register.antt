@@ -19,6 +19,7 @@ enrols p (cmd.Next vac) = None
 enrols p (cmd.Past person event) = None
 enrols p (cmd.Happened person event) = None
 enrols p (cmd.Hours person month) = None
+enrols p (cmd.Explain vac person) = None
 
 -- a command that enrols somebody
 abbrev pub enrols_any : Cmd → Option ℕ
@@ -30,6 +31,7 @@ enrols_any (cmd.Next vac) = None
 enrols_any (cmd.Past person event) = None
 enrols_any (cmd.Happened person event) = None
 enrols_any (cmd.Hours person month) = None
+enrols_any (cmd.Explain vac person) = None
 
 -- a command that sets up this board
 abbrev pub sets_up : List ℕ → Cmd → Option BoardSetup
@@ -41,6 +43,7 @@ sets_up b (cmd.Next vac) = None
 sets_up b (cmd.Past person event) = None
 sets_up b (cmd.Happened person event) = None
 sets_up b (cmd.Hours person month) = None
+sets_up b (cmd.Explain vac person) = None
 
 -- a command that sets up some board
 abbrev pub sets_up_any : Cmd → Option (List ℕ)
@@ -52,6 +55,7 @@ sets_up_any (cmd.Next vac) = None
 sets_up_any (cmd.Past person event) = None
 sets_up_any (cmd.Happened person event) = None
 sets_up_any (cmd.Hours person month) = None
+sets_up_any (cmd.Explain vac person) = None
 
 -- a command that makes this vacancy
 abbrev pub makes : ℕ → Cmd → Option JobValue
@@ -63,6 +67,7 @@ makes v (cmd.Next vac) = None
 makes v (cmd.Past person event) = None
 makes v (cmd.Happened person event) = None
 makes v (cmd.Hours person month) = None
+makes v (cmd.Explain vac person) = None
 
 -- a command that makes some vacancy
 abbrev pub makes_any : Cmd → Option ℕ
@@ -74,6 +79,7 @@ makes_any (cmd.Next vac) = None
 makes_any (cmd.Past person event) = None
 makes_any (cmd.Happened person event) = None
 makes_any (cmd.Hours person month) = None
+makes_any (cmd.Explain vac person) = None
 
 -- the person as enrolled, the board as set up, and the vacancy as made; None where there is none such
 abbrev pub person_of : List EntryValue → ℕ → Option Person

@@ -45,4 +45,9 @@ pub enum Cmd {
         person: PersonNo,
         month: Month,
     },
+    /// What bars a person from a vacancy is asked.
+    Explain {
+        vac: VacNo,
+        person: PersonNo,
+    },
 }

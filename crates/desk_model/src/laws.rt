@@ -1,8 +1,11 @@
 //! What holds of the rules' definitions.
-ghost use Rattle.std.specs.Prelude.{◌≡◌, ℕ, true, false, List, [], ◌∷◌, ◌++◌};
+ghost use Rattle.std.specs.Prelude.{◌≡◌, ◌↔◌, ℕ, true, false, Some, List, [], ◌∷◌, ◌++◌};
 ghost use Rattle.desk_model.specs.Opening.{OpeningValue};
 ghost use Rattle.desk_model.specs.Entry.{EntryValue};
-ghost use Rattle.desk_model.specs.Boards.{order};
+ghost use Rattle.desk_model.specs.declared.reply.Reply.TheVariants as reply;
+ghost use Rattle.desk_model.specs.Job.{JobValue};
+ghost use Rattle.desk_model.specs.Register.{vacancy_of};
+ghost use Rattle.desk_model.specs.Boards.{order, chain};
 ghost use Rattle.desk_model.specs.Rank.{IsByRank};
 ghost use Rattle.desk_model.specs.Offers.{open_offer, is_to};
 ghost use Rattle.desk_model.specs.Refusal.{changes, IsSameDesk};
@@ -10,6 +13,8 @@ ghost use Rattle.std.specs.List.{All};
 ghost use Rattle.desk_model.specs.Fits.{IsStated};
 ghost use Rattle.desk_model.specs.History.{said, all_of};
 ghost use Rattle.desk_model.specs.Duty.{tells, events};
+ghost use Rattle.desk_model.specs.NextAnswer.{next_answer};
+ghost use Rattle.desk_model.specs.Denials.{IsOpen, AreBarred, IsUnfilled, IsFirstClear};
 ghost use Rattle.desk_model.specs.Legal.{IsLegal};
 
 /// The order of a board is the one list of just those who are on it by rising rank: the place of the last entry that
@@ -40,4 +45,17 @@ pub fn no_event_is_left_out()
     ensures { (o : OpeningValue) (h : List EntryValue) → IsLegal o h
         → All (λ e. IsStated e.stated) h
         → (p : ℕ) → events h p ≡ all_of (said (tells p)) h }
+{}
+
+/// In a legal history a vacancy that is open is unfilled exactly where each of its chain is enrolled and has a bar; and
+/// where a vacancy is offered, the person to whom it is offered has none, and all who stand before them in the chain
+/// are barred. It does nothing: its clauses are the law.
+pub fn unfilled_where_all_are_barred()
+    ensures unfilled { (o : OpeningValue) (h : List EntryValue) → IsLegal o h
+        → (m v : ℕ) (job : JobValue) → IsOpen h m v job
+        → IsUnfilled (next_answer h m v) ↔ AreBarred h m job (chain h job.chain) }
+    ensures offered { (o : OpeningValue) (h : List EntryValue) → IsLegal o h
+        → (m v : ℕ) (job : JobValue) → vacancy_of h v ≡ Some job
+        → (p k : ℕ) (b : List ℕ) → next_answer h m v ≡ reply.Offered p b k
+        → IsFirstClear h m job (record { board = b; position = k; person = p }) }
 {}

@@ -27,6 +27,7 @@ pub use entry::Entry;
 pub use job::Job;
 pub use laws::{
     a_refusal_changes_nothing, no_event_is_left_out, one_offer_to_a_person, order_is_by_rank,
+    unfilled_where_all_are_barred,
 };
 pub use legal::one_history_is_legal;
 pub use link::Link;

@@ -1,4 +1,5 @@
 use crate::VacState;
+use denial_rules::Bar;
 use desk_base::{Code, Minute, PersonNo, VacNo};
 use duty_events::EventFault;
 
@@ -21,6 +22,16 @@ pub enum Reply {
     Hours {
         used: u32,
         capped: u32,
+    },
+    /// The person has no place in the vacancy's chain.
+    NotListed,
+    /// This bar is the first that keeps the person from the vacancy.
+    Denied(Bar),
+    /// Nothing bars the person from the vacancy: the first place in its chain that is theirs is this position of this
+    /// board, from 1.
+    Clear {
+        board: Code,
+        position: u16,
     },
     /// The minute or the month isn't in the window, the event begins before it, or the plan ends after it.
     OutsideWindow,

@@ -80,6 +80,7 @@ fn tells_years(cmd: &Cmd) -> bool
         | Cmd::Board { .. }
         | Cmd::List { .. }
         | Cmd::Vacancy(_)
-        | Cmd::Next { .. } => true,
+        | Cmd::Next { .. }
+        | Cmd::Explain { .. } => true,
     }
 }

@@ -27,7 +27,7 @@ use Rattle.desk_model.specs.Chain.{IsChain, chain_text}
 use Rattle.desk_model.specs.Job.{JobValue}
 use Rattle.desk_model.specs.Statement.{StatedValue, stated_of}
 use Rattle.desk_model.specs.Fits.{IsCommand, IsJob, IsStated}
-use Rattle.desk_model.specs.Texts.{sort_text, kind_text, event_fields, job_fields, command_fields, stated_fields}
+use Rattle.desk_model.specs.StatedTexts.{sort_text, kind_text, event_fields, job_fields, command_fields, stated_fields}
 use Rattle.desk_model.proofs.ChainLemmas.{parts_by-chain_text}
 use Rattle.desk_text.specs.Spelled.{StatesCommand}
 use Rattle.desk_text.proofs.SpelledLemmas.{apart, job-of}
@@ -180,6 +180,11 @@ command_fields-one (cmd.Hours p m) (cmd.Hours p' m') ha hb e =
     let month = month_text-one m m' ha.1 hb.1 (ap (λ l. get_or l 2 []) e) in
     rw (person, month) refl
 command_fields-one (cmd.Hours p m) other ha hb e = absurd (apart (codes "hours") (get_or (command_fields other) 0 []) refl (ap (λ l. get_or l 0 []) e))
+command_fields-one (cmd.Explain v p) (cmd.Explain v' p') ha hb e =
+    let vac = number-one v v' ha.0 hb.0 (ap (λ l. get_or l 1 []) e) in
+    let person = number-one p p' ha.1 hb.1 (ap (λ l. get_or l 2 []) e) in
+    rw (vac, person) refl
+command_fields-one (cmd.Explain v p) other ha hb e = absurd (apart (codes "explain") (get_or (command_fields other) 0 []) refl (ap (λ l. get_or l 0 []) e))
 
 -- fields state one thing at most
 pub stated_fields-one : (s t : StatedValue) → IsStated s → IsStated t → stated_fields s ≡ stated_fields t → s ≡ t

@@ -6,7 +6,9 @@ use Rattle.desk_base.specs.Month.{month_text}
 use Rattle.desk_model.specs.Opening.{OpeningValue}
 use Rattle.desk_model.specs.Journal.{opening_line}
 use Rattle.desk_model.specs.Entry.{EntryValue}
-use Rattle.desk_model.specs.Texts.{stated_fields, reply_text, entry_line}
+use Rattle.desk_model.specs.StatedTexts.{stated_fields}
+use Rattle.desk_model.specs.ReplyTexts.{reply_text}
+use Rattle.desk_model.specs.Journal.{entry_line}
 use Rattle.desk_text.specs.Marked.{marked}
 
 -- a line to which these fields were added, each behind a comma

@@ -16,7 +16,7 @@ use Rattle.desk_model.specs.declared.command.Cmd.TheVariants as cmd
 use Rattle.desk_model.specs.Chain.{chain_text}
 use Rattle.desk_model.specs.Job.{JobValue, job_of}
 use Rattle.desk_model.specs.Fits.{IsJob}
-use Rattle.desk_model.specs.Texts.{command_fields, job_fields}
+use Rattle.desk_model.specs.StatedTexts.{command_fields, job_fields}
 use Rattle.desk_text.specs.declared.word.Word.{Word}
 use Rattle.desk_text.specs.declared.word.Word.TheVariants as word
 use Rattle.desk_text.specs.Word.{word_text}
@@ -49,6 +49,7 @@ has_word (cmd.Happened person event) = record { word = word.Event; about = _; fi
 has_word (cmd.Vacancy job) = record { word = word.Vacancy; about = _; fields_are = refl }
 has_word (cmd.Next vac) = record { word = word.Next; about = _; fields_are = refl }
 has_word (cmd.Hours person month) = record { word = word.Hours; about = _; fields_are = refl }
+has_word (cmd.Explain vac person) = record { word = word.Explain; about = _; fields_are = refl }
 
 -- an enrolment, and its fields behind the word
 pub record IsEnrolment (about : List (List ℕ)) (command : Cmd) : Type 0 where

@@ -4,7 +4,7 @@ use Rattle.desk_model.specs.declared.command.Cmd.{Cmd}
 use Rattle.duty_events.specs.declared.event.Event.{Event}
 use Rattle.desk_model.specs.Statement.{StatedValue}
 use Rattle.desk_model.specs.Fits.{IsEvent, IsCommand, IsStated}
-use Rattle.desk_model.specs.Texts.{event_fields, command_fields, stated_fields}
+use Rattle.desk_model.specs.StatedTexts.{event_fields, command_fields, stated_fields}
 use Rattle.desk_text.specs.declared.word.Word.{Word}
 use Rattle.desk_text.specs.Word.{word_text}
 

@@ -5,8 +5,8 @@ ghost use Rattle.desk_model.specs.Statement.{StatedValue};
 ghost use Rattle.desk_text.specs.Spelled.{SpellsCommand, StatesCommand};
 
 use crate::spelled_command::{
-    read_board, read_enrol, read_happened, read_hours, read_list, read_next, read_past,
-    read_vacancy,
+    read_board, read_enrol, read_explain, read_happened, read_hours, read_list, read_next,
+    read_past, read_vacancy,
 };
 use crate::word::Word;
 use desk_base::Minute;
@@ -24,6 +24,7 @@ use desk_model::{Cmd, Stated};
 /// | `vacancy` | vacancy, craft, qualifications, place, report, duty, limbo, chain |
 /// | `next` | vacancy |
 /// | `hours` | person, month |
+/// | `explain` | vacancy, person |
 pub fn read_command(fields: &[&[u8]]) -> Option<Stated>
     ensures some { IfSome result (StatesCommand (map (λ field. field.now) fields.now)) }
     ensures only { (s : StatedValue) → StatesCommand (map (λ field. field.now) fields.now) s
@@ -57,5 +58,6 @@ fn read_cmd(fields: &[&[u8]]) -> Option<Cmd>
         Word::Vacancy => read_vacancy(about),
         Word::Next => read_next(about),
         Word::Hours => read_hours(about),
+        Word::Explain => read_explain(about),
     }
 }

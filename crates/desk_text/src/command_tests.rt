@@ -34,7 +34,7 @@ fn is_written_as(stated: Stated, record: &[u8]) -> Result<bool, Fail> {
 
 #[test]
 fn records_that_are_read(rt: HostRuntime) -> Result<(), Fail> {
-    let records: [&[u8]; 34] = [
+    let records: [&[u8]; 36] = [
         b"2024-03-04 00:01,enrol,101,E,HOM,-",
         b"2024-03-04 00:01,enrol,1,C,A,0",
         b"2024-03-04 00:01,enrol,9999999,B,AWAY01,0+63",
@@ -69,6 +69,8 @@ fn records_that_are_read(rt: HostRuntime) -> Result<(), Fail> {
         b"2024-03-04 00:01,hours,101,2024-03",
         b"2024-03-04 00:01,hours,1,2000-01",
         b"2024-03-04 00:01,hours,9999999,2099-12",
+        b"2024-03-04 00:01,explain,12,101",
+        b"2024-03-04 00:01,explain,9999999,1",
     ];
     for record in records {
         let stated = read_record(record).ok_or("not read")?;
@@ -79,7 +81,7 @@ fn records_that_are_read(rt: HostRuntime) -> Result<(), Fail> {
 
 #[test]
 fn records_that_are_refused(rt: HostRuntime) -> Result<(), Fail> {
-    let records: [&[u8]; 108] = [
+    let records: [&[u8]; 114] = [
         // Events of no form.
         b"2024-03-04 00:01,past,101",
         b"2024-03-04 00:01,past,101,ride",
@@ -105,6 +107,13 @@ fn records_that_are_refused(rt: HostRuntime) -> Result<(), Fail> {
         b"2024-03-04 00:01,hours,101,2100-01",
         b"2024-03-04 00:01,hours,101",
         b"2024-03-04 00:01,hours,101,2024-03,1",
+        // What explains nothing.
+        b"2024-03-04 00:01,explain,12",
+        b"2024-03-04 00:01,explain,12,101,P1",
+        b"2024-03-04 00:01,explain,0,101",
+        b"2024-03-04 00:01,explain,12,0",
+        b"2024-03-04 00:01,explain,P1,101",
+        b"2024-03-04 00:01,explains,12,101",
         // No word, or none of a command.
         b"",
         b"2024-03-04 00:01",

@@ -1,6 +1,6 @@
 //! Entries as lines of the journal.
 ghost use Rattle.std.specs.Prelude.{◌≡◌};
-ghost use Rattle.desk_model.specs.Texts.{entry_line};
+ghost use Rattle.desk_model.specs.Journal.{entry_line};
 
 use crate::line_text::{LineText, put, put_number};
 use crate::reply_line::put_reply;

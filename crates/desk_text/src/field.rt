@@ -1,7 +1,7 @@
 //! Single fields of a record, read.
 ghost use Rattle.std.specs.Prelude.{◌≡◌, ◌<◌, ◌^◌, ℕ, Bool, decimal, IfSome};
 ghost use Rattle.desk_base.specs.Number.{IsNumber};
-ghost use Rattle.desk_model.specs.Texts.{sort_text};
+ghost use Rattle.desk_model.specs.StatedTexts.{sort_text};
 
 use desk_base::{PersonNo, VacNo, read_decimal};
 

@@ -1,6 +1,7 @@
 //! The texts of the desk: commands read, and the journal's lines written.
 #![tactic(auto)]
 
+mod bar_line;
 mod command_record;
 mod entry_line;
 mod field;

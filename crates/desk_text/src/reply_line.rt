@@ -1,12 +1,12 @@
 //! Replies as texts.
 ghost use Rattle.std.specs.Prelude.{◌≡◌, ◌≤◌, ◌+◌, ◌++◌};
 ghost use Rattle.arrayvec.specs.ArrayVec.{array_vec_len};
-ghost use Rattle.desk_model.specs.Texts.{state_text, stage_text, fault_text, late_text, reply_text};
+ghost use Rattle.desk_model.specs.ReplyTexts.{state_text, stage_text, fault_text, reply_text};
 ghost use Rattle.desk_model.specs.Fits.{StageHasItsMinute, FaultHasItsMinute, HasItsMinute};
 
+use crate::bar_line::{put_bar, put_late};
 use crate::line_text::{LineText, put, put_number};
 use crate::stated_line::kind_text;
-use desk_base::Minute;
 use desk_model::{Reply, VacState};
 use duty_events::{EventFault, Stage};
 
@@ -30,6 +30,17 @@ pub fn put_reply(line: &mut LineText, reply: &Reply)
         Reply::VacanciesFull => put(line, b"vacancies full"),
         Reply::PlanTooLong => put(line, b"plan too long 21103(a)(2)"),
         Reply::UnknownVacancy => put(line, b"unknown vacancy"),
+        Reply::NotListed => put(line, b"not listed"),
+        Reply::Denied(bar) => {
+            put(line, b"denied ");
+            put_bar(line, bar);
+        }
+        Reply::Clear { board, position } => {
+            put(line, b"clear ");
+            put(line, board.text());
+            put(line, b" ");
+            put_number(line, u32::from(*position));
+        }
         Reply::Unfilled { listed } => {
             put(line, b"unfilled ");
             put_number(line, u32::from(*listed));
@@ -136,20 +147,6 @@ fn put_stage(line: &mut LineText, stage: &Stage)
             put(line, b" ");
             put(line, place.text());
         }
-    }
-}
-
-// A minute from the year 2000 on; one behind the year 2099 by its number.
-fn put_late(line: &mut LineText, minute: Minute)
-    requires from_2000 { 15_778_080 ≤ minute }
-    requires room { array_vec_len line.old + 16 ≤ 512 }
-    ensures text { line.new.items ≡ line.old.items ++ late_text minute }
-    ensures len { array_vec_len line.new ≤ array_vec_len line.old + 16 }
-{
-    if minute.number() < 68_374_080 {
-        put(line, &minute.write());
-    } else {
-        put_number(line, minute.number() as u32);
     }
 }
 

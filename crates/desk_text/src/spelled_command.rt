@@ -138,3 +138,18 @@ pub fn read_hours(about: &[&[u8]]) -> Option<Cmd>
         month: Month::read(month)?,
     })
 }
+
+/// Vacancy and person.
+pub fn read_explain(about: &[&[u8]]) -> Option<Cmd>
+    ensures some { IfSome result (Spells word.Explain (map (λ field. field.now) about.now)) }
+    ensures only { (cmd : CmdValue) → Spells word.Explain (map (λ field. field.now) about.now) cmd
+        → result ≡ Some cmd }
+{
+    let [vac, person] = about else {
+        return None;
+    };
+    Some(Cmd::Explain {
+        vac: read_vac(vac)?,
+        person: read_person(person)?,
+    })
+}

@@ -2,7 +2,7 @@
 ghost use Rattle.std.specs.Prelude.{◌≡◌, ◌≢◌, ◌∷◌, [], codes, IfSome, map};
 ghost use Rattle.duty_events.specs.declared.event.Event.{Event as EventValue};
 ghost use Rattle.duty_events.specs.declared.kind.Kind.{Kind as KindValue};
-ghost use Rattle.desk_model.specs.Texts.{kind_text};
+ghost use Rattle.desk_model.specs.StatedTexts.{kind_text};
 ghost use Rattle.desk_text.specs.Spelled.{SpellsEvent};
 
 use desk_base::{Code, Minute, Span};

@@ -2,7 +2,7 @@
 ghost use Rattle.std.specs.Prelude.{◌≡◌, ◌≤◌, ◌+◌, ◌++◌, length};
 ghost use Rattle.std.specs.List.{join_with_byte};
 ghost use Rattle.arrayvec.specs.ArrayVec.{array_vec_len};
-ghost use Rattle.desk_model.specs.Texts.{command_fields, stated_fields, kind_text, event_fields, job_fields};
+ghost use Rattle.desk_model.specs.StatedTexts.{command_fields, stated_fields, kind_text, event_fields, job_fields};
 ghost use Rattle.desk_model.specs.Fits.{TellsYears};
 ghost use Rattle.desk_base.specs.Minute.{IsInYears};
 ghost use Rattle.duty_events.specs.Allowed.{first_minute, last_minute};
@@ -79,6 +79,11 @@ fn put_command(line: &mut LineText, cmd: &Cmd)
             put_field(line, b"hours");
             put_number_field(line, person.number());
             put_field(line, &month.write());
+        }
+        Cmd::Explain { vac, person } => {
+            put_field(line, b"explain");
+            put_number_field(line, vac.number());
+            put_number_field(line, person.number());
         }
     }
 }

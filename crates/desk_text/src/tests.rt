@@ -1,10 +1,11 @@
 //! Lines of entries, as the journal has them.
-ghost use Rattle.std.specs.Prelude.{◌≤◌, IfOk};
+ghost use Rattle.std.specs.Prelude.{◌≡◌, ◌≤◌, IfOk};
 ghost use Rattle.desk_base.specs.Minute.{IsInYears};
-ghost use Rattle.desk_model.specs.Fits.{HasItsMinute};
+ghost use Rattle.desk_model.specs.Fits.{BarHasItsValues, HasItsMinute};
 
 use crate::write_entry;
-use desk_base::{Code, Minute, PersonNo, VacNo};
+use denial_rules::Bar;
+use desk_base::{Code, Minute, Month, PersonNo, VacNo};
 use desk_model::{Chain, Cmd, Entry, Job, Reply, Stated};
 use duty_events::{EventFault, Kind, Stage};
 use qualifications::{Craft, Quals};
@@ -159,5 +160,73 @@ fn lines_of_refused_events(rt: HostRuntime) -> Result<(), Fail> {
     };
     let line = b"0|2024-03-04 00:01,next,12|2024-03-04 00:02|hours 2520 1800\n";
     assert!(rt; reply_is(hours, line)?);
+    Ok(())
+}
+
+// Whether the line of an entry that is answered by this bar ends so.
+fn denial_is(bar: Bar, text: &[u8]) -> Result<bool, Fail>
+    requires { BarHasItsValues bar }
+{
+    let stated = Stated::new(minute(b"2024-03-04 00:01")?, next()?).ok_or("not stated")?;
+    let moment = minute(b"2024-03-04 00:02")?;
+    let entry = Entry::new(0, stated, moment, Reply::Denied(bar));
+    Ok(write_entry(&entry).as_slice().ends_with(text))
+}
+
+#[test]
+fn texts_of_bars(rt: HostRuntime) -> Result<(), Fail> {
+    let vac = VacNo::new(9_999_999).ok_or("no vacancy")?;
+    let place = code(b"AWAY01")?;
+    assert!(rt; denial_is(Bar::MarkedOff, b"|denied B1\n")?);
+    assert!(rt; denial_is(Bar::InTour, b"|denied B2 tour\n")?);
+    assert!(rt; denial_is(Bar::Assigned(vac), b"|denied B2 assigned 9999999\n")?);
+    assert!(rt; denial_is(Bar::OnOffer(vac), b"|denied B3 9999999\n")?);
+    assert!(rt; denial_is(Bar::Elsewhere(place), b"|denied B4 AWAY01\n")?);
+    assert!(rt; denial_is(Bar::OtherCraft(Craft::C), b"|denied B5 C\n")?);
+    assert!(rt; denial_is(Bar::Lacks(63), b"|denied B6 63\n")?);
+    assert!(rt; denial_is(Bar::Answered, b"|denied B7\n")?);
+    let clear = Reply::Clear {
+        board: place,
+        position: 500,
+    };
+    let line = b"0|2024-03-04 00:01,next,12|2024-03-04 00:02|clear AWAY01 500\n";
+    assert!(rt; reply_is(clear, line)?);
+    let line = b"0|2024-03-04 00:01,next,12|2024-03-04 00:02|not listed\n";
+    assert!(rt; reply_is(Reply::NotListed, line)?);
+    Ok(())
+}
+
+// The first minute behind the year 2099.
+fn late() -> Result<Minute, Fail>
+    ensures { IfOk result (λ minute. minute ≡ 68_374_080) }
+{
+    Ok(Minute::new(68_374_080).ok_or("no minute")?)
+}
+
+#[test]
+fn texts_of_the_bars_of_the_law(rt: HostRuntime) -> Result<(), Fail> {
+    let ends = minute(b"2024-03-05 06:30")?;
+    let late = late()?;
+    let month = Month::read(b"2024-03").ok_or("no month")?;
+    assert!(rt; denial_is(Bar::Rest(ends), b"|denied 21103(a)(3) 2024-03-05 06:30\n")?);
+    assert!(rt; denial_is(Bar::MoreRest(late), b"|denied 21103(c)(4) 68374080\n")?);
+    assert!(rt;
+        denial_is(
+            Bar::Undisturbed(ends),
+            b"|denied 21103(e) 2024-03-05 06:30\n"
+        )?
+    );
+    let (run, need) = (6, 2_880);
+    let six = Bar::SixDays { run, need };
+    assert!(rt; denial_is(six, b"|denied 21103(a)(4)(A) 6 2880\n")?);
+    let (run, need) = (11, 4_320);
+    let seven = Bar::SevenDays { run, need };
+    assert!(rt; denial_is(seven, b"|denied 21103(a)(4)(A)(ii) 11 4320\n")?);
+    let total = 16_561;
+    let over = Bar::MonthHours { month, total };
+    assert!(rt; denial_is(over, b"|denied 21103(a)(1) 2024-03 16561\n")?);
+    let total = 1_801;
+    let limbo = Bar::LimboHours { month, total };
+    assert!(rt; denial_is(limbo, b"|denied 21103(c)(1) 2024-03 1801\n")?);
     Ok(())
 }

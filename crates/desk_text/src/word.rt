@@ -13,6 +13,7 @@ pub enum Word {
     Vacancy,
     Next,
     Hours,
+    Explain,
 }
 
 impl Word {
@@ -37,6 +38,8 @@ impl Word {
             Some(Word::Next)
         } else if text == b"hours".as_slice() {
             Some(Word::Hours)
+        } else if text == b"explain".as_slice() {
+            Some(Word::Explain)
         } else {
             None
         }

@@ -1,14 +1,14 @@
 ghost use Rattle.std.specs.Prelude.{◌≡◌, ◌≤◌, length, vec_capacity};
 ghost use Rattle.std.specs.List.{find};
 ghost use Rattle.desk_model.specs.Boards.{links, order};
-ghost use Rattle.desk_model.specs.Bars.{quals_of, facts_of, is_free, first_free};
+ghost use Rattle.desk_model.specs.Bars.{quals_of, facts_of, bar_of, is_free, first_free};
 ghost use Rattle.plain_core.specs.Fits.{BoardsFit};
 
 use crate::boards::standing_at;
 use crate::duty::{gather, stage_of};
 use crate::offers::on_offer;
 use crate::register::person_of;
-use denial_rules::{Facts, first_bar};
+use denial_rules::{Bar, Facts, first_bar};
 use desk_base::{Code, Minute, PersonNo};
 use desk_model::{Entry, Job, Link, Person};
 use duty_events::{Event, Stage, place};
@@ -51,6 +51,23 @@ fn facts_of(
     }
 }
 
+/// The first bar that keeps an enrolled person from the job at this moment. The list has room for their events.
+pub(crate) fn bar_of(
+    entries: &[Entry],
+    events: &mut Vec<Event>,
+    moment: Minute,
+    job: &Job,
+    number: PersonNo,
+    person: &Person,
+) -> Option<Bar>
+    requires { length entries.now ≤ vec_capacity events.old }
+    ensures bar { result ≡ bar_of entries.now moment job.now number person.now }
+    ensures room { vec_capacity events.new ≡ vec_capacity events.old }
+{
+    let facts = facts_of(entries, events, moment, job, number, person);
+    first_bar(&facts)
+}
+
 // The person is enrolled, and at this moment nothing bars them from the job.
 fn is_free(
     entries: &[Entry],
@@ -66,8 +83,7 @@ fn is_free(
     let Some(person) = person_of(entries, number) else {
         return false;
     };
-    let facts = facts_of(entries, events, moment, job, number, &person);
-    first_bar(&facts).is_none()
+    bar_of(entries, events, moment, job, number, &person).is_none()
 }
 
 // The first of a board whom nothing bars, with the position, from 1.

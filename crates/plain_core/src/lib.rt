@@ -6,6 +6,7 @@ mod bars;
 mod boards;
 mod duty;
 mod event_answer;
+mod explain_answer;
 mod history;
 mod hours_answer;
 mod moment;

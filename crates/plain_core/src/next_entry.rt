@@ -6,6 +6,7 @@ ghost use Rattle.plain_core.specs.Fits.{BoardsFit};
 
 use crate::answers::{board_answer, enrol_answer, list_answer, vacancy_answer};
 use crate::event_answer::{event_answer, past_answer};
+use crate::explain_answer::explain_answer;
 use crate::hours_answer::hours_answer;
 use crate::moment::{is_within, moment};
 use crate::next_answer::next_answer;
@@ -41,6 +42,7 @@ fn answer_to(
         Cmd::Vacancy(job) => vacancy_answer(opening, entries, moment, job),
         Cmd::Next { vac } => next_answer(entries, events, moment, *vac),
         Cmd::Hours { person, month } => hours_answer(opening, entries, events, *person, *month),
+        Cmd::Explain { vac, person } => explain_answer(entries, events, moment, *vac, *person),
     }
 }
 

@@ -1,6 +1,6 @@
 use Rattle.std.proofs.Common.{◌++◌, ◌∙◌, sym, ap}
 use Rattle.std.specs.List.{join_with_byte}
-use Rattle.desk_model.specs.Texts.{stated_fields}
+use Rattle.desk_model.specs.StatedTexts.{stated_fields}
 use Rattle.desk_text.proofs.FieldLemmas.{entry_line-pieces}
 use Rattle.desk_text.proofs.entry_line.write_entry.Goals as goal
 

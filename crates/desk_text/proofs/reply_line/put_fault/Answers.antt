@@ -1,5 +1,5 @@
 use Rattle.std.proofs.Common.{append_assoc, codes}
-use Rattle.desk_model.specs.Texts.{stage_text}
+use Rattle.desk_model.specs.ReplyTexts.{stage_text}
 use Rattle.desk_text.proofs.reply_line.put_fault.Goals as goal
 
 pub returns-in-WrongStage-clause-text : goal.returns-in-WrongStage-clause-text

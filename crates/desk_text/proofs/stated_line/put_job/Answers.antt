@@ -1,4 +1,4 @@
-use Rattle.desk_model.specs.Texts.{job_fields}
+use Rattle.desk_model.specs.StatedTexts.{job_fields}
 use Rattle.desk_text.proofs.FieldLemmas.{added-marked}
 use Rattle.desk_text.proofs.stated_line.put_job.Goals as goal
 

@@ -1,0 +1,227 @@
+-- A vacancy is unfilled where all of its chain are barred, and else offered to the first who isn't.
+use Rattle.std.proofs.Common.{◌≡◌, ℕ, ◌+◌, Bool, true, false, cond, nat_eq, nat_lt, Option, None, Some, is_none, is_some, List, [], ◌∷◌, ◌++◌, length, filter, refl, sym, ap, subst, ◌∙◌, arith}
+use Rattle.std.specs.Option.{option_or}
+use Rattle.std.specs.List.{All, find}
+use Rattle.std.proofs.lemmas.Bool.{false≢true}
+use Rattle.std.proofs.lemmas.Bool.Decides.{nat_tests}
+use Rattle.std.proofs.lemmas.List.Elements.{All-nil, All-cons, All-tail, All-append}
+use Rattle.denial_rules.specs.declared.bar.Bar.{Bar}
+use Rattle.desk_model.specs.declared.command.Cmd.{Cmd}
+use Rattle.desk_model.specs.declared.command.Cmd.TheVariants as cmd
+use Rattle.desk_model.specs.declared.person.Person.{Person}
+use Rattle.desk_model.specs.declared.link.Link.{Link}
+use Rattle.desk_model.specs.declared.reply.Reply.TheVariants as reply
+use Rattle.desk_model.specs.declared.vac_state.VacState.{VacState}
+use Rattle.desk_model.specs.declared.vac_state.VacState.TheVariants as state
+use Rattle.desk_model.specs.Opening.{OpeningValue}
+use Rattle.desk_model.specs.Entry.{EntryValue}
+use Rattle.desk_model.specs.Job.{JobValue}
+use Rattle.desk_model.specs.History.{is_done}
+use Rattle.desk_model.specs.Register.{makes, person_of, vacancy_of}
+use Rattle.desk_model.specs.Boards.{is_on, sent_to, keep_last, order, links, chain}
+use Rattle.desk_model.specs.Offers.{state_of}
+use Rattle.desk_model.specs.Bars.{bar_of, may_have, is_free, first_free}
+use Rattle.desk_model.specs.NextAnswer.{choice_answer, state_answer, known_answer, next_answer}
+use Rattle.desk_model.specs.Denials.{IsOpen, IsBarred, IsClear, AreBarred, IsUnfilled, IsFirstClear}
+use Rattle.desk_model.specs.Legal.{IsLegal}
+use Rattle.desk_model.proofs.OrderLemmas.{same_number}
+use Rattle.desk_model.proofs.EnrolledLemmas.{on-enrolled}
+
+-- ---- all of a chain are enrolled
+
+abbrev IsEnrolled : List EntryValue → ℕ → Type 0
+IsEnrolled h p = is_some (person_of h p) ≡ true
+
+filter-passes : (f : ℕ → Bool) (ps : List ℕ) → All (λ p. f p ≡ true) (filter f ps)
+filter-passes f [] = All-nil (λ p. f p ≡ true)
+filter-passes f (p ∷ ps) = go (f p) refl (filter-passes f ps)
+  where
+    go : (kept : Bool) → f p ≡ kept → All (λ q. f q ≡ true) (filter f ps) → All (λ q. f q ≡ true) (cond kept (p ∷ filter f ps) (filter f ps))
+    go true is rest = All-cons (λ q. f q ≡ true) p (filter f ps) is rest
+    go false is rest = rest
+
+links-enrolled : (h : List EntryValue) (b : List ℕ) (k : ℕ) (ps : List ℕ) → ((p : ℕ) → is_on h p b ≡ true → IsEnrolled h p) → All (λ p. is_on h p b ≡ true) ps
+    → All (λ (link : Link). IsEnrolled h link.person) (links b k ps)
+links-enrolled h b k [] known on = All-nil (λ (link : Link). IsEnrolled h link.person)
+links-enrolled h b k (p ∷ ps) known on =
+    All-cons (λ (link : Link). IsEnrolled h link.person) (record { board = b; position = k; person = p }) (links b (k + 1) ps)
+    (known p (on 0 p (omega arith)))
+    (links-enrolled h b (k + 1) ps known (All-tail (λ q. is_on h q b ≡ true) p ps on))
+
+chain-enrolled : (h : List EntryValue) (codes : List (List ℕ)) → ((p : ℕ) (b : List ℕ) → is_on h p b ≡ true → IsEnrolled h p)
+    → All (λ (link : Link). IsEnrolled h link.person) (chain h codes)
+chain-enrolled h [] known = All-nil (λ (link : Link). IsEnrolled h link.person)
+chain-enrolled h (b ∷ codes) known =
+    All-append (λ (link : Link). IsEnrolled h link.person) (links b 1 (order h b)) (chain h codes)
+    (links-enrolled h b 1 (order h b) (λ p. known p b) (filter-passes (λ p. is_on h p b) (keep_last (sent_to b [] h))))
+    (chain-enrolled h codes known)
+
+-- ---- one person
+
+barred-person : (h : List EntryValue) (m : ℕ) (job : JobValue) (p : ℕ) → IsEnrolled h p → is_free h m job p ≡ false → IsBarred h m job p
+barred-person h m job p known held = go (person_of h p) refl known held
+  where
+    go : (found : Option Person) → person_of h p ≡ found → is_some found ≡ true → may_have h m job p found ≡ false → IsBarred h m job p
+    go None is known held = absurd (false≢true known)
+    go (Some person) is known held = by_bar (bar_of h m job p person) refl held
+      where
+        by_bar : (first : Option Bar) → bar_of h m job p person ≡ first → is_none first ≡ false → IsBarred h m job p
+        by_bar None first held = absurd (false≢true (sym held))
+        by_bar (Some bar) first held = record { person = person; bar = bar; enrolled = is; barred = first }
+
+clear-person : (h : List EntryValue) (m : ℕ) (job : JobValue) (p : ℕ) → is_free h m job p ≡ true → IsClear h m job p
+clear-person h m job p free = go (person_of h p) refl free
+  where
+    go : (found : Option Person) → person_of h p ≡ found → may_have h m job p found ≡ true → IsClear h m job p
+    go None is free = absurd (false≢true free)
+    go (Some person) is free = by_bar (bar_of h m job p person) refl free
+      where
+        by_bar : (first : Option Bar) → bar_of h m job p person ≡ first → is_none first ≡ true → IsClear h m job p
+        by_bar None first free = record { person = person; enrolled = is; clear = first }
+        by_bar (Some bar) first free = absurd (false≢true free)
+
+not-free : (h : List EntryValue) (m : ℕ) (job : JobValue) (p : ℕ) → IsBarred h m job p → is_free h m job p ≡ false
+not-free h m job p b = ap (may_have h m job p) b.enrolled ∙ ap is_none b.barred
+
+-- ---- places of a chain
+
+abbrev are_free : List EntryValue → ℕ → JobValue → Link → Bool
+are_free h m job link = is_free h m job link.person
+
+none-barred : (h : List EntryValue) (m : ℕ) (job : JobValue) (places : List Link) → All (λ (link : Link). IsEnrolled h link.person) places
+    → find (are_free h m job) places ≡ None → AreBarred h m job places
+none-barred h m job [] known none = All-nil (λ (link : Link). IsBarred h m job link.person)
+none-barred h m job (link ∷ places) known none =
+    go (is_free h m job link.person) refl none (none-barred h m job places (All-tail (λ (x : Link). IsEnrolled h x.person) link places known))
+  where
+    go : (free : Bool) → is_free h m job link.person ≡ free → cond free (Some link) (find (are_free h m job) places) ≡ None
+        → (find (are_free h m job) places ≡ None → AreBarred h m job places) → AreBarred h m job (link ∷ places)
+    go true is none rest = cc
+    go false is none rest =
+        All-cons (λ (x : Link). IsBarred h m job x.person) link places (barred-person h m job link.person (known 0 link (omega arith)) is) (rest none)
+
+barred-none : (h : List EntryValue) (m : ℕ) (job : JobValue) (places : List Link) → AreBarred h m job places → find (are_free h m job) places ≡ None
+barred-none h m job [] barred = refl
+barred-none h m job (link ∷ places) barred =
+    rw (not-free h m job link.person (barred 0 link (omega arith)))
+    (barred-none h m job places (All-tail (λ (x : Link). IsBarred h m job x.person) link places barred))
+
+-- the first place whose person is free, and what stands before and behind it
+record Found (h : List EntryValue) (m : ℕ) (job : JobValue) (places : List Link) (link : Link) : Type 0 where
+  before : List Link
+  behind : List Link
+  places_are : places ≡ before ++ link ∷ behind
+  barred : AreBarred h m job before
+  free : is_free h m job link.person ≡ true
+
+found-first : (h : List EntryValue) (m : ℕ) (job : JobValue) (places : List Link) (link : Link) → All (λ (x : Link). IsEnrolled h x.person) places
+    → find (are_free h m job) places ≡ Some link → Found h m job places link
+found-first h m job [] link known found = cc
+found-first h m job (x ∷ places) link known found =
+    go (is_free h m job x.person) refl found (found-first h m job places link (All-tail (λ (y : Link). IsEnrolled h y.person) x places known))
+  where
+    go : (free : Bool) → is_free h m job x.person ≡ free → cond free (Some x) (find (are_free h m job) places) ≡ Some link
+        → (find (are_free h m job) places ≡ Some link → Found h m job places link) → Found h m job (x ∷ places) link
+    go true is found rest =
+        let same : x ≡ link = cc in record {
+          before = [];
+          behind = places;
+          places_are = ap (λ y. y ∷ places) same;
+          barred = All-nil (λ (y : Link). IsBarred h m job y.person);
+          free = subst (λ (y : Link). is_free h m job y.person ≡ true) same is;
+        }
+    go false is found rest =
+        let later = rest found in record {
+          before = x ∷ later.before;
+          behind = later.behind;
+          places_are = ap (λ all. x ∷ all) later.places_are;
+          barred = All-cons (λ (y : Link). IsBarred h m job y.person) x later.before (barred-person h m job x.person (known 0 x (omega arith)) is) later.barred;
+          free = later.free;
+        }
+
+-- ---- the vacancy
+
+-- a vacancy's job has its number
+makes-vac : (v : ℕ) (c : Cmd) (job : JobValue) → makes v c ≡ Some job → job.vac ≡ v
+makes-vac v (cmd.Vacancy other) job made = go (nat_eq other.vac v) refl made
+  where
+    go : (same : Bool) → nat_eq other.vac v ≡ same → cond same (Some other) None ≡ Some job → job.vac ≡ v
+    go true is made = let same : other ≡ job = cc in ap (λ (x : JobValue). x.vac) (sym same) ∙ same_number other.vac v is
+    go false is made = cc
+makes-vac v (cmd.Enrol person craft home quals) job made = cc
+makes-vac v (cmd.Board board extra place) job made = cc
+makes-vac v (cmd.List person board) job made = cc
+makes-vac v (cmd.Past person event) job made = cc
+makes-vac v (cmd.Happened person event) job made = cc
+makes-vac v (cmd.Next vac) job made = cc
+makes-vac v (cmd.Hours person month) job made = cc
+makes-vac v (cmd.Explain vac person) job made = cc
+
+made-vac : (h : List EntryValue) (v : ℕ) (job : JobValue) → vacancy_of h v ≡ Some job → job.vac ≡ v
+made-vac [] v job made = cc
+made-vac (e ∷ later) v job made = go (is_done e.reply) (makes v e.stated.cmd) refl made (made-vac later v job)
+  where
+    go : (done : Bool) (this : Option JobValue) → makes v e.stated.cmd ≡ this → option_or (cond done this None) (vacancy_of later v) ≡ Some job
+        → (vacancy_of later v ≡ Some job → job.vac ≡ v) → job.vac ≡ v
+    go true (Some other) is made rest = let same : other ≡ job = cc in subst (λ (x : JobValue). x.vac ≡ v) same (makes-vac v e.stated.cmd other is)
+    go true None is made rest = rest made
+    go false this is made rest = rest made
+
+-- what is answered of a vacancy that is open
+open-answer : (h : List EntryValue) (m v : ℕ) (job : JobValue) → IsOpen h m v job
+    → next_answer h m v ≡ choice_answer (length (chain h job.chain)) (first_free h m job)
+open-answer h m v job is_open =
+    let vacant : state_of h job.vac ≡ state.Vacant = ap (state_of h) (made-vac h v job is_open.made) ∙ is_open.vacant in
+    let in_time : nat_lt job.report m ≡ false = grind (arith, nat_tests, is_open.in_time) in
+    ap (known_answer h m) is_open.made ∙ ap (state_answer h m job) vacant
+    ∙ ap (λ late. cond late (reply.Lapsed job.report) (choice_answer (length (chain h job.chain)) (first_free h m job))) in_time
+
+-- it is unfilled where all are barred
+pub unfilled-barred : (o : OpeningValue) (h : List EntryValue) (m v : ℕ) (job : JobValue) → IsLegal o h → IsOpen h m v job
+    → IsUnfilled (next_answer h m v) → AreBarred h m job (chain h job.chain)
+unfilled-barred o h m v job legal is_open (listed, is) = go (first_free h m job) refl (sym (open-answer h m v job is_open) ∙ is)
+  where
+    go : (first : Option Link) → first_free h m job ≡ first → choice_answer (length (chain h job.chain)) first ≡ reply.Unfilled listed → AreBarred h m job (chain h job.chain)
+    go None first is = none-barred h m job (chain h job.chain) (chain-enrolled h job.chain (on-enrolled o h legal)) first
+    go (Some link) first is = cc
+
+pub barred-unfilled : (h : List EntryValue) (m v : ℕ) (job : JobValue) → IsOpen h m v job → AreBarred h m job (chain h job.chain) → IsUnfilled (next_answer h m v)
+barred-unfilled h m v job is_open barred =
+    (length (chain h job.chain), open-answer h m v job is_open ∙ ap (choice_answer (length (chain h job.chain))) (barred-none h m job (chain h job.chain) barred))
+
+abbrev link_of : List ℕ → ℕ → ℕ → Link
+link_of b k p = record { board = b; position = k; person = p }
+
+-- it is offered to the first who is clear
+pub offered-first : (o : OpeningValue) (h : List EntryValue) (m v : ℕ) (job : JobValue) (p k : ℕ) (b : List ℕ) → IsLegal o h → vacancy_of h v ≡ Some job
+    → next_answer h m v ≡ reply.Offered p b k → IsFirstClear h m job (record { board = b; position = k; person = p })
+offered-first o h m v job p k b legal made is = by_state (state_of h job.vac) (sym (ap (known_answer h m) made) ∙ is)
+  where
+    chosen : (first : Option Link) → first_free h m job ≡ first → choice_answer (length (chain h job.chain)) first ≡ reply.Offered p b k
+        → IsFirstClear h m job (record { board = b; position = k; person = p })
+    chosen None first is = cc
+    chosen (Some link) first is =
+        let board : link.board ≡ b = cc in
+        let position : link.position ≡ k = cc in
+        let person : link.person ≡ p = cc in
+        let same : link ≡ record { board = b; position = k; person = p } = ap (λ x. link_of x link.position link.person) board ∙ ap (λ x. link_of b x link.person) position ∙ ap (link_of b k) person in
+        let found = found-first h m job (chain h job.chain) link (chain-enrolled h job.chain (on-enrolled o h legal)) first in
+        subst (IsFirstClear h m job) same (record {
+          before = found.before;
+          behind = found.behind;
+          chain_is = found.places_are;
+          barred = found.barred;
+          clear = clear-person h m job link.person found.free;
+        })
+
+    vacant : (late : Bool) → cond late (reply.Lapsed job.report) (choice_answer (length (chain h job.chain)) (first_free h m job)) ≡ reply.Offered p b k
+        → IsFirstClear h m job (record { board = b; position = k; person = p })
+    vacant true is = cc
+    vacant false is = chosen (first_free h m job) refl is
+
+    by_state : (how : VacState) → state_answer h m job how ≡ reply.Offered p b k → IsFirstClear h m job (record { board = b; position = k; person = p })
+    by_state (state.Taken q) is = cc
+    by_state (state.Begun q) is = cc
+    by_state state.Annulled is = cc
+    by_state (state.OnOffer q) is = cc
+    by_state state.Vacant is = vacant (nat_lt job.report m) is
