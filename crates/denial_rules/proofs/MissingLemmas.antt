@@ -1,5 +1,5 @@
 -- When no qualification that is asked is missing.
-use Rattle.std.proofs.Common.{◌≡◌, ℕ, zero, suc, ◌<◌, ◌≤◌, inl, inr, Bool, true, false, not, ◌&&◌, if◌then◌else◌, Option, None, Some, refl, ap, ◌∙◌, arith, ◌↔◌, IsTrue}
+use Rattle.std.proofs.Common.{◌≡◌, ℕ, zero, suc, ◌<◌, ◌≤◌, inl, inr, Bool, true, false, not, ◌&&◌, cond, if◌then◌else◌, Option, None, Some, refl, ap, ◌∙◌, arith, ◌↔◌, IsTrue}
 use Rattle.std.specs.Option.{option_or}
 use Rattle.std.proofs.lemmas.Bool.{cases_order}
 use Rattle.qualifications.specs.Quals.{has, lowest, lowest_missing}
@@ -46,3 +46,17 @@ lowest_missing-none had asked = (
     missing_of true true f = refl
     missing_of true false f = let wrong : false ≡ true = f refl in cc
     missing_of false h f = refl
+
+-- the lowest number that passes is below n, and so a missing one is at most 63
+lowest-below : (test : ℕ → Bool) (n k : ℕ) → lowest test n ≡ Some k → k < n
+unfolding lowest
+lowest-below test zero k is = cc
+lowest-below test (suc n) k is = go (lowest test n) (test n) (lowest-below test n k) is
+  where
+    go : (lower : Option ℕ) (passes : Bool) → (lower ≡ Some k → k < n) → option_or lower (cond passes (Some n) None) ≡ Some k → k < suc n
+    go (Some j) passes below is = omega (arith, below is)
+    go None true below is = let same : n ≡ k = cc in omega (arith, same)
+    go None false below is = cc
+
+pub lowest_missing-most : (had asked k : ℕ) → lowest_missing had asked ≡ Some k → k ≤ 63
+lowest_missing-most had asked k is = omega (arith, lowest-below (λ n. has asked n && not (has had n)) 64 k is)

@@ -1,5 +1,6 @@
 -- What the rows from the craft's on give, where those before don't hold.
-use Rattle.std.proofs.Common.{◌≡◌, ℕ, true, false, List, [], ◌∷◌, Option, None, Some, refl, sym, ap, ◌∙◌}
+use Rattle.std.proofs.Common.{◌≡◌, ℕ, Bool, true, false, if◌then◌else◌, List, [], ◌∷◌, Option, None, Some, refl, sym, ap, ◌∙◌}
+use Rattle.std.specs.Option.{option_map}
 use Rattle.std.specs.Str.{bytes_eq}
 use Rattle.std.proofs.lemmas.Slice.Eq.{bytes_eq-Decides}
 use Rattle.qualifications.specs.Quals.{lowest_missing}
@@ -62,3 +63,25 @@ first_bar-law facts p craft qualified answered =
     last : (row : Option Bar) → first_some (row ∷ []) ≡ row
     last None = refl
     last (Some found) = refl
+
+-- where no row holds, no tour runs and the law gives no bar
+both-none : (row : Option Bar) (rest : List (Option Bar)) → first_some (row ∷ rest) ≡ None → (row ≡ None) × (first_some rest ≡ None)
+both-none None rest none = (refl, none)
+both-none (Some b) rest none = cc
+
+busy-none : (facts : Facts) → busy_row facts ≡ None → facts.in_tour ≡ false
+busy-none facts none = go facts.in_tour none
+  where
+    go : (tour : Bool) → (if tour then Some bar.InTour else option_map (λ vacancy. bar.Assigned vacancy) facts.assigned) ≡ None → tour ≡ false
+    go true none = cc
+    go false none = refl
+
+pub first_bar-none : (facts : Facts) → first_bar facts ≡ None → (facts.in_tour ≡ false) × (facts.law ≡ None)
+first_bar-none facts none =
+    let busy = (both-none (marked_off_row facts) _ none).1 in
+    let offer = both-none (busy_row facts) _ busy in
+    let place = (both-none (on_offer_row facts) _ offer.1).1 in
+    let craft = (both-none (place_row facts) _ place).1 in
+    let quals = (both-none (craft_row facts) _ craft).1 in
+    let answered = (both-none (quals_row facts) _ quals).1 in
+    let law = (both-none (answered_row facts) _ answered).1 in (busy-none facts offer.0, (both-none (law_row facts) [] law).0)

@@ -2,6 +2,7 @@ pub mod ChainLemmas
 pub mod InsideLemmas
 pub mod SaidLemmas
 pub mod OrderLemmas
+pub mod PlanLemmas
 pub mod RankLemmas
 pub mod LegalLemmas
 pub mod BoundLemmas
@@ -9,6 +10,6 @@ pub mod RefusalLemmas
 pub mod OneOfferLemmas
 pub mod DutyLemmas
 pub mod ToldLemmas
-pub mod BarLemmas
 pub mod EnrolledLemmas
 pub mod DenialLemmas
+pub mod RestedLemmas

@@ -1,24 +1,30 @@
 -- Who is barred from a vacancy, and the first who isn't.
-use Rattle.std.specs.Prelude.{ℕ, Bool, false, Option, None, Some, is_none, List}
+use Rattle.std.specs.Prelude.{ℕ, Bool, false, Option, None, Some, is_none, if◌then◌else◌, List}
 use Rattle.std.specs.List.{find}
 use Rattle.denial_rules.specs.declared.bar.Bar.{Bar}
 use Rattle.denial_rules.specs.declared.facts.Facts.{Facts}
 use Rattle.denial_rules.specs.Table.{first_bar}
+use Rattle.law_bars.specs.Law.{law_bar}
 use Rattle.desk_model.specs.declared.person.Person.{Person}
 use Rattle.desk_model.specs.declared.link.Link.{Link}
 use Rattle.desk_model.specs.Entry.{EntryValue}
 use Rattle.desk_model.specs.Job.{JobValue}
 use Rattle.desk_model.specs.Register.{person_of}
 use Rattle.desk_model.specs.Boards.{chain}
-use Rattle.desk_model.specs.Duty.{in_tour, place_of}
+use Rattle.desk_model.specs.Duty.{events, in_tour, place_of}
 use Rattle.desk_model.specs.Offers.{on_offer}
 
 -- what an enrolled person can do: what they were enrolled with
 abbrev pub quals_of : List EntryValue → ℕ → Person → ℕ
 quals_of h p person = person.quals
 
--- what bears at a moment on whether an enrolled person may have the job. As yet nobody is marked off, assigned
--- or has answered, and no section of the law holds.
+-- the first section of the law that keeps an enrolled person from the job, for a call at a moment. It is asked only of
+-- who is in no tour: who is in one is barred by that before
+abbrev pub law_of : List EntryValue → ℕ → JobValue → ℕ → Person → Option Bar
+law_of h m job p person = if in_tour h p then None else law_bar (events h p) person.home m job.report job.duty job.limbo
+
+-- what bears at a moment on whether an enrolled person may have the job. As yet nobody is marked off, assigned or has
+-- answered.
 abbrev pub facts_of : List EntryValue → ℕ → JobValue → ℕ → Person → Facts
 facts_of h m job p person = record {
   marked_off = false;
@@ -32,7 +38,7 @@ facts_of h m job p person = record {
   quals_has = quals_of h p person;
   quals_asked = job.quals;
   answered = false;
-  law = None;
+  law = law_of h m job p person;
 }
 
 -- the first bar that keeps an enrolled person from the job at a moment

@@ -1,5 +1,5 @@
 -- The ranges of what is stated and of what is answered.
-use Rattle.std.specs.Prelude.{◌<◌, ◌≤◌, ◌^◌, ⊤, ℕ, Option, None, Some, List}
+use Rattle.std.specs.Prelude.{◌+◌, ◌<◌, ◌≤◌, ◌^◌, ⊤, ℕ, Option, None, Some, List}
 use Rattle.desk_base.specs.Number.{IsNumber}
 use Rattle.desk_base.specs.Code.{IsCode}
 use Rattle.desk_base.specs.Minute.{IsInYears}
@@ -12,8 +12,7 @@ use Rattle.duty_events.specs.declared.event_fault.EventFault.{EventFault}
 use Rattle.duty_events.specs.declared.event_fault.EventFault.TheVariants as fault
 use Rattle.duty_events.specs.Allowed.{first_minute, last_minute}
 use Rattle.duty_events.specs.Lists.{stage_of, latest}
-use Rattle.denial_rules.specs.declared.bar.Bar.{Bar}
-use Rattle.denial_rules.specs.declared.bar.Bar.TheVariants as bar
+use Rattle.denial_rules.specs.Bar.{HasItsValues}
 use Rattle.desk_model.specs.declared.command.Cmd.{Cmd}
 use Rattle.desk_model.specs.declared.command.Cmd.TheVariants as cmd
 use Rattle.desk_model.specs.declared.reply.Reply.{Reply}
@@ -70,6 +69,10 @@ TellsYears (cmd.Vacancy job) = ⊤
 TellsYears (cmd.Next vac) = ⊤
 TellsYears (cmd.Explain vac person) = ⊤
 
+-- the job ends before the year 2100
+abbrev pub EndsInYears : JobValue → Type 0
+EndsInYears job = job.report + job.duty + job.limbo ≤ 68_374_080
+
 -- a statement's minute, and those that its command tells, lie in these years
 pub record IsInItsYears (s : StatedValue) : Type 0 where
   pub minute : IsInYears s.minute
@@ -100,25 +103,6 @@ FaultHasItsMinute (fault.Behind last) = IsInYears last
 FaultHasItsMinute (fault.InterimTooLong minutes) = ⊤
 FaultHasItsMinute (fault.OtherPlace place) = ⊤
 
--- what a bar keeps can be written: the minute at which a rest ends isn't before the year 2000, and may lie behind 2099;
--- the month lies in the years 2000 to 2099; and a qualification has a number of 0 to 63
-abbrev pub BarHasItsValues : Bar → Type 0
-BarHasItsValues (bar.Rest ends) = 15_778_080 ≤ ends
-BarHasItsValues (bar.MoreRest ends) = 15_778_080 ≤ ends
-BarHasItsValues (bar.Undisturbed ends) = 15_778_080 ≤ ends
-BarHasItsValues (bar.MonthHours month total) = IsMonthInYears month
-BarHasItsValues (bar.LimboHours month total) = IsMonthInYears month
-BarHasItsValues (bar.Lacks number) = number ≤ 63
-BarHasItsValues bar.MarkedOff = ⊤
-BarHasItsValues bar.InTour = ⊤
-BarHasItsValues (bar.Assigned vacancy) = ⊤
-BarHasItsValues (bar.OnOffer vacancy) = ⊤
-BarHasItsValues (bar.Elsewhere place) = ⊤
-BarHasItsValues (bar.OtherCraft craft) = ⊤
-BarHasItsValues bar.Answered = ⊤
-BarHasItsValues (bar.SixDays run need) = ⊤
-BarHasItsValues (bar.SevenDays run need) = ⊤
-
 -- the minute of a reply can be written: it lies in the years 2000 to 2099, and that of `lapsed` may lie behind them; and
 -- so can what a bar keeps. All other values are in their ranges by their types.
 abbrev pub HasItsMinute : Reply → Type 0
@@ -126,7 +110,7 @@ HasItsMinute (reply.ReportPast report) = IsInYears report
 HasItsMinute (reply.Lapsed report) = 15_778_080 ≤ report
 HasItsMinute (reply.EventAhead moment) = IsInYears moment
 HasItsMinute (reply.Event f) = FaultHasItsMinute f
-HasItsMinute (reply.Denied bar) = BarHasItsValues bar
+HasItsMinute (reply.Denied bar) = HasItsValues bar
 HasItsMinute (reply.Hours used capped) = ⊤
 HasItsMinute reply.NotListed = ⊤
 HasItsMinute (reply.Clear board position) = ⊤

@@ -12,6 +12,7 @@ ghost use Rattle.desk_model.specs.Refusal.{changes, IsSameDesk};
 ghost use Rattle.std.specs.List.{All};
 ghost use Rattle.desk_model.specs.Fits.{IsStated};
 ghost use Rattle.desk_model.specs.History.{said, all_of};
+ghost use Rattle.law_bars.specs.Law.{WasOffTenHours};
 ghost use Rattle.desk_model.specs.Duty.{tells, events};
 ghost use Rattle.desk_model.specs.NextAnswer.{next_answer};
 ghost use Rattle.desk_model.specs.Denials.{IsOpen, AreBarred, IsUnfilled, IsFirstClear};
@@ -58,4 +59,13 @@ pub fn unfilled_where_all_are_barred()
         → (m v : ℕ) (job : JobValue) → vacancy_of h v ≡ Some job
         → (p k : ℕ) (b : List ℕ) → next_answer h m v ≡ reply.Offered p b k
         → IsFirstClear h m job (record { board = b; position = k; person = p }) }
+{}
+
+/// In a legal history, whom the desk offers a vacancy is off in each of the ten hours before its report, 49 USC
+/// 21103(a)(3). It does nothing: its clause is the law.
+pub fn an_offer_follows_ten_hours_off()
+    ensures { (o : OpeningValue) (h : List EntryValue) → IsLegal o h
+        → (m v : ℕ) (job : JobValue) → vacancy_of h v ≡ Some job
+        → (p k : ℕ) (b : List ℕ) → next_answer h m v ≡ reply.Offered p b k
+        → WasOffTenHours (events h p) job.report }
 {}

@@ -3,7 +3,7 @@ ghost use Rattle.std.specs.Prelude.{◌≡◌, ◌≤◌, ◌+◌, ◌∷◌, �
 ghost use Rattle.arrayvec.specs.ArrayVec.{array_vec_len};
 ghost use Rattle.desk_base.specs.Month.{IsMonthInYears, month_text};
 ghost use Rattle.desk_model.specs.BarTexts.{late_text, kept_text, bar_text};
-ghost use Rattle.desk_model.specs.Fits.{BarHasItsValues};
+ghost use Rattle.denial_rules.specs.Bar.{HasItsValues};
 
 use crate::line_text::{LineText, put, put_number};
 use denial_rules::{Bar, name};
@@ -11,7 +11,7 @@ use desk_base::{Minute, Month};
 
 /// Adds the text of a bar, 40 bytes at most.
 pub fn put_bar(line: &mut LineText, bar: &Bar)
-    requires form { BarHasItsValues bar.now }
+    requires form { HasItsValues bar.now }
     requires room { array_vec_len line.old + 40 ≤ 512 }
     ensures text { line.new.items ≡ line.old.items ++ bar_text bar.now }
     ensures len { array_vec_len line.new ≤ array_vec_len line.old + 40 }
@@ -22,7 +22,7 @@ pub fn put_bar(line: &mut LineText, bar: &Bar)
 
 // What the bar keeps, behind a space.
 fn put_kept(line: &mut LineText, bar: &Bar)
-    requires form { BarHasItsValues bar.now }
+    requires form { HasItsValues bar.now }
     requires room { array_vec_len line.old + 22 ≤ 512 }
     ensures text { line.new.items ≡ line.old.items ++ kept_text bar.now }
     ensures len { array_vec_len line.new ≤ array_vec_len line.old + 22 }

@@ -1,7 +1,8 @@
 //! Lines of entries, as the journal has them.
 ghost use Rattle.std.specs.Prelude.{◌≡◌, ◌≤◌, IfOk};
 ghost use Rattle.desk_base.specs.Minute.{IsInYears};
-ghost use Rattle.desk_model.specs.Fits.{BarHasItsValues, HasItsMinute};
+ghost use Rattle.denial_rules.specs.Bar.{HasItsValues};
+ghost use Rattle.desk_model.specs.Fits.{HasItsMinute};
 
 use crate::write_entry;
 use denial_rules::Bar;
@@ -165,7 +166,7 @@ fn lines_of_refused_events(rt: HostRuntime) -> Result<(), Fail> {
 
 // Whether the line of an entry that is answered by this bar ends so.
 fn denial_is(bar: Bar, text: &[u8]) -> Result<bool, Fail>
-    requires { BarHasItsValues bar }
+    requires { HasItsValues bar }
 {
     let stated = Stated::new(minute(b"2024-03-04 00:01")?, next()?).ok_or("not stated")?;
     let moment = minute(b"2024-03-04 00:02")?;

@@ -9,10 +9,15 @@ use Rattle.desk_model.specs.Entry.{EntryValue, entry_of}
 use Rattle.desk_model.specs.Legal.{moment, answer, next, IsLegal}
 use Rattle.desk_model.proofs.LegalLemmas.{legal-next}
 use Rattle.desk_model.proofs.BoundLemmas.{length-order}
-use Rattle.plain_core.specs.Fits.{BoardsFit}
+use Rattle.desk_model.proofs.PlanLemmas.{ends-in_years}
+use Rattle.desk_base.specs.Window.{IsWindow}
+use Rattle.plain_core.specs.Fits.{BoardsFit, PlansFit}
 
 pub fits-legal : (o : OpeningValue) (h : List EntryValue) → ∥ IsLegal o h ∥₁ → BoardsFit h
 fits-legal o h legal b = ∥∥₁_elim legal le_prop (λ is. length-order o h b is)
+
+pub plans-legal : (o : OpeningValue) (h : List EntryValue) → IsWindow o.window → ∥ IsLegal o h ∥₁ → PlansFit h
+plans-legal o h window legal v job made = ∥∥₁_elim legal le_prop (λ is. ends-in_years o h window is v job made)
 
 pub known-next : (o : OpeningValue) (h : List EntryValue) (caller : ℕ) (s : StatedValue) → ∥ IsLegal o h ∥₁ → ∥ IsLegal o (h ++ next o h caller s ∷ []) ∥₁
 known-next o h caller s legal = ∥∥₁_elim legal squash₁ (λ is. ∣ legal-next o h caller s is ∣₁)

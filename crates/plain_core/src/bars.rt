@@ -1,17 +1,23 @@
-ghost use Rattle.std.specs.Prelude.{◌≡◌, ◌≤◌, length, vec_capacity};
+ghost use Rattle.std.specs.Prelude.{◌≡◌, ◌≤◌, IfSome, None, not, if◌then◌else◌, length, vec_capacity};
 ghost use Rattle.std.specs.List.{find};
+ghost use Rattle.duty_events.specs.Lists.{IsLawful, stage_of};
+ghost use Rattle.duty_events.specs.MinuteKind.{is_off};
+ghost use Rattle.denial_rules.specs.Bar.{HasItsValues};
+ghost use Rattle.law_bars.specs.Law.{law_bar};
+ghost use Rattle.desk_model.specs.Fits.{EndsInYears};
 ghost use Rattle.desk_model.specs.Boards.{links, order};
 ghost use Rattle.desk_model.specs.Bars.{quals_of, facts_of, bar_of, is_free, first_free};
 ghost use Rattle.plain_core.specs.Fits.{BoardsFit};
 
 use crate::boards::standing_at;
-use crate::duty::{gather, stage_of};
+use crate::duty::gather;
 use crate::offers::on_offer;
 use crate::register::person_of;
 use denial_rules::{Bar, Facts, first_bar};
 use desk_base::{Code, Minute, PersonNo};
 use desk_model::{Entry, Job, Link, Person};
-use duty_events::{Event, Stage, place};
+use duty_events::{Event, Stage, place, stage_of};
+use law_bars::law_bar;
 use qualifications::Quals;
 
 // What an enrolled person can do: what they were enrolled with.
@@ -19,6 +25,22 @@ fn quals_of(_entries: &[Entry], _number: PersonNo, person: &Person) -> Quals
     ensures { result ≡ quals_of _entries.now _number person.now }
 {
     person.quals
+}
+
+// The first section of the law that keeps an enrolled person from the job, for a call at a moment. It is asked only of who
+// is in no tour.
+fn law_of(events: &[Event], moment: Minute, job: &Job, person: &Person) -> Option<Bar>
+    requires { IsLawful events.now }
+    ensures value { result ≡ (if not (is_off (stage_of events.now)) then None
+        else law_bar events.now person.now.home moment job.now.report job.now.duty job.now.limbo) }
+    ensures range { EndsInYears job.now → IfSome result HasItsValues }
+{
+    if stage_of(events) != Stage::Off {
+        return None;
+    }
+    let duty = u32::from(job.duty());
+    let limbo = u32::from(job.limbo());
+    law_bar(events, person.home, moment, job.report(), duty, limbo)
 }
 
 // What bears at a moment on whether an enrolled person may have the job.
@@ -32,6 +54,7 @@ fn facts_of(
 ) -> Facts
     requires { length entries.now ≤ vec_capacity events.old }
     ensures facts { result ≡ facts_of entries.now moment job.now number person.now }
+    ensures range { EndsInYears job.now → IfSome result.law HasItsValues }
     ensures room { vec_capacity events.new ≡ vec_capacity events.old }
 {
     gather(entries, number, events);
@@ -47,7 +70,7 @@ fn facts_of(
         quals_has: quals_of(entries, number, person),
         quals_asked: job.quals(),
         answered: false,
-        law: None,
+        law: law_of(events, moment, job, person),
     }
 }
 
@@ -62,6 +85,7 @@ pub(crate) fn bar_of(
 ) -> Option<Bar>
     requires { length entries.now ≤ vec_capacity events.old }
     ensures bar { result ≡ bar_of entries.now moment job.now number person.now }
+    ensures range { EndsInYears job.now → IfSome result HasItsValues }
     ensures room { vec_capacity events.new ≡ vec_capacity events.old }
 {
     let facts = facts_of(entries, events, moment, job, number, person);

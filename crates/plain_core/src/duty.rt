@@ -1,5 +1,5 @@
 ghost use Rattle.std.specs.Prelude.{◌≡◌, ◌≤◌, nat_eq, length, vec_capacity, is_some, Some, None, if◌then◌else◌};
-ghost use Rattle.duty_events.specs.Lists.{stage_of, latest};
+ghost use Rattle.duty_events.specs.Lists.{latest};
 ghost use Rattle.desk_model.specs.History.{said};
 ghost use Rattle.desk_model.specs.Duty.{tells, may_follow, events, closes, is_closed};
 
@@ -67,17 +67,6 @@ pub(crate) fn gather(entries: &[Entry], person: PersonNo, list: &mut Vec<Event>)
         stage = stage.after(&event);
         last = Some(event.last_minute());
     }
-}
-
-/// The stage that a list of events ends in.
-pub(crate) fn stage_of(events: &[Event]) -> Stage
-    ensures { result ≡ stage_of events.now }
-{
-    let mut stage = Stage::Off;
-    for event in events {
-        stage = stage.after(event);
-    }
-    stage
 }
 
 /// The latest minute of a list of events.

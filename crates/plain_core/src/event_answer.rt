@@ -3,12 +3,12 @@ ghost use Rattle.desk_base.specs.Minute.{IsInYears};
 ghost use Rattle.desk_model.specs.EventAnswer.{told_answer, past_answer, event_answer};
 ghost use Rattle.desk_model.specs.Fits.{HasItsMinute, HaveTheirMinutes};
 
-use crate::duty::{gather, is_closed, latest, stage_of};
+use crate::duty::{gather, is_closed, latest};
 use crate::offers::on_offer;
 use crate::register::person_of;
 use desk_base::{Minute, PersonNo};
 use desk_model::{Entry, Opening, Reply};
-use duty_events::{Event, allowed};
+use duty_events::{Event, allowed, stage_of};
 
 // What an event gives at a moment, after a person's events.
 fn told_answer(opening: &Opening, events: &[Event], moment: Minute, event: &Event) -> Reply

@@ -2,8 +2,9 @@ ghost use Rattle.std.specs.Prelude.{◌≡◌, ◌≤◌, IfSome, Some, length, 
 ghost use Rattle.desk_model.specs.Register.{person_of, vacancy_of};
 ghost use Rattle.desk_model.specs.Boards.{links, order, chain};
 ghost use Rattle.desk_model.specs.ExplainAnswer.{place_in, clear_answer, person_answer, explain_answer};
-ghost use Rattle.desk_model.specs.Fits.{BarHasItsValues, HasItsMinute};
-ghost use Rattle.plain_core.specs.Fits.{BoardsFit};
+ghost use Rattle.denial_rules.specs.Bar.{HasItsValues};
+ghost use Rattle.desk_model.specs.Fits.{EndsInYears, HasItsMinute};
+ghost use Rattle.plain_core.specs.Fits.{BoardsFit, PlansFit};
 
 use crate::bars::bar_of;
 use crate::boards::standing_at;
@@ -50,7 +51,7 @@ fn place_in(entries: &[Entry], codes: &[Code], person: PersonNo) -> Option<Link>
 
 // What the first bar gives at this place.
 fn clear_answer(bar: Option<Bar>, link: &Link) -> Reply
-    requires { IfSome bar BarHasItsValues }
+    requires { IfSome bar HasItsValues }
     ensures value { result ≡ clear_answer bar link.now }
     ensures range { HasItsMinute result }
 {
@@ -72,6 +73,7 @@ fn person_answer(
     number: PersonNo,
 ) -> Reply
     requires fits { BoardsFit entries.now }
+    requires ends { EndsInYears job.now }
     requires room { length entries.now ≤ vec_capacity events.old }
     ensures value { result ≡ person_answer entries.now moment job.now number (person_of entries.now number) }
     ensures range { HasItsMinute result }
@@ -100,6 +102,7 @@ pub(crate) fn explain_answer(
     person: PersonNo,
 ) -> Reply
     requires fits { BoardsFit entries.now }
+    requires plans { PlansFit entries.now }
     requires room { length entries.now ≤ vec_capacity events.old }
     ensures value { result ≡ explain_answer entries.now moment vac person }
     ensures range { HasItsMinute result }

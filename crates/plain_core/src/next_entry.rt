@@ -1,8 +1,9 @@
 ghost use Rattle.std.specs.Prelude.{◌≡◌, ◌≤◌, length, vec_capacity};
 ghost use Rattle.desk_base.specs.Minute.{IsInYears};
+ghost use Rattle.desk_base.specs.Window.{IsWindow};
 ghost use Rattle.desk_model.specs.Legal.{answer_to, answer, next};
 ghost use Rattle.desk_model.specs.Fits.{HasItsMinute};
-ghost use Rattle.plain_core.specs.Fits.{BoardsFit};
+ghost use Rattle.plain_core.specs.Fits.{BoardsFit, PlansFit};
 
 use crate::answers::{board_answer, enrol_answer, list_answer, vacancy_answer};
 use crate::event_answer::{event_answer, past_answer};
@@ -23,6 +24,7 @@ fn answer_to(
     cmd: &Cmd,
 ) -> Reply
     requires fits { BoardsFit entries.now }
+    requires plans { PlansFit entries.now }
     requires room { length entries.now ≤ vec_capacity events.old }
     requires moment { IsInYears moment }
     ensures value { result ≡ answer_to opening.now entries.now moment cmd.now }
@@ -49,6 +51,7 @@ fn answer_to(
 // The answer to what is stated; a minute outside the window is named before all else.
 fn answer(opening: &Opening, entries: &[Entry], events: &mut Vec<Event>, stated: &Stated) -> Reply
     requires fits { BoardsFit entries.now }
+    requires plans { IsWindow opening.now.window → PlansFit entries.now }
     requires room { length entries.now ≤ vec_capacity events.old }
     ensures value { result ≡ answer opening.now entries.now stated.now }
     ensures range { HasItsMinute result }
@@ -71,6 +74,7 @@ pub(crate) fn next_entry(
 ) -> Entry
     requires caller { caller ≤ 63 }
     requires fits { BoardsFit entries.now }
+    requires plans { IsWindow opening.now.window → PlansFit entries.now }
     requires room { length entries.now ≤ vec_capacity events.old }
     ensures entry { result ≡ next opening.now entries.now caller stated }
     ensures room { vec_capacity events.new ≡ vec_capacity events.old }

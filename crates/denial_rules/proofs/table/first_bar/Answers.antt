@@ -1,6 +1,6 @@
 use Rattle.std.proofs.Common.{rules, sym, ◌∙◌}
 use Rattle.denial_rules.proofs.EqualityLemmas.{same_code, same_craft, other_craft}
-use Rattle.denial_rules.proofs.MissingLemmas.{lowest_missing-none}
+use Rattle.denial_rules.proofs.MissingLemmas.{lowest_missing-none, lowest_missing-most}
 use Rattle.denial_rules.proofs.TableLemmas.{PassesPlace, first_bar-craft, first_bar-lacks, first_bar-answered, first_bar-law}
 use Rattle.denial_rules.proofs.table.first_bar.Goals as goal
 
@@ -26,6 +26,10 @@ returns-in-Some-lowest_missing-clause-first c =
     } in
     let craft = same_craft _ _ _ c.ne-else-ne.ensures c.if-ne-2.false in
     first_bar-lacks c.args.facts.now passed craft _ (sym c.lowest_missing.ensures ∙ c.in-Some-lowest_missing.is)
+
+pub returns-in-Some-lowest_missing-clause-range : goal.returns-in-Some-lowest_missing-clause-range
+returns-in-Some-lowest_missing-clause-range c law =
+    lowest_missing-most c.args.facts.now.quals_has c.args.facts.now.quals_asked _ (sym c.lowest_missing.ensures ∙ c.in-Some-lowest_missing.is)
 
 pub returns-in-Some-lowest_missing-clause-free : goal.returns-in-Some-lowest_missing-clause-free
 returns-in-Some-lowest_missing-clause-free c = (

@@ -1,13 +1,17 @@
 use Rattle.std.proofs.Common.{[], ◌∷◌, ◌++◌, sym, ap, subst, ◌∙◌}
 use Rattle.desk_model.specs.Legal.{next, IsLegal}
 use Rattle.desk_model.proofs.LegalLemmas.{legal-next}
-use Rattle.plain_core.specs.Fits.{BoardsFit}
-use Rattle.plain_core.proofs.StepLemmas.{fits-legal, known-next}
+use Rattle.plain_core.specs.Fits.{BoardsFit, PlansFit}
+use Rattle.plain_core.proofs.StepLemmas.{fits-legal, plans-legal, known-next}
 use Rattle.plain_core.proofs.plain_core.PlainCoreDeskCore.step.Goals as goal
 
 pub next_entry-entry-requires-clause-fits : goal.next_entry-entry-requires-clause-fits
 next_entry-entry-requires-clause-fits c =
     subst BoardsFit (sym c.deref.ensures.value) (fits-legal c.args.self.now.opening c.args.self.now.entries.items c.args.self.now.legal)
+
+pub next_entry-entry-requires-clause-plans : goal.next_entry-entry-requires-clause-plans
+next_entry-entry-requires-clause-plans c window =
+    subst PlansFit (sym c.deref.ensures.value) (plans-legal c.args.self.now.opening c.args.self.now.entries.items window c.args.self.now.legal)
 
 pub invariant_of-self-clause-legal : goal.invariant_of-self-clause-legal
 invariant_of-self-clause-legal c =
