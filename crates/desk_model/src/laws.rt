@@ -48,9 +48,9 @@ pub fn no_event_is_left_out()
         → (p : ℕ) → events h p ≡ all_of (said (tells p)) h }
 {}
 
-/// In a legal history a vacancy that is open is unfilled exactly where each of its chain is enrolled and has a bar; and
-/// where a vacancy is offered, the person to whom it is offered has none, and all who stand before them in the chain
-/// are barred. It does nothing: its clauses are the law.
+/// In a legal history a vacancy that is vacant, at a moment not after its report, is unfilled exactly where each who
+/// stands in its chain is enrolled and has a bar; and where a vacancy is offered, the person to whom it is offered has
+/// none, and all who stand before them in the chain are barred. It does nothing: its clauses are the law.
 pub fn unfilled_where_all_are_barred()
     ensures unfilled { (o : OpeningValue) (h : List EntryValue) → IsLegal o h
         → (m v : ℕ) (job : JobValue) → IsOpen h m v job
