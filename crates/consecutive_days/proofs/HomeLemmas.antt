@@ -8,12 +8,12 @@ use Rattle.duty_events.specs.declared.event.Event.TheVariants as event
 use Rattle.duty_events.specs.declared.stage.Stage.{Stage}
 use Rattle.duty_events.specs.declared.stage.Stage.TheVariants as stage
 use Rattle.duty_events.specs.Allowed.{first_minute, last_minute, judge}
-use Rattle.duty_events.specs.Lists.{IsLawful, stage_after, stage_of, last_event, latest}
+use Rattle.duty_events.specs.Lists.{IsLawful, stage_after, stage_of, last_event, latest, reached}
 use Rattle.duty_events.specs.MinuteKind.{kind_of, is_off_duty}
 use Rattle.duty_events.specs.Between.{kind_until, kind_behind}
 use Rattle.duty_events.specs.Places.{end_by, place_of, place_by}
 use Rattle.duty_events.proofs.ListLemmas.{take-push, lawful-take, lawful-here, stage_of-next, last_event-next}
-use Rattle.duty_events.proofs.EventLemmas.{reached, follows-reached, kind_of-stays, kind_of-until, kind_of-within, kind_of-behind}
+use Rattle.duty_events.proofs.EventLemmas.{follows-reached, kind_of-stays, kind_of-until, kind_of-within, kind_of-behind}
 use Rattle.duty_events.proofs.PlaceLemmas.{place_of-next}
 use Rattle.stretches.specs.Stretch.{has_stretch}
 use Rattle.stretches.specs.Gauge.{GaugeValue, Tells}

@@ -15,10 +15,10 @@ use Rattle.duty_events.specs.declared.event.Event.TheVariants as event
 use Rattle.duty_events.specs.declared.stage.Stage.{Stage}
 use Rattle.duty_events.specs.Allowed.{first_minute, last_minute}
 use Rattle.duty_events.specs.Between.{begins}
-use Rattle.duty_events.specs.Lists.{IsNext, IsLawful, stage_of, last_event}
+use Rattle.duty_events.specs.Lists.{IsNext, IsLawful, stage_of, last_event, reached}
 use Rattle.duty_events.specs.MinuteKind.{mark_of, ToRiding, ToDuty, marks, marks_of, is_off}
 use Rattle.duty_events.proofs.ListLemmas.{take-push, last_event-push, lawful-here}
-use Rattle.duty_events.proofs.EventLemmas.{reached, follows-reached, marks-push}
+use Rattle.duty_events.proofs.EventLemmas.{follows-reached, marks-push}
 use Rattle.consecutive_days.specs.Run.{starts, starts_on, last_start, run_before, run_from, run_days, IsRunTo, IsRun}
 use Rattle.consecutive_days.specs.Steps.{last_day, start_day, next_run}
 

@@ -12,8 +12,7 @@ use Rattle.duty_events.specs.declared.stage.Stage.{Stage}
 use Rattle.duty_events.specs.declared.stage.Stage.TheVariants as stage
 use Rattle.duty_events.specs.declared.minute_kind.MinuteKind.TheVariants as minute
 use Rattle.duty_events.specs.Allowed.{first_minute, last_minute, refuse, follow}
-pub use Rattle.duty_events.specs.Lists.{reached}
-use Rattle.duty_events.specs.Lists.{Follows, IsNext, IsLawful, stage_after, stage_of, last_event}
+use Rattle.duty_events.specs.Lists.{Follows, IsNext, IsLawful, stage_after, stage_of, last_event, reached}
 use Rattle.duty_events.specs.MinuteKind.{Mark, mark_of, ToOther, ToOff, marks_of, marks_from, marks, counted, unended, kind_of}
 use Rattle.duty_events.specs.Between.{first_leads, last_leads, between, kind_until, kind_behind, begins}
 use Rattle.duty_events.proofs.MarkLemmas.{kind_by, AreBy, kind_by-early, kind_by-between, kind_by-first, kind_by-late, are_by-push, are_by-later, are_by-append}

@@ -14,11 +14,11 @@ use Rattle.duty_events.specs.declared.stage.Stage.TheVariants as stage
 use Rattle.duty_events.specs.declared.minute_kind.MinuteKind.{MinuteKind}
 use Rattle.duty_events.specs.declared.minute_kind.MinuteKind.TheVariants as minute
 use Rattle.duty_events.specs.Allowed.{judge}
-use Rattle.duty_events.specs.Lists.{IsLawful, stage_after, stage_of, last_event, latest}
+use Rattle.duty_events.specs.Lists.{IsLawful, stage_after, stage_of, last_event, latest, reached}
 use Rattle.duty_events.specs.MinuteKind.{Leads, ToOff, ToOther, ToRiding, ToDuty, ToResumed, ToInterim, ToWaiting, ToRidingHome, Mark, marks, mark_before, mark_after, resumed, interim, counted, kind_between, kind_of, is_worked, is_off_duty}
 use Rattle.duty_events.specs.Between.{kind_behind}
 use Rattle.duty_events.proofs.ListLemmas.{lawful-here, stage_of-next, last_event-next}
-use Rattle.duty_events.proofs.EventLemmas.{reached, shape_of, Shape, last_mark, kind_of-behind}
+use Rattle.duty_events.proofs.EventLemmas.{shape_of, Shape, last_mark, kind_of-behind}
 
 -- it is off if it isn't worked
 abbrev pub IsSettled : MinuteKind → Type 0

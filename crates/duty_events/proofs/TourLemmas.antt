@@ -7,7 +7,7 @@ use Rattle.duty_events.specs.declared.event.Event.{Event}
 use Rattle.duty_events.specs.declared.event.Event.TheVariants as event
 use Rattle.duty_events.specs.declared.stage.Stage.{Stage}
 use Rattle.duty_events.specs.Allowed.{first_minute, last_minute}
-use Rattle.duty_events.specs.Lists.{IsNext, IsLawful, stage_of, last_event}
+use Rattle.duty_events.specs.Lists.{IsNext, IsLawful, stage_of, last_event, reached}
 use Rattle.duty_events.specs.MinuteKind.{Mark, mark_of, ToOther, ToOff, marks_of, marks, kind_of}
 use Rattle.duty_events.specs.Between.{between, begins, minutes_between}
 use Rattle.duty_events.specs.Minutes.{minutes_where, shared}
@@ -15,7 +15,7 @@ use Rattle.duty_events.specs.Tours.{is_in_tour, tour_mark, start_at, tour_start,
 use Rattle.duty_events.proofs.CountLemmas.{minutes_where-none, minutes_where-same, minutes_where-never, minutes_where-add, minutes_where-most}
 use Rattle.duty_events.proofs.MarkLemmas.{AreBy, are_by-push}
 use Rattle.duty_events.proofs.ListLemmas.{last_event-push}
-use Rattle.duty_events.proofs.EventLemmas.{reached, last_mark, shape-by, shape_of, follows-reached, marks-push, kind_of-stays}
+use Rattle.duty_events.proofs.EventLemmas.{last_mark, shape-by, shape_of, follows-reached, marks-push, kind_of-stays}
 use Rattle.duty_events.proofs.PointLemmas.{asks-late, count-push}
 
 are_by-reverse : (t : ℕ) (ms : List Mark) → AreBy t ms → AreBy t (reverse ms)

@@ -32,3 +32,5 @@ pub use tour::Tour;
 
 #[cfg(test)]
 mod tests;
+#[cfg(test)]
+mod tour_tests;

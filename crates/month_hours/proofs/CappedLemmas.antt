@@ -6,14 +6,14 @@ use Rattle.duty_events.specs.declared.event.Event.{Event}
 use Rattle.duty_events.specs.declared.minute_kind.MinuteKind.{MinuteKind}
 use Rattle.duty_events.specs.declared.minute_kind.MinuteKind.TheVariants as minute
 use Rattle.duty_events.specs.Allowed.{first_minute, last_minute}
-use Rattle.duty_events.specs.Lists.{IsNext, IsLawful, stage_of, last_event}
+use Rattle.duty_events.specs.Lists.{IsNext, IsLawful, stage_of, last_event, reached}
 use Rattle.duty_events.specs.MinuteKind.{kind_of}
 use Rattle.duty_events.specs.Between.{between}
 use Rattle.duty_events.specs.Minutes.{minutes_where, is_within}
 use Rattle.duty_events.specs.Tours.{is_in_tour, tour_minutes}
 use Rattle.duty_events.proofs.CountLemmas.{is_within-before, is_within-in, is_within-behind, minutes_where-or, minutes_where-never, minutes_where-within_if, minutes_where-most}
 use Rattle.duty_events.proofs.ListLemmas.{take-push, last_event-next, lawful-take, lawful-here}
-use Rattle.duty_events.proofs.EventLemmas.{reached, follows-reached, kind_of-stays, kind_of-between, kind_of-first}
+use Rattle.duty_events.proofs.EventLemmas.{follows-reached, kind_of-stays, kind_of-between, kind_of-first}
 use Rattle.duty_events.proofs.PointLemmas.{asks-late, asks-behind}
 use Rattle.duty_events.proofs.TourLemmas.{tour_sum, tour_sum-push, tour_sum-most, tour_minutes-early, tour_minutes-middle, more_until}
 use Rattle.month_hours.specs.Capped.{is_limbo, is_capped, capped_minutes}

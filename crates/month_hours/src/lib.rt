@@ -7,7 +7,6 @@ mod limit;
 mod over;
 mod passed;
 mod plan;
-mod stretch;
 mod work;
 
 pub use limbo::capped;

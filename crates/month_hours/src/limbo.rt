@@ -5,9 +5,8 @@ ghost use Rattle.month_hours.specs.Capped.{capped};
 ghost use Rattle.month_hours.specs.Steps.{capped_between, sum_after};
 ghost use Rattle.desk_base.specs.Month.{minutes_of};
 
-use crate::stretch::shared;
 use desk_base::Month;
-use duty_events::{Event, MinuteKind, Stage, between};
+use duty_events::{Event, MinuteKind, Stage, between, shared};
 
 /// How many limbo minutes of the month, of a lawful list of events, have at least 720 on-duty and limbo minutes of their
 /// tour before them, 49 USC 21103(c)(1).

@@ -2,8 +2,8 @@ ghost use Rattle.std.specs.Prelude.{◌≡◌, ◌+◌, ◌<◌, ◌≤◌, ◌^
 ghost use Rattle.desk_base.specs.Month.{minutes_of};
 ghost use Rattle.month_hours.specs.Plan.{end_of, planned, planned_capped};
 
-use crate::stretch::shared;
 use desk_base::{Minute, Month};
+use duty_events::shared;
 
 // So many minutes on duty from a report on, and behind them so many of limbo.
 #[derive(Clone, Copy)]

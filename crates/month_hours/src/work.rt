@@ -6,9 +6,8 @@ ghost use Rattle.month_hours.specs.Used.{used};
 ghost use Rattle.month_hours.specs.Steps.{own_minutes};
 ghost use Rattle.desk_base.specs.Month.{minutes_of};
 
-use crate::stretch::shared;
 use desk_base::Month;
-use duty_events::{Event, between};
+use duty_events::{Event, between, shared};
 
 /// How many minutes of the month are worked by a lawful list of events: on duty, limbo or other service,
 /// 49 USC 21103(a)(1).

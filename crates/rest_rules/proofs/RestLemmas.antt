@@ -85,6 +85,7 @@ rest_end-some es at more not = go (was_off es (600 + excess es) (off_from es)) r
   where
     some : 0 < off_from es
     some = off_from-some es at more not
+
     go : (b : Bool) → was_off es (600 + excess es) (off_from es) ≡ b → 0 < rest_end es
     go true is = omega (arith, end-taken es some is)
     go false is = omega (arith, end-owed es some is)

@@ -1,7 +1,6 @@
 use Rattle.std.proofs.Common.{◌≡◌, ℕ, ◌≤◌, min, take}
-use Rattle.duty_events.specs.Lists.{stage_of, last_event}
+use Rattle.duty_events.specs.Lists.{stage_of, last_event, reached}
 use Rattle.duty_events.specs.Places.{place_of}
-use Rattle.duty_events.proofs.EventLemmas.{reached}
 use Rattle.stretches.specs.Gauge.{Tells}
 use Rattle.consecutive_days.specs.Days.{is_off_at_home}
 use Rattle.consecutive_days.proofs.HomeLemmas.{IsSince}

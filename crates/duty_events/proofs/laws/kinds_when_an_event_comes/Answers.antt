@@ -1,5 +1,6 @@
 use Rattle.std.proofs.Common.{◌<◌, sym, subst}
-use Rattle.duty_events.proofs.EventLemmas.{reached, kind_of-stays, kind_of-between, kind_of-first, kind_of-within, kind_of-late}
+use Rattle.duty_events.specs.Lists.{reached}
+use Rattle.duty_events.proofs.EventLemmas.{kind_of-stays, kind_of-between, kind_of-first, kind_of-within, kind_of-late}
 use Rattle.duty_events.proofs.laws.kinds_when_an_event_comes.Goals as goal
 
 pub returns-clause-stay : goal.returns-clause-stay
