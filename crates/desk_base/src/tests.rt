@@ -27,6 +27,16 @@ fn minutes_of_known_dates(rt: HostRuntime) -> Result<(), Fail> {
 }
 
 #[test]
+fn minutes_after_a_minute(rt: HostRuntime) {
+    assert_eq!(rt; Some(Minute::FIRST), Minute::new(0));
+    assert_eq!(rt; Some(Minute::FIRST.after(600)), Minute::new(600));
+    assert_eq!(rt;
+        Some(Minute::FIRST.after(600).after(15_777_480)),
+        Minute::read(b"2000-01-01 00:00")
+    );
+}
+
+#[test]
 fn texts_that_are_no_minutes(rt: HostRuntime) {
     let wrong: [&[u8]; 17] = [
         b"",
