@@ -1,8 +1,7 @@
 -- Off and at home, one event more.
-use Rattle.std.proofs.Common.{◌≡◌, ℕ, ◌+◌, ◌<◌, ◌≤◌, Bool, false, ◌&&◌, nat_le, if◌then◌else◌, Option, IsOk, List, take, length, get_or, refl, subst, ap, ◌∙◌, arith}
+use Rattle.std.proofs.Common.{◌≡◌, ℕ, ◌+◌, ◌<◌, ◌≤◌, false, ◌&&◌, nat_le, if◌then◌else◌, Option, IsOk, List, take, length, get_or, refl, subst, ap, ◌∙◌, arith}
 use Rattle.std.specs.Str.{bytes_eq}
 use Rattle.std.proofs.lemmas.Bool.{false≢true, le-leb, lt-leb}
-use Rattle.std.proofs.lemmas.Bool.Decides.{same_from_decides}
 use Rattle.duty_events.specs.declared.event.Event.{Event}
 use Rattle.duty_events.specs.declared.event.Event.TheVariants as event
 use Rattle.duty_events.specs.declared.stage.Stage.{Stage}
@@ -15,9 +14,6 @@ use Rattle.duty_events.specs.Places.{end_by, place_of, place_by}
 use Rattle.duty_events.proofs.ListLemmas.{take-push, lawful-take, lawful-here, stage_of-next, last_event-next}
 use Rattle.duty_events.proofs.EventLemmas.{follows-reached, kind_of-stays, kind_of-until, kind_of-within, kind_of-behind}
 use Rattle.duty_events.proofs.PlaceLemmas.{place_of-next}
-use Rattle.stretches.specs.Stretch.{has_stretch}
-use Rattle.stretches.specs.Gauge.{GaugeValue, Tells}
-use Rattle.stretches.proofs.StretchLemmas.{has_stretch-decides}
 use Rattle.consecutive_days.specs.Days.{is_off_at_home}
 use Rattle.consecutive_days.specs.Steps.{place_until, place_behind}
 
@@ -131,9 +127,3 @@ pub at_home-behind : (es : List Event) (home place : List ℕ) → IsLawful es �
     → is_off_at_home es home t ≡ (is_off_duty (kind_behind (last_event es)) && bytes_eq place home)
 unfolding is_off_at_home
 at_home-behind es home place lawful at t late = rw (kind_of-behind es lawful t late, at t late) refl
-
--- the longest stretch of a gauge that has looked at all minutes before one
-pub longest-stretch : (asked : ℕ → Bool) (from to : ℕ) (g : GaugeValue) (many : ℕ) → Tells asked from g → g.until ≡ to → 0 < many → nat_le many g.longest ≡ has_stretch asked many from to
-longest-stretch asked from to g many tells until some =
-    subst (λ u. nat_le many g.longest ≡ has_stretch asked many from u) until
-    (same_from_decides (nat_le many g.longest) (has_stretch asked many from g.until) (tells.longest many some) (has_stretch-decides asked many from g.until some))

@@ -1,6 +1,6 @@
 ghost use Rattle.std.specs.Prelude.{◌≡◌, ℕ, ◌<◌, ◌≤◌, ◌⊎◌, nat_le};
 ghost use Rattle.std.specs.Bool.{Decides};
-ghost use Rattle.stretches.specs.Stretch.{Stretch};
+ghost use Rattle.stretches.specs.Stretch.{has_stretch};
 ghost use Rattle.duty_events.specs.declared.stage.Stage.TheVariants as stage;
 ghost use Rattle.duty_events.specs.Lists.{IsLawful, stage_of};
 ghost use Rattle.duty_events.specs.EndedTours.{last_tour, end_of};
@@ -70,7 +70,8 @@ fn last_end(events: &[Event]) -> Minute
 // How many minutes the longest stretch of minutes off has between two minutes.
 fn longest_off(events: &[Event], from: u64, to: u64) -> u64
     requires { IsLawful events.now }
-    ensures { (many : ℕ) → 0 < many → Decides (nat_le many result) (Stretch (is_off events.now) many from to) }
+    ensures { (many : ℕ) → 0 < many
+        → nat_le many result ≡ has_stretch (is_off events.now) many from to }
 {
     let mut gauge = Gauge::new(from);
     let mut before = None;

@@ -1,10 +1,10 @@
 -- What a gauge tells after looking at more minutes.
 use Rattle.std.proofs.Common.{◌≡◌, ℕ, ◌+◌, ◌-◌, ◌<◌, ◌≤◌, Bool, true, false, nat_le, max, inl, inr, refl, sym, ◌∙◌, arith}
 use Rattle.std.proofs.lemmas.Bool.{false≢true, cases_lt, le-leb}
-use Rattle.std.proofs.lemmas.Bool.Decides.{nat_tests}
-use Rattle.stretches.specs.Stretch.{Stretch}
+use Rattle.std.proofs.lemmas.Bool.Decides.{nat_tests, same_from_decides}
+use Rattle.stretches.specs.Stretch.{Stretch, has_stretch}
 use Rattle.stretches.specs.Gauge.{GaugeValue, BeginsAt, Tells}
-use Rattle.stretches.proofs.StretchLemmas.{stretch-same}
+use Rattle.stretches.proofs.StretchLemmas.{has_stretch-decides, stretch-same}
 
 abbrev pub gauge_of : ℕ → ℕ → ℕ → GaugeValue
 gauge_of since longest until = record { since = since; longest = longest; until = until }
@@ -122,3 +122,8 @@ pub tells-passed_other : (was asked : ℕ → Bool) (from : ℕ) (g : GaugeValue
 tells-passed_other was asked from g to are since longest until tells same is other order since_is longest_is until_is =
     rw (since_is, longest_is, until_is)
     (tells-other asked from g to (tells-same was asked from g tells same) order (λ t low high. is t low high ∙ other))
+
+-- the longest stretch is the test
+pub longest-stretch : (asked : ℕ → Bool) (from many : ℕ) (g : GaugeValue) → Tells asked from g → 0 < many → nat_le many g.longest ≡ has_stretch asked many from g.until
+longest-stretch asked from many g tells some =
+    same_from_decides (nat_le many g.longest) (has_stretch asked many from g.until) (tells.longest many some) (has_stretch-decides asked many from g.until some)

@@ -1,5 +1,6 @@
-ghost use Rattle.std.specs.Prelude.{◌≡◌, ℕ, ◌<◌, ◌≤◌, Bool, max};
+ghost use Rattle.std.specs.Prelude.{◌≡◌, ℕ, ◌<◌, ◌≤◌, Bool, nat_le, max};
 ghost use Rattle.stretches.specs.Gauge.{GaugeValue, Tells};
+ghost use Rattle.stretches.specs.Stretch.{has_stretch};
 
 use std::marker::Model;
 
@@ -62,9 +63,12 @@ impl Gauge {
         }
     }
 
-    /// How many minutes the longest stretch has, 0 if there is none.
+    /// How many minutes the longest stretch has, 0 if there is none: it has so many exactly where a stretch of so many lies
+    /// between the first minute and the one that the gauge was moved on to.
     pub fn longest(self) -> u64
-        ensures { result ≡ self.longest }
+        ensures value { result ≡ self.longest }
+        ensures stretch { (asked : ℕ → Bool) (from many : ℕ) → Tells asked from self → 0 < many
+            → nat_le many result ≡ has_stretch asked many from self.until }
     {
         self.longest
     }

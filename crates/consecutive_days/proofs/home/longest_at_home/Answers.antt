@@ -1,12 +1,13 @@
-use Rattle.std.proofs.Common.{◌≡◌, ◌+◌, refl, sym, ap, ◌∙◌, take, subst, arith}
+use Rattle.std.proofs.Common.{◌≡◌, nat_le, ◌+◌, refl, sym, ap, ◌∙◌, take, subst, arith}
 use Rattle.std.proofs.lemmas.List.{take_all}
 use Rattle.duty_events.specs.Allowed.{first_minute, last_minute}
 use Rattle.duty_events.specs.Lists.{stage_after}
 use Rattle.duty_events.proofs.ListLemmas.{stage_of-next, last_event-next, lawful-here, lawful-take}
 use Rattle.duty_events.proofs.PlaceLemmas.{place_of-nil}
+use Rattle.stretches.specs.Stretch.{has_stretch}
 use Rattle.stretches.specs.Gauge.{Tells}
 use Rattle.consecutive_days.specs.Days.{is_off_at_home}
-use Rattle.consecutive_days.proofs.HomeLemmas.{order-next, latest-next, since-next, at_home-stays, at_home-until, at_home-own, place-next, at_home-behind, longest-stretch}
+use Rattle.consecutive_days.proofs.HomeLemmas.{order-next, latest-next, since-next, at_home-stays, at_home-until, at_home-own, place-next, at_home-behind}
 use Rattle.consecutive_days.proofs.home.longest_at_home.Goals as goal
 
 pub loop-event-init : goal.loop-event-init
@@ -64,4 +65,4 @@ returns c = λ many some.
     ∙ rw (c.is_at_home-2.ensures, c.kind_behind-kind.ensures, kept.before) refl) in
     let all : Tells (is_off_at_home es home) c.args.from c.pass.result = subst (λ xs. Tells (is_off_at_home xs home) c.args.from c.pass.result) (take_all i es c.loop-event-test.false) tells in
     let until : c.pass.result.until ≡ c.args.to = omega (arith, c.pass.ensures.until, kept.until, c.number-to.ensures.value) in
-    rw c.longest.ensures (longest-stretch (is_off_at_home es home) c.args.from c.args.to c.pass.result many all until some)
+    subst (λ u. nat_le many c.longest.result ≡ has_stretch (is_off_at_home es home) many c.args.from u) until (c.longest.ensures.stretch (is_off_at_home es home) c.args.from many all some)

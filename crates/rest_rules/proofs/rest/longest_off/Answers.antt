@@ -1,4 +1,5 @@
-use Rattle.std.proofs.Common.{◌≡◌, ◌+◌, ◌≤◌, min, [], take, refl, sym, subst, ap, ◌∙◌, arith}
+use Rattle.std.proofs.Common.{◌≡◌, nat_le, ◌+◌, ◌≤◌, min, [], take, refl, sym, subst, ap, ◌∙◌, arith}
+use Rattle.stretches.specs.Stretch.{has_stretch}
 use Rattle.stretches.specs.Gauge.{Tells}
 use Rattle.duty_events.specs.Allowed.{first_minute, last_minute}
 use Rattle.duty_events.specs.Lists.{last_event, reached, stage_of}
@@ -57,4 +58,4 @@ returns c many some =
     (λ t from to. rw (c.is_off_duty-2.ensures, c.kind_behind.ensures, before) (ap is_off_duty (kind_of-behind es c.requires t (omega (arith, from, until, to)))))
     in
     let end : c.pass-2.result.until ≡ c.args.to = omega (arith, c.pass-2.ensures.until, until) in
-    rw (c.longest.ensures, sym end) (tells.longest many some)
+    subst (λ u. nat_le many c.longest.result ≡ has_stretch (is_off es) many c.args.from u) end (c.longest.ensures.stretch (is_off es) c.args.from many tells some)
