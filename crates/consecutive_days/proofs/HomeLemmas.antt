@@ -1,39 +1,21 @@
 -- Off and at home, one event more.
-use Rattle.std.proofs.Common.{◌≡◌, ℕ, ◌+◌, ◌<◌, ◌≤◌, false, ◌&&◌, nat_le, if◌then◌else◌, Option, IsOk, List, take, length, get_or, refl, subst, ap, ◌∙◌, arith}
+use Rattle.std.proofs.Common.{◌≡◌, ℕ, ◌+◌, ◌<◌, ◌≤◌, false, ◌&&◌, nat_le, if◌then◌else◌, List, take, length, get_or, refl, subst, ap, ◌∙◌, arith}
 use Rattle.std.specs.Str.{bytes_eq}
-use Rattle.std.proofs.lemmas.Bool.{false≢true, le-leb, lt-leb}
+use Rattle.std.proofs.lemmas.Bool.{le-leb, lt-leb}
 use Rattle.duty_events.specs.declared.event.Event.{Event}
 use Rattle.duty_events.specs.declared.event.Event.TheVariants as event
 use Rattle.duty_events.specs.declared.stage.Stage.{Stage}
 use Rattle.duty_events.specs.declared.stage.Stage.TheVariants as stage
-use Rattle.duty_events.specs.Allowed.{first_minute, last_minute, judge}
-use Rattle.duty_events.specs.Lists.{IsLawful, stage_after, stage_of, last_event, latest, reached}
+use Rattle.duty_events.specs.Allowed.{first_minute, last_minute}
+use Rattle.duty_events.specs.Lists.{IsLawful, stage_of, last_event, reached}
 use Rattle.duty_events.specs.MinuteKind.{kind_of, is_off_duty}
 use Rattle.duty_events.specs.Between.{kind_until, kind_behind}
 use Rattle.duty_events.specs.Places.{end_by, place_of, place_by}
-use Rattle.duty_events.proofs.ListLemmas.{take-push, lawful-take, lawful-here, stage_of-next, last_event-next}
+use Rattle.duty_events.proofs.ListLemmas.{take-push, lawful-take, lawful-here, last_event-next}
 use Rattle.duty_events.proofs.EventLemmas.{follows-reached, kind_of-stays, kind_of-until, kind_of-within, kind_of-behind}
-use Rattle.duty_events.proofs.PlaceLemmas.{place_of-next}
+use Rattle.duty_events.proofs.PlaceLemmas.{IsSince, place_of-next}
 use Rattle.consecutive_days.specs.Days.{is_off_at_home}
 use Rattle.consecutive_days.specs.Steps.{place_until, place_behind}
-
--- an interim that has not ended began at that minute
-abbrev pub IsSince : Stage → ℕ → Type 0
-IsSince (stage.Interim k since at) t = since ≡ t
-IsSince s t = Unit {0}
-
--- so it is after an event that is allowed
-since-after : (e : Event) (s : Stage) (last : Option ℕ) → IsOk (judge s e last) → IsSince (stage_after s e) (last_minute e)
-since-after (event.Interim t k place) stage.Duty last ok = refl
-since-after (event.Interim t j place) (stage.Interim k since at) last ok = absurd (false≢true ok)
-since-after (event.Ride t) (stage.Interim k since at) last ok = absurd (false≢true ok)
-since-after (event.Duty t) (stage.Interim k since at) last ok = absurd (false≢true ok)
-since-after (event.Relieve t) (stage.Interim k since at) last ok = absurd (false≢true ok)
-since-after (event.RideHome t) (stage.Interim k since at) last ok = absurd (false≢true ok)
-since-after (event.Other span place) (stage.Interim k since at) last ok = absurd (false≢true ok)
-since-after (event.Resume t) (stage.Interim k since at) last ok = tt
-since-after (event.Final t place) (stage.Interim k since at) last ok = tt
-since-after e s last ok = tt
 
 -- the place of an end that comes by the minute, and of one that comes later
 by-later : (at t : ℕ) (place other : List ℕ) → t < at → (if nat_le at t then place else other) ≡ other
@@ -72,10 +54,6 @@ order-next es i e lawful within is = follows-reached (last_event (take i es)) (s
 
 pub latest-next : (es : List Event) (i : ℕ) (e : Event) → i < length es → e ≡ get_or es i e → latest_of (take (i + 1) es) ≡ last_minute e
 latest-next es i e within is = ap reached (last_event-next es i e within is)
-
-pub since-next : (es : List Event) (i : ℕ) (e : Event) → IsLawful es → i < length es → e ≡ get_or es i e → IsSince (stage_of (take (i + 1) es)) (latest_of (take (i + 1) es))
-since-next es i e lawful within is =
-    rw (stage_of-next es i e within is, latest-next es i e within is) (since-after e (stage_of (take i es)) (latest (take i es)) (lawful-here es i e lawful within is).allowed)
 
 -- off and at home with one event more: before the latest minute
 pub at_home-stays : (es : List Event) (i : ℕ) (e : Event) (home : List ℕ) → IsLawful es → i < length es → e ≡ get_or es i e → IsSince (stage_of (take i es)) (latest_of (take i es))

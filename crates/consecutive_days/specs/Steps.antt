@@ -1,4 +1,4 @@
--- What one event more makes of the days in a row, and of where someone is.
+-- What one event more makes of the days in a row, and of where someone is: how the scans go, and no rule.
 use Rattle.std.specs.Prelude.{ℕ, ◌+◌, ◌==◌, ◌&&◌, nat_lt, Option, None, Some, List, if◌then◌else◌}
 use Rattle.desk_base.specs.Day.{day_of}
 use Rattle.duty_events.specs.declared.event.Event.{Event}

@@ -65,7 +65,7 @@ first_bar-law facts p craft qualified answered =
     last (Some found) = refl
 
 -- where no row holds, no tour runs and the law gives no bar
-both-none : (row : Option Bar) (rest : List (Option Bar)) → first_some (row ∷ rest) ≡ None → (row ≡ None) × (first_some rest ≡ None)
+pub both-none : (row : Option Bar) (rest : List (Option Bar)) → first_some (row ∷ rest) ≡ None → (row ≡ None) × (first_some rest ≡ None)
 both-none None rest none = (refl, none)
 both-none (Some b) rest none = cc
 

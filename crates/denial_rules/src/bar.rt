@@ -23,11 +23,13 @@ pub enum Bar {
     Lacks(u8),
     /// The person declined, did not answer or dropped this vacancy.
     Answered,
-    /// 49 USC 21103(a)(3): less than ten hours off duty before the report. Keeps the minute at which they are over.
+    /// 49 USC 21103(a)(3): less than ten hours off duty before the report. Keeps the minute ten hours after the last worked
+    /// one, also where the person has rested only later than that.
     Rest(Minute),
-    /// 49 USC 21103(c)(4): the rest is longer by what a tour had over twelve hours. Keeps the minute at which it ends.
+    /// 49 USC 21103(c)(4): the rest is longer by what a tour had over twelve hours. Keeps the end of that rest, also where
+    /// the person has rested only later.
     MoreRest(Minute),
-    /// 49 USC 21103(e): nobody calls during that rest. Keeps the minute at which it ends.
+    /// 49 USC 21103(e): nobody calls during that rest. Keeps the same minute.
     Undisturbed(Minute),
     /// 49 USC 21103(a)(4)(A): six days in a row. Keeps their number, and the 2,880 minutes off duty that they need.
     SixDays { run: u32, need: u32 },

@@ -4,6 +4,7 @@ use Rattle.std.specs.Option.{option_or}
 use Rattle.std.specs.List.{All, find}
 use Rattle.std.proofs.lemmas.Bool.{false≢true}
 use Rattle.std.proofs.lemmas.Bool.Decides.{nat_tests}
+use Rattle.std.proofs.lemmas.List.Folds.{find-append}
 use Rattle.std.proofs.lemmas.List.Elements.{All-nil, All-cons, All-tail, All-append}
 use Rattle.denial_rules.specs.declared.bar.Bar.{Bar}
 use Rattle.desk_model.specs.declared.command.Cmd.{Cmd}
@@ -178,16 +179,16 @@ open-answer h m v job is_open =
 
 -- it is unfilled where all are barred
 pub unfilled-barred : (o : OpeningValue) (h : List EntryValue) (m v : ℕ) (job : JobValue) → IsLegal o h → IsOpen h m v job
-    → IsUnfilled (next_answer h m v) → AreBarred h m job (chain h job.chain)
-unfilled-barred o h m v job legal is_open (listed, is) = go (first_free h m job) refl (sym (open-answer h m v job is_open) ∙ is)
+    → IsUnfilled h job (next_answer h m v) → AreBarred h m job (chain h job.chain)
+unfilled-barred o h m v job legal is_open is = go (first_free h m job) refl (sym (open-answer h m v job is_open) ∙ is)
   where
-    go : (first : Option Link) → first_free h m job ≡ first → choice_answer (length (chain h job.chain)) first ≡ reply.Unfilled listed → AreBarred h m job (chain h job.chain)
+    go : (first : Option Link) → first_free h m job ≡ first → choice_answer (length (chain h job.chain)) first ≡ reply.Unfilled (length (chain h job.chain)) → AreBarred h m job (chain h job.chain)
     go None first is = none-barred h m job (chain h job.chain) (chain-enrolled h job.chain (on-enrolled o h legal)) first
     go (Some link) first is = cc
 
-pub barred-unfilled : (h : List EntryValue) (m v : ℕ) (job : JobValue) → IsOpen h m v job → AreBarred h m job (chain h job.chain) → IsUnfilled (next_answer h m v)
+pub barred-unfilled : (h : List EntryValue) (m v : ℕ) (job : JobValue) → IsOpen h m v job → AreBarred h m job (chain h job.chain) → IsUnfilled h job (next_answer h m v)
 barred-unfilled h m v job is_open barred =
-    (length (chain h job.chain), open-answer h m v job is_open ∙ ap (choice_answer (length (chain h job.chain))) (barred-none h m job (chain h job.chain) barred))
+    open-answer h m v job is_open ∙ ap (choice_answer (length (chain h job.chain))) (barred-none h m job (chain h job.chain) barred)
 
 abbrev link_of : List ℕ → ℕ → ℕ → Link
 link_of b k p = record { board = b; position = k; person = p }
@@ -225,3 +226,17 @@ offered-first o h m v job p k b legal made is = by_state (state_of h job.vac) (s
     by_state state.Annulled is = cc
     by_state (state.OnOffer q) is = cc
     by_state state.Vacant is = vacant (nat_lt job.report m) is
+
+-- the first who is clear is offered it
+clear-free : (h : List EntryValue) (m : ℕ) (job : JobValue) (p : ℕ) → IsClear h m job p → is_free h m job p ≡ true
+clear-free h m job p c = ap (may_have h m job p) c.enrolled ∙ ap is_none c.clear
+
+clear-found : (h : List EntryValue) (m : ℕ) (job : JobValue) (link : Link) → IsFirstClear h m job link → first_free h m job ≡ Some link
+clear-found h m job link first =
+    ap (find (are_free h m job)) first.chain_is
+    ∙ find-append (are_free h m job) first.before (link ∷ first.behind)
+    ∙ rw (barred-none h m job first.before first.barred, clear-free h m job link.person first.clear) refl
+
+pub first-offered : (h : List EntryValue) (m v : ℕ) (job : JobValue) (link : Link) → IsOpen h m v job → IsFirstClear h m job link
+    → next_answer h m v ≡ reply.Offered link.person link.board link.position
+first-offered h m v job link is_open first = open-answer h m v job is_open ∙ ap (choice_answer (length (chain h job.chain))) (clear-found h m job link first)

@@ -1,5 +1,6 @@
--- What `next` answers, told by bars: a vacancy is unfilled where all are barred, and else offered to the first who isn't.
-use Rattle.std.specs.Prelude.{◌≡◌, ℕ, ◌≤◌, None, Some, List, ◌∷◌, ◌++◌}
+-- What `next` answers of a vacancy that is open, told by bars: it is unfilled where all of its chain are barred, and else
+-- offered to the first who isn't.
+use Rattle.std.specs.Prelude.{◌≡◌, ℕ, ◌≤◌, None, Some, List, ◌∷◌, ◌++◌, length}
 use Rattle.std.specs.List.{All}
 use Rattle.denial_rules.specs.declared.bar.Bar.{Bar}
 use Rattle.desk_model.specs.declared.person.Person.{Person}
@@ -37,9 +38,9 @@ pub record IsClear (h : List EntryValue) (m : ℕ) (job : JobValue) (p : ℕ) : 
 abbrev pub AreBarred : List EntryValue → ℕ → JobValue → List Link → Type 0
 AreBarred h m job links = All (λ link. IsBarred h m job link.person) links
 
--- the reply says that the vacancy is unfilled, of some number of places
-abbrev pub IsUnfilled : Reply → Type 0
-IsUnfilled r = (listed : ℕ) × (r ≡ reply.Unfilled listed)
+-- the reply says that the vacancy is unfilled, with as many as stand in its chain
+abbrev pub IsUnfilled : List EntryValue → JobValue → Reply → Type 0
+IsUnfilled h job r = r ≡ reply.Unfilled (length (chain h job.chain))
 
 -- this place is in the chain; who stands there is clear, and all who stand before it are barred
 pub record IsFirstClear (h : List EntryValue) (m : ℕ) (job : JobValue) (link : Link) : Type 0 where

@@ -104,7 +104,8 @@ FaultHasItsMinute (fault.InterimTooLong minutes) = ⊤
 FaultHasItsMinute (fault.OtherPlace place) = ⊤
 
 -- the minute of a reply can be written: it lies in the years 2000 to 2099, and that of `lapsed` may lie behind them; and
--- so can what a bar keeps. All other values are in their ranges by their types.
+-- so can what a bar keeps. All other values are in their ranges by their types, and positions are 1 or more where the
+-- rules give them.
 abbrev pub HasItsMinute : Reply → Type 0
 HasItsMinute (reply.ReportPast report) = IsInYears report
 HasItsMinute (reply.Lapsed report) = 15_778_080 ≤ report

@@ -3,8 +3,10 @@ ghost use Rattle.std.specs.Prelude.{◌≡◌, ◌↔◌, ℕ, true, false, Some
 ghost use Rattle.desk_model.specs.Opening.{OpeningValue};
 ghost use Rattle.desk_model.specs.Entry.{EntryValue};
 ghost use Rattle.desk_model.specs.declared.reply.Reply.TheVariants as reply;
+ghost use Rattle.desk_model.specs.declared.person.Person.{Person};
+ghost use Rattle.desk_model.specs.declared.link.Link.{Link};
 ghost use Rattle.desk_model.specs.Job.{JobValue};
-ghost use Rattle.desk_model.specs.Register.{vacancy_of};
+ghost use Rattle.desk_model.specs.Register.{person_of, vacancy_of};
 ghost use Rattle.desk_model.specs.Boards.{order, chain};
 ghost use Rattle.desk_model.specs.Rank.{IsByRank};
 ghost use Rattle.desk_model.specs.Offers.{open_offer, is_to};
@@ -12,7 +14,7 @@ ghost use Rattle.desk_model.specs.Refusal.{changes, IsSameDesk};
 ghost use Rattle.std.specs.List.{All};
 ghost use Rattle.desk_model.specs.Fits.{IsStated};
 ghost use Rattle.desk_model.specs.History.{said, all_of};
-ghost use Rattle.law_bars.specs.Law.{WasOffTenHours};
+ghost use Rattle.law_bars.specs.Law.{KeepsLaw, WasOffTenHours};
 ghost use Rattle.desk_model.specs.Duty.{tells, events};
 ghost use Rattle.desk_model.specs.NextAnswer.{next_answer};
 ghost use Rattle.desk_model.specs.Denials.{IsOpen, AreBarred, IsUnfilled, IsFirstClear};
@@ -54,17 +56,26 @@ pub fn no_event_is_left_out()
 pub fn unfilled_where_all_are_barred()
     ensures unfilled { (o : OpeningValue) (h : List EntryValue) → IsLegal o h
         → (m v : ℕ) (job : JobValue) → IsOpen h m v job
-        → IsUnfilled (next_answer h m v) ↔ AreBarred h m job (chain h job.chain) }
+        → IsUnfilled h job (next_answer h m v) ↔ AreBarred h m job (chain h job.chain) }
+    ensures first { (o : OpeningValue) (h : List EntryValue) → IsLegal o h
+        → (m v : ℕ) (job : JobValue) (link : Link) → IsOpen h m v job → IsFirstClear h m job link
+        → next_answer h m v ≡ reply.Offered link.person link.board link.position }
     ensures offered { (o : OpeningValue) (h : List EntryValue) → IsLegal o h
         → (m v : ℕ) (job : JobValue) → vacancy_of h v ≡ Some job
         → (p k : ℕ) (b : List ℕ) → next_answer h m v ≡ reply.Offered p b k
         → IsFirstClear h m job (record { board = b; position = k; person = p }) }
 {}
 
-/// In a legal history, whom the desk offers a vacancy is off in each of the ten hours before its report, 49 USC
-/// 21103(a)(3). It does nothing: its clause is the law.
-pub fn an_offer_follows_ten_hours_off()
-    ensures { (o : OpeningValue) (h : List EntryValue) → IsLegal o h
+/// In a legal history, whom the desk offers a vacancy, no section of the law keeps from it, by the events that were told so
+/// far; and by these they are off in each of the ten hours before its report, 49 USC 21103(a)(3). It does nothing: its
+/// clauses are the law.
+pub fn an_offer_keeps_the_law()
+    ensures law { (o : OpeningValue) (h : List EntryValue) → IsLegal o h
+        → (m v : ℕ) (job : JobValue) → vacancy_of h v ≡ Some job
+        → (p k : ℕ) (b : List ℕ) → next_answer h m v ≡ reply.Offered p b k
+        → (person : Person) → person_of h p ≡ Some person
+        → KeepsLaw (events h p) person.home m job.report job.duty job.limbo }
+    ensures ten_hours { (o : OpeningValue) (h : List EntryValue) → IsLegal o h
         → (m v : ℕ) (job : JobValue) → vacancy_of h v ≡ Some job
         → (p k : ℕ) (b : List ℕ) → next_answer h m v ≡ reply.Offered p b k
         → WasOffTenHours (events h p) job.report }

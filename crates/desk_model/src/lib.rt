@@ -26,8 +26,8 @@ pub use desk_core::DeskCore;
 pub use entry::Entry;
 pub use job::Job;
 pub use laws::{
-    a_refusal_changes_nothing, an_offer_follows_ten_hours_off, no_event_is_left_out,
-    one_offer_to_a_person, order_is_by_rank, unfilled_where_all_are_barred,
+    a_refusal_changes_nothing, an_offer_keeps_the_law, no_event_is_left_out, one_offer_to_a_person,
+    order_is_by_rank, unfilled_where_all_are_barred,
 };
 pub use legal::one_history_is_legal;
 pub use link::Link;

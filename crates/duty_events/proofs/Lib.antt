@@ -1,6 +1,7 @@
 pub mod CountLemmas
 pub mod EndedTourLemmas
 pub mod EventLemmas
+pub mod LastTourLemmas
 pub mod ListLemmas
 pub mod MarkLemmas
 pub mod OffLemmas

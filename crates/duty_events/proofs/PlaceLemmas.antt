@@ -1,15 +1,18 @@
 -- Where someone is after one event more.
-use Rattle.std.proofs.Common.{◌≡◌, ℕ, ◌+◌, ◌<◌, ◌≤◌, Bool, true, false, nat_le, if◌then◌else◌, Option, None, Some, unwrap_or, List, [], ◌∷◌, ◌++◌, reverse, fold, take, length, get_or, refl, sym, ap, ◌∙◌, append_assoc}
+use Rattle.std.proofs.Common.{◌≡◌, ℕ, ◌+◌, ◌<◌, ◌≤◌, Bool, true, false, nat_le, if◌then◌else◌, Option, None, Some, unwrap_or, IsOk, List, [], ◌∷◌, ◌++◌, reverse, fold, take, length, get_or, refl, sym, ap, ◌∙◌, append_assoc}
 use Rattle.std.specs.Option.{option_map, option_to_list}
 use Rattle.std.specs.List.{find}
+use Rattle.std.proofs.lemmas.Bool.{false≢true}
 use Rattle.std.proofs.lemmas.List.{append-nil, reverse-append, take_all}
 use Rattle.duty_events.specs.declared.event.Event.{Event}
 use Rattle.duty_events.specs.declared.stage.Stage.{Stage}
 use Rattle.duty_events.specs.declared.stage.Stage.TheVariants as stage
 use Rattle.duty_events.specs.declared.end.End.{End}
-use Rattle.duty_events.specs.Lists.{stage_after, stage_of}
+use Rattle.duty_events.specs.declared.event.Event.TheVariants as event
+use Rattle.duty_events.specs.Allowed.{last_minute, judge}
+use Rattle.duty_events.specs.Lists.{IsLawful, stage_after, stage_of, last_event, latest, reached}
 use Rattle.duty_events.specs.Places.{end_by, ends_from, place_of, place_by}
-use Rattle.duty_events.proofs.ListLemmas.{take-push}
+use Rattle.duty_events.proofs.ListLemmas.{take-push, lawful-here, stage_of-next, last_event-next}
 
 ends_from-push : (s : Stage) (es : List Event) (e : Event) → ends_from s (es ++ e ∷ []) ≡ ends_from s es ++ option_to_list (end_by (fold stage_after s es) e)
 ends_from-push s [] e = append-nil (option_to_list (end_by s e))
@@ -44,3 +47,25 @@ place_of-next es i e home t within is = ap (λ xs. place_of xs home t) (take-pus
 
 pub place_of-whole : (es : List Event) (i : ℕ) (home : List ℕ) (t : ℕ) → length es ≤ i → place_of (take i es) home t ≡ place_of es home t
 place_of-whole es i home t past = ap (λ xs. place_of xs home t) (take_all i es past)
+
+-- an interim that has not ended began at that minute
+abbrev pub IsSince : Stage → ℕ → Type 0
+IsSince (stage.Interim k since at) t = since ≡ t
+IsSince s t = Unit {0}
+
+-- so it is after an event that is allowed
+pub since-after : (e : Event) (s : Stage) (last : Option ℕ) → IsOk (judge s e last) → IsSince (stage_after s e) (last_minute e)
+since-after (event.Interim t k place) stage.Duty last ok = refl
+since-after (event.Interim t j place) (stage.Interim k since at) last ok = absurd (false≢true ok)
+since-after (event.Ride t) (stage.Interim k since at) last ok = absurd (false≢true ok)
+since-after (event.Duty t) (stage.Interim k since at) last ok = absurd (false≢true ok)
+since-after (event.Relieve t) (stage.Interim k since at) last ok = absurd (false≢true ok)
+since-after (event.RideHome t) (stage.Interim k since at) last ok = absurd (false≢true ok)
+since-after (event.Other span place) (stage.Interim k since at) last ok = absurd (false≢true ok)
+since-after (event.Resume t) (stage.Interim k since at) last ok = tt
+since-after (event.Final t place) (stage.Interim k since at) last ok = tt
+since-after e s last ok = tt
+
+pub since-next : (es : List Event) (i : ℕ) (e : Event) → IsLawful es → i < length es → e ≡ get_or es i e → IsSince (stage_of (take (i + 1) es)) (reached (last_event (take (i + 1) es)))
+since-next es i e lawful within is =
+    rw (stage_of-next es i e within is, last_event-next es i e within is) (since-after e (stage_of (take i es)) (latest (take i es)) (lawful-here es i e lawful within is).allowed)

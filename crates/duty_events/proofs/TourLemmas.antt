@@ -40,7 +40,7 @@ tour_marks-early ms s (event.Other span place) t whole early =
     ∙ tour_mark-early ms one t early
 tour_marks-early ms s e t whole early = tour_mark-early ms (last_mark s e) t early
 
-tour_start-early : (es : List Event) (e : Event) (t : ℕ) → first_minute e ≤ last_minute e → t < first_minute e → tour_start (es ++ e ∷ []) t ≡ tour_start es t
+pub tour_start-early : (es : List Event) (e : Event) (t : ℕ) → first_minute e ≤ last_minute e → t < first_minute e → tour_start (es ++ e ∷ []) t ≡ tour_start es t
 unfolding tour_start
 tour_start-early es e t whole early =
     ap (λ ms. start_at (tour_mark ms t)) (marks-push es e) ∙ ap start_at (tour_marks-early (marks es) (stage_of es) e t whole early)

@@ -1,4 +1,5 @@
--- What the minutes between two events count as, by the two events alone.
+-- What the minutes between two events count as, by the two events alone: what the rule of `MinuteKind` comes to, as
+-- `kinds_when_an_event_comes` says.
 use Rattle.std.specs.Prelude.{ℕ, ◌-◌, Bool, false, Option, None, Some, if◌then◌else◌}
 use Rattle.duty_events.specs.declared.event.Event.{Event}
 use Rattle.duty_events.specs.declared.event.Event.TheVariants as event

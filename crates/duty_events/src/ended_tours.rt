@@ -5,7 +5,8 @@ use crate::places::tour_end;
 use crate::{Event, Stage, Tour};
 use desk_base::Minute;
 
-/// The last tour that has ended; `None` where none has.
+/// The last tour that has ended; `None` where none has. Of events that aren't a lawful list, each final release ends the
+/// tour that began last.
 pub fn last_tour(events: &[Event]) -> Option<Tour>
     ensures { result ≡ last_tour events.now }
 {

@@ -1,6 +1,9 @@
 ghost use Rattle.std.specs.Prelude.{◌≡◌, ℕ, ◌<◌, ◌≤◌, None, Some, List, [], ◌∷◌, ◌++◌};
 ghost use Rattle.duty_events.specs.declared.event.Event.{Event};
 ghost use Rattle.duty_events.specs.declared.minute_kind.MinuteKind.TheVariants.{Off, Other};
+ghost use Rattle.duty_events.specs.declared.tour.Tour.{Tour};
+ghost use Rattle.duty_events.specs.Tours.{tour_start};
+ghost use Rattle.duty_events.specs.EndedTours.{last_tour};
 ghost use Rattle.duty_events.specs.Allowed.{first_minute, last_minute};
 ghost use Rattle.duty_events.specs.Lists.{IsNext, IsLawful, last_event};
 ghost use Rattle.duty_events.specs.MinuteKind.{unended, kind_of};
@@ -27,4 +30,12 @@ pub fn kinds_when_an_event_comes()
         → (t : ℕ) → first_minute e ≤ t → t < last_minute e → kind_of (es ++ e ∷ []) t ≡ Other }
     ensures behind { (es : List Event) (e : Event) → IsLawful es → IsNext es e
         → (t : ℕ) → last_minute e ≤ t → kind_of (es ++ e ∷ []) t ≡ unended (last_leads e) }
+{}
+
+/// Each minute of the last tour that has ended belongs to it by the marks too: the tour of the minute began where that tour
+/// did. So what is summed of a tour up to a minute, and of one that has ended, is of the same tour. It does nothing: its
+/// clause is the law.
+pub fn a_tour_is_one_by_events_and_by_marks()
+    ensures { (es : List Event) (tour : Tour) → IsLawful es → last_tour es ≡ Some tour
+        → (t : ℕ) → tour.start ≤ t → t < tour.end → tour_start es t ≡ tour.start }
 {}

@@ -21,7 +21,9 @@ pub use event::Event;
 pub use event_fault::EventFault;
 pub use kind::Kind;
 pub use lawful::is_lawful;
-pub use laws::{a_next_event_is_lawful, kinds_when_an_event_comes};
+pub use laws::{
+    a_next_event_is_lawful, a_tour_is_one_by_events_and_by_marks, kinds_when_an_event_comes,
+};
 pub use minute_kind::MinuteKind;
 pub use minutes::shared;
 pub use places::place;

@@ -1,8 +1,8 @@
 -- The first bar of the law, by its parts, and what keeps nobody back.
-use Rattle.std.proofs.Common.{◌≡◌, ℕ, ◌+◌, ◌<◌, ◌≤◌, Bool, true, false, if◌then◌else◌, inl, inr, Option, None, Some, List, [], ◌∷◌, ◌++◌, refl, sym, ap, ◌∙◌, arith}
-use Rattle.std.specs.Option.{option_or}
-use Rattle.std.proofs.lemmas.Bool.{cases_lt}
-use Rattle.std.proofs.lemmas.Option.{none-some}
+use Rattle.std.proofs.Common.{◌≡◌, ℕ, ◌+◌, ◌<◌, ◌≤◌, ◌⊎◌, ◌==◌, ◌&&◌, Bool, true, false, not, nat_lt, if◌then◌else◌, inl, inr, Option, None, Some, IsNone, List, [], ◌∷◌, ◌++◌, refl, sym, subst, ap, ◌∙◌, arith}
+use Rattle.std.specs.Option.{option_or, option_map}
+use Rattle.std.proofs.lemmas.Bool.{false≢true, cases_lt}
+use Rattle.std.proofs.lemmas.Bool.Decides.{Decides-eqb}
 use Rattle.desk_base.specs.Minute.{IsInYears}
 use Rattle.desk_base.specs.Month.{IsMonthInYears, first_minute}
 use Rattle.desk_base.proofs.MonthLemmas.{first_day_mono, first_day-2000, first_day-2100}
@@ -13,11 +13,19 @@ use Rattle.duty_events.proofs.OffLemmas.{off-unless_worked}
 use Rattle.denial_rules.specs.declared.bar.Bar.{Bar}
 use Rattle.denial_rules.specs.declared.bar.Bar.TheVariants as bar
 use Rattle.denial_rules.specs.Table.{first_some}
+use Rattle.denial_rules.proofs.TableLemmas.{both-none}
 use Rattle.rest_rules.specs.OffFrom.{works, off_from}
-use Rattle.rest_rules.specs.Rest.{rest_ok, RestOk}
+use Rattle.rest_rules.specs.Excess.{excess}
+use Rattle.rest_rules.specs.Rest.{rest_ok, rest_end, RestOk}
 use Rattle.rest_rules.proofs.OffFromLemmas.{off_from-is}
 use Rattle.rest_rules.proofs.RestLemmas.{rest_ok-decides}
-use Rattle.law_bars.specs.Law.{rest_row, more_rest_row, undisturbed_row, six_days_row, seven_days_row, month_row, limbo_row, law_bar, WasOffTenHours}
+use Rattle.month_hours.specs.Plan.{plan_of}
+use Rattle.month_hours.specs.Over.{over_month, over_limbo}
+use Rattle.month_hours.proofs.OverLemmas.{over_month-none, over_limbo-none}
+use Rattle.consecutive_days.specs.Run.{run_days, need}
+use Rattle.consecutive_days.specs.Days.{days_ok}
+use Rattle.consecutive_days.proofs.DaysLemmas.{days_ok-decides}
+use Rattle.law_bars.specs.Law.{rest_row, more_rest_row, undisturbed_row, six_days_row, seven_days_row, month_row, limbo_row, law_rows, law_bar, WasOffTenHours, KeepsLaw}
 
 first_some-append : (xs ys : List (Option Bar)) → first_some (xs ++ ys) ≡ option_or (first_some xs) (first_some ys)
 first_some-append [] ys = refl
@@ -53,27 +61,108 @@ month-in_years m report end in_years by from to = (low, high)
       | inr late ↦ absurd (omega (arith, by, to, first_day_mono 1560 m late, first_day-2100))
     ]
 
--- whom the first row doesn't bar
-first-none : (o : Option Bar) (os : List (Option Bar)) → first_some (o ∷ os) ≡ None → o ≡ None
-first-none None os none = refl
-first-none (Some b) os none = none
+-- a row that holds where something isn't so
+kept-none : (b : Bool) (held : Bar) → ((if b then None else Some held) ≡ None → b ≡ true) × (b ≡ true → (if b then None else Some held) ≡ None)
+kept-none true held = (λ is. refl, λ is. refl)
+kept-none false held = (λ is. cc, λ is. absurd (false≢true is))
 
-rest_row-none : (es : List Event) (report : ℕ) → rest_row es report ≡ None → rest_ok es report 0 ≡ true
-rest_row-none es report none = go (rest_ok es report 0) none
+-- a row doesn't hold just where its section is kept
+rest_row-none : (es : List Event) (report : ℕ) → (rest_row es report ≡ None → rest_ok es report 0 ≡ true) × (rest_ok es report 0 ≡ true → rest_row es report ≡ None)
+rest_row-none es report = kept-none (rest_ok es report 0) (bar.Rest (off_from es + 600))
+
+more_rest_row-none : (es : List Event) (report : ℕ) → (more_rest_row es report ≡ None → rest_ok es report (excess es) ≡ true) × (rest_ok es report (excess es) ≡ true → more_rest_row es report ≡ None)
+more_rest_row-none es report = kept-none (rest_ok es report (excess es)) (bar.MoreRest (rest_end es))
+
+undisturbed_row-none : (es : List Event) (moment : ℕ) → (undisturbed_row es moment ≡ None → rest_ok es moment (excess es) ≡ true) × (rest_ok es moment (excess es) ≡ true → undisturbed_row es moment ≡ None)
+undisturbed_row-none es moment = kept-none (rest_ok es moment (excess es)) (bar.Undisturbed (rest_end es))
+
+-- where the time off is wanting, six days need it or seven
+need-six_or_seven : (run : ℕ) → ((need run == 0) ≡ true) ⊎ (((need run == 2_880) ≡ true) ⊎ ((need run == 4_320) ≡ true))
+need-six_or_seven run = go (nat_lt run 6) (run == 6)
   where
-    go : (b : Bool) → (if b then None else Some (bar.Rest (off_from es + 600))) ≡ None → b ≡ true
-    go true is = refl
-    go false is = absurd (none-some (bar.Rest (off_from es + 600)) (sym is))
+    go : (few six : Bool) → (((if few then 0 else (if six then 2_880 else 4_320)) == 0) ≡ true)
+        ⊎ ((((if few then 0 else (if six then 2_880 else 4_320)) == 2_880) ≡ true) ⊎ (((if few then 0 else (if six then 2_880 else 4_320)) == 4_320) ≡ true))
+    go true six = inl refl
+    go false true = inr (inl refl)
+    go false false = inr (inr refl)
 
-rested : (es : List Event) (home : List ℕ) (moment report duty limbo : ℕ) → law_bar es home moment report duty limbo ≡ None → rest_ok es report 0 ≡ true
+days-none : (es : List Event) (home : List ℕ) (report : ℕ) → six_days_row es home report ≡ None → seven_days_row es home report ≡ None → days_ok es home report ≡ true
+days-none es home report six seven = go (days_ok es home report) (need-six_or_seven (run_days es)) refl six seven
+  where
+    wanting : (b : Bool) → b ≡ true → (held : Bar) → (if not false && b then Some held else None) ≡ None → false ≡ true
+    wanting true is held none = cc
+    wanting false is held none = is
+
+    go : (ok : Bool) → ((need (run_days es) == 0) ≡ true) ⊎ (((need (run_days es) == 2_880) ≡ true) ⊎ ((need (run_days es) == 4_320) ≡ true)) → days_ok es home report ≡ ok
+        → (if not ok && (need (run_days es) == 2_880) then Some (bar.SixDays (run_days es) (need (run_days es))) else None) ≡ None
+        → (if not ok && (need (run_days es) == 4_320) then Some (bar.SevenDays (run_days es) (need (run_days es))) else None) ≡ None → ok ≡ true
+    go true which is six seven = refl
+    go false (inl zero) is six seven = sym is ∙ (days_ok-decides es home report).1 (inl ((Decides-eqb (need (run_days es)) 0).0 zero))
+    go false (inr (inl need_six)) is six seven = wanting (need (run_days es) == 2_880) need_six _ six
+    go false (inr (inr need_seven)) is six seven = wanting (need (run_days es) == 4_320) need_seven _ seven
+
+days-kept : (es : List Event) (home : List ℕ) (report : ℕ) → days_ok es home report ≡ true → (six_days_row es home report ≡ None) × (seven_days_row es home report ≡ None)
+days-kept es home report ok = (rw ok refl, rw ok refl)
+
+option_map-none : {X : Type 0} (f : X → Bar) (o : Option X) → (option_map f o ≡ None → o ≡ None) × (o ≡ None → option_map f o ≡ None)
+option_map-none f None = (λ is. refl, λ is. refl)
+option_map-none f (Some x) = (λ is. cc, λ is. cc)
+
+-- no row holds just where each section is kept
+pub law_bar-free : (es : List Event) (home : List ℕ) (moment report duty limbo : ℕ) → IsLawful es
+    → (law_bar es home moment report duty limbo ≡ None → KeepsLaw es home moment report duty limbo) × (KeepsLaw es home moment report duty limbo → law_bar es home moment report duty limbo ≡ None)
 unfolding law_bar
-rested es home moment report duty limbo none = rest_row-none es report (first-none (rest_row es report) _ none)
+law_bar-free es home moment report duty limbo lawful = (kept, none)
+  where
+    kept : first_some (law_rows es home moment report duty limbo) ≡ None → KeepsLaw es home moment report duty limbo
+    kept is =
+        let rest = both-none (rest_row es report) _ is in
+        let more = both-none (more_rest_row es report) _ rest.1 in
+        let undisturbed = both-none (undisturbed_row es moment) _ more.1 in
+        let six = both-none (six_days_row es home report) _ undisturbed.1 in
+        let seven = both-none (seven_days_row es home report) _ six.1 in
+        let month = both-none (month_row es report duty limbo) _ seven.1 in
+        let waiting = both-none (limbo_row es report duty limbo) [] month.1 in
+        let plan = plan_of report duty limbo in record {
+          rest = (rest_ok-decides es lawful report 0).0 ((rest_row-none es report).0 rest.0);
+          more_rest = (rest_ok-decides es lawful report (excess es)).0 ((more_rest_row-none es report).0 more.0);
+          undisturbed = (rest_ok-decides es lawful moment (excess es)).0 ((undisturbed_row-none es moment).0 undisturbed.0);
+          days = (days_ok-decides es home report).0 (days-none es home report six.0 seven.0);
+          month = (over_month-none es plan).0 ((option_map-none _ (over_month es plan)).0 month.0);
+          waiting = (over_limbo-none es plan).0 ((option_map-none _ (over_limbo es plan)).0 waiting.0);
+        }
 
--- was off in each of the ten hours before
+    none : KeepsLaw es home moment report duty limbo → first_some (law_rows es home moment report duty limbo) ≡ None
+    none keeps =
+        let days = days-kept es home report ((days_ok-decides es home report).1 keeps.days) in
+        let plan = plan_of report duty limbo in
+        rw (
+          (rest_row-none es report).1 ((rest_ok-decides es lawful report 0).1 keeps.rest),
+          (more_rest_row-none es report).1 ((rest_ok-decides es lawful report (excess es)).1 keeps.more_rest),
+          (undisturbed_row-none es moment).1 ((rest_ok-decides es lawful moment (excess es)).1 keeps.undisturbed),
+          days.0,
+          days.1,
+          (over_month-none es plan).1 keeps.month,
+          (over_limbo-none es plan).1 keeps.waiting,
+        ) refl
+
+is_none : (o : Option Bar) → IsNone o → o ≡ None
+is_none None none = refl
+is_none (Some b) none = cc
+
+pub free-of : (o : Option Bar) (es : List Event) (home : List ℕ) (moment report duty limbo : ℕ) → IsLawful es → o ≡ law_bar es home moment report duty limbo
+    → (IsNone o → KeepsLaw es home moment report duty limbo) × (KeepsLaw es home moment report duty limbo → IsNone o)
+free-of o es home moment report duty limbo lawful is =
+    let free = law_bar-free es home moment report duty limbo lawful in (
+      λ none. free.0 (sym is ∙ is_none o none),
+      λ keeps. subst IsNone (sym (is ∙ free.1 keeps)) refl,
+    )
+
+-- whom no section bars was off in each of the ten hours before
 pub law_bar-none : (es : List Event) (home : List ℕ) (moment report duty limbo : ℕ) → IsLawful es → stage_of es ≡ stage.Off
     → law_bar es home moment report duty limbo ≡ None → WasOffTenHours es report
 law_bar-none es home moment report duty limbo lawful off none t early late =
-    off-unless_worked es lawful off t (go ((rest_ok-decides es lawful report 0).0 (rested es home moment report duty limbo none)))
+    off-unless_worked es lawful off t (go ((law_bar-free es home moment report duty limbo lawful).0 none).rest)
   where
     go : RestOk es report 0 → works es t ≡ false
     go (inl all) = all t

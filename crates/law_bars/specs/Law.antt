@@ -8,17 +8,18 @@ use Rattle.denial_rules.specs.declared.bar.Bar.TheVariants as bar
 use Rattle.denial_rules.specs.Table.{first_some}
 use Rattle.rest_rules.specs.OffFrom.{off_from}
 use Rattle.rest_rules.specs.Excess.{excess}
-use Rattle.rest_rules.specs.Rest.{is_off, rest_ok, rest_end}
+use Rattle.rest_rules.specs.Rest.{is_off, rest_ok, rest_end, RestOk}
 use Rattle.month_hours.specs.Plan.{plan_of}
-use Rattle.month_hours.specs.Over.{over_month, over_limbo}
+use Rattle.month_hours.specs.Over.{over_month, over_limbo, KeepsHours, KeepsLimbo}
 use Rattle.consecutive_days.specs.Run.{run_days, need}
-use Rattle.consecutive_days.specs.Days.{days_ok}
+use Rattle.consecutive_days.specs.Days.{days_ok, DaysOk}
 
--- 21103(a)(3): ten hours off before the report; keeps the minute at which they are over
+-- 21103(a)(3): ten hours off before the report; keeps the minute ten hours after the last worked one
 abbrev pub rest_row : List Event → ℕ → Option Bar
 rest_row es report = if rest_ok es report 0 then None else Some (bar.Rest (off_from es + 600))
 
--- 21103(c)(4): as much more as the last tour had over twelve hours; keeps the minute at which rest ends
+-- 21103(c)(4): as much more as the last tour had over twelve hours; keeps the end of rest. Both minutes are kept as they
+-- are also where a tour closed with no minutes and the person has rested later than that
 abbrev pub more_rest_row : List Event → ℕ → Option Bar
 more_rest_row es report = if rest_ok es report (excess es) then None else Some (bar.MoreRest (rest_end es))
 
@@ -36,7 +37,7 @@ abbrev pub seven_days_row : List Event → List ℕ → ℕ → Option Bar
 seven_days_row es home report =
     if not (days_ok es home report) && (need (run_days es) == 4_320) then Some (bar.SevenDays (run_days es) (need (run_days es))) else None
 
--- 21103(a)(1): 276 hours in a month; keeps the first month that the plan would bring over them, with its total
+-- 21103(a)(1): 276 hours in a month; keeps the first month of the job that would have more with it, and its total
 abbrev pub month_row : List Event → ℕ → ℕ → ℕ → Option Bar
 month_row es report duty limbo = option_map (λ over. bar.MonthHours over.month over.total) (over_month es (plan_of report duty limbo))
 
@@ -59,6 +60,16 @@ law_rows es home moment report duty limbo =
 -- the first row that holds
 unfoldable pub law_bar : List Event → List ℕ → ℕ → ℕ → ℕ → ℕ → Option Bar
 law_bar es home moment report duty limbo = first_some (law_rows es home moment report duty limbo)
+
+-- no section bars the person, each in other words: they have rested at the report, and with the excess, and have so at the
+-- moment; no time off after days in a row is wanting; and no month of the job has more than its hours and its limbo
+pub record KeepsLaw (es : List Event) (home : List ℕ) (moment report duty limbo : ℕ) : Type 0 where
+  pub rest : RestOk es report 0
+  pub more_rest : RestOk es report (excess es)
+  pub undisturbed : RestOk es moment (excess es)
+  pub days : DaysOk es home report
+  pub month : KeepsHours es (plan_of report duty limbo)
+  pub waiting : KeepsLimbo es (plan_of report duty limbo)
 
 -- each of the ten hours before a minute is off
 abbrev pub WasOffTenHours : List Event → ℕ → Type 0

@@ -1,9 +1,9 @@
-ghost use Rattle.std.specs.Prelude.{◌≡◌, ◌+◌, ◌<◌, ◌≤◌, ◌^◌, IfSome};
+ghost use Rattle.std.specs.Prelude.{◌≡◌, ◌+◌, ◌<◌, ◌≤◌, ◌^◌, ◌↔◌, IsNone, IfSome};
 ghost use Rattle.desk_base.specs.Minute.{IsInYears};
 ghost use Rattle.duty_events.specs.declared.stage.Stage.TheVariants as stage;
 ghost use Rattle.duty_events.specs.Lists.{IsLawful, stage_of};
 ghost use Rattle.denial_rules.specs.Bar.{HasItsValues};
-ghost use Rattle.law_bars.specs.Law.{law_bar};
+ghost use Rattle.law_bars.specs.Law.{law_bar, KeepsLaw};
 
 use crate::days::days_bar;
 use crate::hours::hours_bar;
@@ -14,8 +14,8 @@ use duty_events::Event;
 
 /// The first section of 49 USC 21103 that keeps someone from a job, by a lawful list of their events after which no tour
 /// runs: (a)(3), (c)(4) and (e) of rest, (a)(4)(A) of days in a row, (a)(1) and (c)(1) of a month's hours. The job has so
-/// many minutes on duty from its report on, and so many of limbo behind them; someone calls at the moment. What the bar
-/// keeps can be written, where the plan lies in the years 2000 to 2099.
+/// many minutes on duty from its report on, and so many of limbo behind them; someone calls at the moment. There is none
+/// exactly where each section is kept. What the bar keeps can be written, where the plan lies in the years 2000 to 2099.
 pub fn law_bar(
     events: &[Event],
     home: Code,
@@ -28,6 +28,7 @@ pub fn law_bar(
     requires off { stage_of events.now ≡ stage.Off }
     requires range { report + duty + limbo < 2 ^ 28 }
     ensures value { result ≡ law_bar events.now home moment report duty limbo }
+    ensures free { IsNone result ↔ KeepsLaw events.now home moment report duty limbo }
     ensures range { IsInYears report → report + duty + limbo ≤ 68_374_080 → IfSome result HasItsValues }
 {
     if let Some(bar) = rest_bar(events, moment, report) {

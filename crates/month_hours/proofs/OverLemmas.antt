@@ -1,5 +1,5 @@
 -- The first of some months that passes, and that no other month that holds a minute of a plan comes before it.
-use Rattle.std.proofs.Common.{◌≡◌, ℕ, zero, suc, ◌+◌, ◌-◌, ◌<◌, ◌≤◌, inl, inr, Bool, true, false, if◌then◌else◌, Option, None, Some, IfSome, List, refl, sym, arith}
+use Rattle.std.proofs.Common.{◌≡◌, ℕ, zero, suc, ◌+◌, ◌-◌, ◌<◌, ◌≤◌, inl, inr, Bool, true, false, if◌then◌else◌, Option, None, Some, IfSome, List, refl, sym, subst, arith}
 use Rattle.std.specs.Option.{option_map}
 use Rattle.std.specs.List.{find, range_with_len}
 use Rattle.std.proofs.lemmas.Bool.{cases_lt}
@@ -9,10 +9,11 @@ use Rattle.desk_base.specs.Minute.{month_of}
 use Rattle.desk_base.proofs.MonthLemmas.{month_of_day_is, first_day_mono, first_day-next}
 use Rattle.duty_events.specs.declared.event.Event.{Event}
 use Rattle.month_hours.specs.declared.limit.Limit.{Limit}
+use Rattle.month_hours.specs.declared.limit.Limit.TheVariants as limit
 use Rattle.month_hours.specs.declared.over.Over.{Over}
 use Rattle.month_hours.specs.declared.plan.Plan.{Plan}
 use Rattle.month_hours.specs.Plan.{end_of, planned}
-use Rattle.month_hours.specs.Over.{most, total, is_over, over_in, first_over, TellsFirst, IsMonthOfPlan}
+use Rattle.month_hours.specs.Over.{most, total, is_over, over_in, first_over, over_month, over_limbo, TellsFirst, KeepsHours, KeepsLimbo, IsMonthOfPlan}
 use Rattle.month_hours.proofs.PlanLemmas.{planned-shared}
 
 -- the first of so many months from one on that would pass
@@ -125,6 +126,23 @@ tells l es p (Some first) finds = record {
 pub first_over-tells : (l : Limit) (es : List Event) (p : Plan) → TellsFirst l es p (first_over l es p)
 unfolding first_over
 first_over-tells l es p = tells l es p _ (finds (is_over l es p) (month_of p.report) (month_of (end_of p - 1) + 1 - month_of p.report))
+
+-- there is no such month just where none passes
+none-passes : (l : Limit) (es : List Event) (p : Plan) (o : Option Over) → TellsFirst l es p o → TellsFirst l es p None → o ≡ None
+none-passes l es p None tells none = refl
+none-passes l es p (Some over) tells none = absurd (omega (arith, tells.counts, tells.passes, none over.month tells.holds))
+
+pub first_over-none : (l : Limit) (es : List Event) (p : Plan) → (first_over l es p ≡ None → TellsFirst l es p None) × (TellsFirst l es p None → first_over l es p ≡ None)
+first_over-none l es p = (
+  λ none. subst (TellsFirst l es p) none (first_over-tells l es p),
+  λ none. none-passes l es p (first_over l es p) (first_over-tells l es p) none,
+)
+
+pub over_month-none : (es : List Event) (p : Plan) → (over_month es p ≡ None → KeepsHours es p) × (KeepsHours es p → over_month es p ≡ None)
+over_month-none es p = first_over-none limit.Hours es p
+
+pub over_limbo-none : (es : List Event) (p : Plan) → (over_limbo es p ≡ None → KeepsLimbo es p) × (KeepsLimbo es p → over_limbo es p ≡ None)
+over_limbo-none es p = first_over-none limit.Limbo es p
 
 -- the month that passes is one of the plan's
 of_plan : (l : Limit) (es : List Event) (p : Plan) (o : Option Over) → TellsFirst l es p o → IfSome o (λ over. IsMonthOfPlan p over.month)

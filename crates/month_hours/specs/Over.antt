@@ -1,4 +1,4 @@
--- The month in which a plan would pass a limit.
+-- The month that would be over a limit with a plan, by whichever of its minutes.
 use Rattle.std.specs.Prelude.{◌≡◌, ℕ, ◌+◌, ◌-◌, ◌<◌, ◌≤◌, Bool, ◌&&◌, nat_lt, Option, None, Some, List}
 use Rattle.std.specs.Option.{option_map}
 use Rattle.std.specs.List.{find, range_with_len}
@@ -23,7 +23,7 @@ abbrev pub total : Limit → List Event → Plan → ℕ → ℕ
 total limit.Hours es p m = used es m + planned p m
 total limit.Limbo es p m = capped es m + planned_capped p m
 
--- the month holds a minute of the plan, and would pass the limit
+-- the month holds a minute of the plan, and would be over the limit with all of them
 abbrev pub is_over : Limit → List Event → Plan → ℕ → Bool
 is_over l es p m = nat_lt 0 (planned p m) && nat_lt (most l) (total l es p m)
 
@@ -35,7 +35,7 @@ months_of p = range_with_len (month_of p.report) (month_of (end_of p - 1) + 1 - 
 abbrev pub over_in : Limit → List Event → Plan → ℕ → Over
 over_in l es p m = record { month = m; total = total l es p m }
 
--- the first of these months that would pass the limit
+-- the first of these months that would pass the limit. It is told what it is by `TellsFirst`, below
 unfoldable pub first_over : Limit → List Event → Plan → Option Over
 first_over l es p = option_map (over_in l es p) (find (is_over l es p) (months_of p))
 
@@ -56,6 +56,13 @@ pub record IsFirstOver (l : Limit) (es : List Event) (p : Plan) (over : Over) : 
 abbrev pub TellsFirst : Limit → List Event → Plan → Option Over → Type 0
 TellsFirst l es p None = (m : ℕ) → 0 < planned p m → total l es p m ≤ most l
 TellsFirst l es p (Some over) = IsFirstOver l es p over
+
+-- no month that holds a minute of the plan would pass the limit: of worked minutes, and of capped ones
+abbrev pub KeepsHours : List Event → Plan → Type 0
+KeepsHours es p = TellsFirst limit.Hours es p None
+
+abbrev pub KeepsLimbo : List Event → Plan → Type 0
+KeepsLimbo es p = TellsFirst limit.Limbo es p None
 
 -- the month is none before the report's, and none after that of the plan's last minute
 pub record IsMonthOfPlan (p : Plan) (m : ℕ) : Type 0 where

@@ -1,4 +1,5 @@
--- What one event more adds, among so many minutes from a first one on, by it and the event before it.
+-- What one event more adds, among so many minutes from a first one on, by it and the event before it: how the scans go,
+-- and no rule.
 use Rattle.std.specs.Prelude.{ℕ, ◌+◌, ◌-◌, Option, None, Some, if◌then◌else◌}
 use Rattle.duty_events.specs.declared.event.Event.{Event}
 use Rattle.duty_events.specs.declared.stage.Stage.{Stage}

@@ -22,6 +22,7 @@ pub record IsOffFrom (es : List Event) (n : ℕ) : Type 0 where
   pub last : 0 < n → works es (n - 1) ≡ true
   pub after : (t : ℕ) → n ≤ t → works es t ≡ false
 
--- where work ends that ended at a minute before those from one on and before another, which are all worked or none
+-- how the scan goes, and no rule: where work ends that ended at a minute before those from one on and before another,
+-- which are all worked or none
 abbrev pub end_after : ℕ → Bool → ℕ → ℕ → ℕ
 end_after end is_worked from to = if is_worked && nat_lt from to then to else end

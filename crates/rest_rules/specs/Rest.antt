@@ -15,8 +15,8 @@ is_off es t = is_off_duty (kind_of es t)
 abbrev pub was_off : List Event → ℕ → ℕ → Bool
 was_off es many to = has_stretch (is_off es) many (end_of (last_tour es)) to
 
--- whether someone has rested at a minute, ten hours and so many minutes more: no minute is worked; or they have been off
--- for ten hours, and were off for as long as is asked since the last tour ended
+-- whether someone has rested at a minute, ten hours and so many minutes more: no minute is worked; or the last worked one
+-- is ten hours ago at least, and they were off for as long as is asked since the last tour ended
 abbrev pub rest_ok : List Event → ℕ → ℕ → Bool
 rest_ok es at more = nat_eq (off_from es) 0 || (nat_le (off_from es + 600) at && was_off es (600 + more) at)
 

@@ -11,9 +11,9 @@ use desk_base::Minute;
 use duty_events::{Event, kind_behind, kind_until, last_tour};
 use stretches::Gauge;
 
-/// Whether someone has rested at a minute, by a lawful list of events: no minute is worked; or they have been off since
-/// ten hours at least, and were off for ten hours and so many minutes `more` in one stretch since their last tour ended
-/// (since ever, if none has). With no minutes more it is 49 USC 21103(a)(3), with the excess (c)(4) and (e).
+/// Whether someone has rested at a minute, by a lawful list of events: no minute is worked; or the last worked one is ten
+/// hours ago at least, and they were off for ten hours and so many minutes `more` in one stretch since their last tour
+/// ended (since ever, if none has). With no minutes more it is 49 USC 21103(a)(3), with the excess (c)(4) and (e).
 pub fn rest_ok(events: &[Event], at: Minute, more: u32) -> bool
     requires { IsLawful events.now }
     ensures value { result ≡ rest_ok events.now at more }

@@ -1,4 +1,4 @@
--- A gauge of the longest stretch so far.
+-- A gauge of the longest stretch so far: how stretches are looked for, and no rule.
 use Rattle.std.specs.Prelude.{◌≡◌, ℕ, ◌-◌, ◌<◌, ◌≤◌, ◌⊎◌, Bool, true, false, nat_le}
 use Rattle.std.specs.Bool.{Decides}
 use Rattle.stretches.specs.Stretch.{Stretch}

@@ -13,6 +13,6 @@ pub record Stretch (asked : ℕ → Bool) (many from to : ℕ) : Type 0 where
 abbrev pub is_stretch : (ℕ → Bool) → ℕ → ℕ → ℕ → Bool
 is_stretch asked many to first = nat_le (first + many) to && list_all asked (range_with_len first many)
 
--- whether there is such a stretch: a minute from the one on and before the other is the first of one
+-- whether there is such a stretch, of one minute or more: a minute from the one on and before the other is the first of it
 unfoldable pub has_stretch : (ℕ → Bool) → ℕ → ℕ → ℕ → Bool
 has_stretch asked many from to = list_any (is_stretch asked many to) (range_with_len from (to - from))

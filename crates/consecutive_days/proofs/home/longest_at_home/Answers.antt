@@ -3,11 +3,11 @@ use Rattle.std.proofs.lemmas.List.{take_all}
 use Rattle.duty_events.specs.Allowed.{first_minute, last_minute}
 use Rattle.duty_events.specs.Lists.{stage_after}
 use Rattle.duty_events.proofs.ListLemmas.{stage_of-next, last_event-next, lawful-here, lawful-take}
-use Rattle.duty_events.proofs.PlaceLemmas.{place_of-nil}
+use Rattle.duty_events.proofs.PlaceLemmas.{place_of-nil, since-next}
 use Rattle.stretches.specs.Stretch.{has_stretch}
 use Rattle.stretches.specs.Gauge.{Tells}
 use Rattle.consecutive_days.specs.Days.{is_off_at_home}
-use Rattle.consecutive_days.proofs.HomeLemmas.{order-next, latest-next, since-next, at_home-stays, at_home-until, at_home-own, place-next, at_home-behind}
+use Rattle.consecutive_days.proofs.HomeLemmas.{order-next, latest-next, at_home-stays, at_home-until, at_home-own, place-next, at_home-behind}
 use Rattle.consecutive_days.proofs.home.longest_at_home.Goals as goal
 
 pub loop-event-init : goal.loop-event-init

@@ -3,7 +3,7 @@ use Rattle.duty_events.specs.Lists.{stage_of, last_event, reached}
 use Rattle.duty_events.specs.Places.{place_of}
 use Rattle.stretches.specs.Gauge.{Tells}
 use Rattle.consecutive_days.specs.Days.{is_off_at_home}
-use Rattle.consecutive_days.proofs.HomeLemmas.{IsSince}
+use Rattle.duty_events.proofs.PlaceLemmas.{IsSince}
 use Rattle.consecutive_days.proofs.home.longest_at_home.Given as goal
 
 abbrev pub invariant-loop-event : goal.invariant-loop-event

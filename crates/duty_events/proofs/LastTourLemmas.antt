@@ -1,0 +1,163 @@
+-- A minute of the last tour that has ended belongs to it by the marks too.
+use Rattle.std.proofs.Common.{◌≡◌, ℕ, zero, suc, ◌+◌, ◌<◌, ◌≤◌, inl, inr, Bool, true, false, cond, ◌&&◌, nat_le, if◌then◌else◌, Option, None, Some, List, [], ◌∷◌, ◌++◌, reverse, take, length, get_or, refl, sym, subst, ap, ◌∙◌, arith}
+use Rattle.std.specs.Option.{option_or, option_map}
+use Rattle.std.specs.List.{find}
+use Rattle.std.proofs.lemmas.Bool.{le-leb}
+use Rattle.std.proofs.lemmas.Option.{slice_get_cases, same_Some}
+use Rattle.std.proofs.lemmas.List.{reverse-append, take_all}
+use Rattle.std.proofs.lemmas.List.Folds.{find-append}
+use Rattle.duty_events.specs.declared.event.Event.{Event}
+use Rattle.duty_events.specs.declared.event.Event.TheVariants as event
+use Rattle.duty_events.specs.declared.stage.Stage.{Stage}
+use Rattle.duty_events.specs.declared.stage.Stage.TheVariants as stage
+use Rattle.duty_events.specs.declared.tour.Tour.{Tour}
+use Rattle.duty_events.specs.Allowed.{first_minute, last_minute}
+use Rattle.duty_events.specs.Lists.{IsLawful, stage_after, stage_of, last_event, latest, reached}
+use Rattle.duty_events.specs.MinuteKind.{Mark, is_off, marks_of, marks_from, marks}
+use Rattle.duty_events.specs.Places.{tour_end}
+use Rattle.duty_events.specs.Tours.{tour_mark, start_at, tour_start}
+use Rattle.duty_events.specs.EndedTours.{begun, ended, last_tour}
+use Rattle.duty_events.proofs.ListLemmas.{take-push, lawful-here, last_event-next}
+use Rattle.duty_events.proofs.EventLemmas.{follows-reached}
+use Rattle.duty_events.proofs.TourLemmas.{tour_start-early}
+use Rattle.duty_events.proofs.PlaceLemmas.{IsSince, since-next}
+use Rattle.duty_events.proofs.EndedTourLemmas.{start_from, last_begun, last_tour-nil, last_tour-next}
+
+-- the last mark at which a tour begins
+abbrev last_begins : List Mark → Option Mark
+last_begins ms = find (λ m. m.begins) (reverse ms)
+
+abbrev minute_of : Option Mark → Option ℕ
+minute_of o = option_map (λ m. m.at) o
+
+-- it is the event where the last tour began
+event-begun : (s : Stage) (start : Option ℕ) (e : Event) → option_or (minute_of (last_begins (marks_of s e))) start ≡ begun s start e
+event-begun s start (event.Ride t) = go (is_off s)
+  where
+    go : (b : Bool) → option_or (minute_of (cond b (Some (record { at = t; leads = Rattle.duty_events.specs.MinuteKind.ToRiding; begins = b })) None)) start ≡ (if b then Some t else start)
+    go true = refl
+    go false = refl
+event-begun s start (event.Duty t) = go (is_off s)
+  where
+    go : (b : Bool) → option_or (minute_of (cond b (Some (record { at = t; leads = Rattle.duty_events.specs.MinuteKind.ToDuty; begins = b })) None)) start ≡ (if b then Some t else start)
+    go true = refl
+    go false = refl
+event-begun s start (event.Interim t k place) = refl
+event-begun s start (event.Resume t) = refl
+event-begun s start (event.Relieve t) = refl
+event-begun s start (event.RideHome t) = refl
+event-begun s start (event.Final t place) = refl
+event-begun s start (event.Other span place) = refl
+
+minute_of-or : (a b : Option Mark) (start : Option ℕ) → option_or (minute_of (option_or a b)) start ≡ option_or (minute_of a) (option_or (minute_of b) start)
+minute_of-or None b start = refl
+minute_of-or (Some m) b start = refl
+
+marks-begun : (s : Stage) (start : Option ℕ) (es : List Event) → option_or (minute_of (last_begins (marks_from s es))) start ≡ start_from s start es
+marks-begun s start [] = refl
+marks-begun s start (e ∷ es) =
+    let later = marks_from (stage_after s e) es in
+    ap (λ xs. option_or (minute_of (find (λ m. m.begins) xs)) start) (reverse-append (marks_of s e) later)
+    ∙ ap (λ o. option_or (minute_of o) start) (find-append (λ m. m.begins) (reverse later) (reverse (marks_of s e)))
+    ∙ minute_of-or (last_begins later) (last_begins (marks_of s e)) start
+    ∙ ap (option_or (minute_of (last_begins later))) (event-begun s start e)
+    ∙ marks-begun (stage_after s e) (begun s start e) es
+
+-- a minute from there on is of that tour
+find-narrow : (t : ℕ) (xs : List Mark) (m : Mark) → find (λ x. x.begins) xs ≡ Some m → m.at ≤ t → find (λ x. nat_le x.at t && x.begins) xs ≡ Some m
+find-narrow t [] m found from = cc
+find-narrow t (x ∷ xs) m found from = go x.begins refl found (find-narrow t xs m)
+  where
+    and-false : (b : Bool) → (b && false) ≡ false
+    and-false true = refl
+    and-false false = refl
+
+    go : (b : Bool) → x.begins ≡ b → cond b (Some x) (find (λ x. x.begins) xs) ≡ Some m
+        → (find (λ x. x.begins) xs ≡ Some m → m.at ≤ t → find (λ x. nat_le x.at t && x.begins) xs ≡ Some m)
+        → cond (nat_le x.at t && x.begins) (Some x) (find (λ x. nat_le x.at t && x.begins) xs) ≡ Some m
+    go true is found rest =
+        let same : x ≡ m = same_Some x m found in
+        let by : nat_le x.at t ≡ true = le-leb x.at t (subst (λ y. y.at ≤ t) (sym same) from) in
+        ap (λ c. cond c (Some x) (find (λ y. nat_le y.at t && y.begins) xs)) (ap (λ b. b && x.begins) by ∙ is) ∙ found
+    go false is found rest =
+        ap (λ c. cond c (Some x) (find (λ y. nat_le y.at t && y.begins) xs)) (ap (λ b. nat_le x.at t && b) is ∙ and-false (nat_le x.at t)) ∙ rest found from
+
+tour_start-begun : (es : List Event) (start t : ℕ) → last_begun es ≡ Some start → start ≤ t → tour_start es t ≡ start
+unfolding tour_start
+tour_start-begun es start t is from = go (last_begins (marks es)) refl (marks-begun stage.Off None es ∙ is)
+  where
+    go : (o : Option Mark) → last_begins (marks es) ≡ o → option_or (minute_of o) None ≡ Some start → start_at (tour_mark (marks es) t) ≡ start
+    go None found same = cc
+    go (Some m) found same =
+        let at : m.at ≡ start = same_Some m.at start same in
+        ap start_at (find-narrow t (reverse (marks es)) m found (omega (arith, at, from))) ∙ at
+
+-- the minutes of a tour that has ended, by what a minute's tour begins at, and the latest minute
+abbrev Owns : (ℕ → ℕ) → ℕ → Option Tour → Type 0
+Owns begins_at latest None = Unit {0}
+Owns begins_at latest (Some tour) = (tour.end ≤ latest) × ((t : ℕ) → tour.start ≤ t → t < tour.end → begins_at t ≡ tour.start)
+
+owns-later : (before after : ℕ → ℕ) (m first last : ℕ) (old : Option Tour) → m ≤ first → first ≤ last → ((t : ℕ) → t < first → after t ≡ before t) → Owns before m old → Owns after last old
+owns-later before after m first last None order whole same owns = tt
+owns-later before after m first last (Some tour) order whole same owns = (
+  omega (arith, owns.0, order, whole),
+  λ t from to. same t (omega (arith, to, owns.0, order)) ∙ owns.1 t from to,
+)
+
+ends-by : (s : Stage) (m t : ℕ) → IsSince s m → m ≤ t → tour_end s t ≤ t
+ends-by (stage.Interim k since at) m t is order = omega (arith, is, order)
+ends-by stage.Off m t is order = omega arith
+ends-by stage.Riding m t is order = omega arith
+ends-by stage.Duty m t is order = omega arith
+ends-by stage.Waiting m t is order = omega arith
+ends-by stage.RidingHome m t is order = omega arith
+
+owns-more : (before after : ℕ → ℕ) (s : Stage) (start : Option ℕ) (e : Event) (m : ℕ) (old : Option Tour) → IsSince s m → m ≤ first_minute e → first_minute e ≤ last_minute e
+    → ((t : ℕ) → t < first_minute e → after t ≡ before t) → ((k t : ℕ) → start ≡ Some k → k ≤ t → before t ≡ k) → Owns before m old
+    → Owns after (last_minute e) (option_or (ended s start e) old)
+owns-more before after s None e m old since order whole same running owns = owns-later before after m (first_minute e) (last_minute e) old order whole same owns
+owns-more before after s (Some k) (event.Final u place) m old since order whole same running owns =
+    let by = ends-by s m u since order in (
+      by,
+      λ t from to. same t (omega (arith, to, by)) ∙ running k t refl from,
+    )
+owns-more before after s (Some k) e m old since order whole same running owns = owns-later before after m (first_minute e) (last_minute e) old order whole same owns
+
+owns-next : (es : List Event) (i : ℕ) (e : Event) → IsLawful es → i < length es → e ≡ get_or es i e → IsSince (stage_of (take i es)) (reached (last_event (take i es)))
+    → Owns (tour_start (take i es)) (reached (last_event (take i es))) (last_tour (take i es))
+    → Owns (tour_start (take (i + 1) es)) (reached (last_event (take (i + 1) es))) (last_tour (take (i + 1) es))
+owns-next es i e lawful within is since owns =
+    let old = take i es in
+    let next = lawful-here es i e lawful within is in
+    let more =
+    owns-more (tour_start old) (tour_start (old ++ e ∷ [])) (stage_of old) (last_begun old) e (reached (last_event old)) (last_tour old) since
+    (follows-reached (last_event old) (stage_of old) e next) next.whole
+    (λ t early. tour_start-early old e t next.whole early)
+    (λ k t begun from. tour_start-begun old k t begun from)
+    owns
+    in
+    rw (last_tour-next es i e within is, last_event-next es i e within is, take-push es i e within is) more
+
+record Kept (es : List Event) : Type 0 where
+  since : IsSince (stage_of es) (reached (last_event es))
+  owns : Owns (tour_start es) (reached (last_event es)) (last_tour es)
+
+kept-take : (es : List Event) → IsLawful es → (i : ℕ) → i ≤ length es → Kept (take i es)
+kept-take es lawful zero within = record { since = tt; owns = subst (Owns (tour_start []) 0) (sym last_tour-nil) tt }
+kept-take es lawful (suc i) within =
+    let next : i + 1 ≡ suc i = omega arith in
+    elim (slice_get_cases es i).1 [
+      | inl here ↦
+          let kept = kept-take es lawful i (omega (arith, within)) in
+          subst (λ n. Kept (take n es)) next (record {
+            since = since-next es i here.0 lawful here.1 (sym here.3);
+            owns = owns-next es i here.0 lawful here.1 (sym here.3) kept.since kept.owns;
+          })
+      | inr past ↦ absurd (omega (arith, past.0, within))
+    ]
+
+pub last_tour-minutes : (es : List Event) (tour : Tour) → IsLawful es → last_tour es ≡ Some tour → (t : ℕ) → tour.start ≤ t → t < tour.end → tour_start es t ≡ tour.start
+last_tour-minutes es tour lawful is t from to =
+    let kept = subst Kept (take_all (length es) es (omega arith)) (kept-take es lawful (length es) (omega arith)) in
+    let owns : Owns (tour_start es) (reached (last_event es)) (Some tour) = subst (Owns (tour_start es) (reached (last_event es))) is kept.owns in
+    owns.1 t from to
