@@ -18,8 +18,8 @@ use Rattle.consecutive_days.specs.Days.{days_ok, DaysOk}
 abbrev pub rest_row : List Event → ℕ → Option Bar
 rest_row es report = if rest_ok es report 0 then None else Some (bar.Rest (off_from es + 600))
 
--- 21103(c)(4): as much more as the last tour had over twelve hours; keeps the end of rest. Both minutes are kept as they
--- are also where a tour closed with no minutes and the person has rested later than that
+-- 21103(c)(4): as much more as the last tour had over twelve hours; keeps the end of rest. Where a tour closed with no
+-- minutes the person may have rested only later than the minute that either row keeps
 abbrev pub more_rest_row : List Event → ℕ → Option Bar
 more_rest_row es report = if rest_ok es report (excess es) then None else Some (bar.MoreRest (rest_end es))
 
