@@ -1,4 +1,5 @@
-ghost use Rattle.std.specs.Prelude.{◌≡◌, IfSome, [], ◌∷◌};
+ghost use Rattle.std.specs.Prelude.{◌≡◌, ◌==◌, None, Some, IfSome, if◌then◌else◌, [], ◌∷◌};
+ghost use Rattle.denial_rules.specs.declared.bar.Bar.TheVariants as bar;
 ghost use Rattle.duty_events.specs.Lists.{IsLawful};
 ghost use Rattle.denial_rules.specs.Bar.{HasItsValues};
 ghost use Rattle.denial_rules.specs.Table.{first_some};
@@ -20,7 +21,16 @@ pub(crate) fn days_bar(events: &[Event], home: Code, report: Minute) -> Option<B
         return None;
     }
     let run = run_days(events);
-    let need = need(run);
+    bar_of(run, need(run))
+}
+
+// The bar of so many days in a row that need so many minutes off.
+fn bar_of(run: u32, need: u32) -> Option<Bar>
+    ensures value { result ≡ first_some (
+        (if need == 2_880 then Some (bar.SixDays run need) else None)
+        ∷ (if need == 4_320 then Some (bar.SevenDays run need) else None) ∷ []) }
+    ensures range { IfSome result HasItsValues }
+{
     match need {
         2_880 => Some(Bar::SixDays { run, need }),
         4_320 => Some(Bar::SevenDays { run, need }),

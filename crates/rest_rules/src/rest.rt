@@ -1,4 +1,4 @@
-ghost use Rattle.std.specs.Prelude.{◌≡◌, ℕ, ◌<◌, ◌≤◌, ◌⊎◌, nat_le};
+ghost use Rattle.std.specs.Prelude.{◌≡◌, ℕ, ◌+◌, ◌<◌, ◌≤◌, ◌^◌, ◌⊎◌, nat_le};
 ghost use Rattle.std.specs.Bool.{Decides};
 ghost use Rattle.stretches.specs.Stretch.{has_stretch};
 ghost use Rattle.duty_events.specs.declared.stage.Stage.TheVariants as stage;
@@ -23,7 +23,15 @@ pub fn rest_ok(events: &[Event], at: Minute, more: u32) -> bool
     if off_from == 0 {
         return true;
     }
-    off_from + 600 <= at.number() && was_off(events, 600 + u64::from(more), at)
+    are_ten_hours(off_from, at.number()) && was_off(events, 600 + u64::from(more), at)
+}
+
+// Ten hours at least lie between a minute and another.
+fn are_ten_hours(from: u64, to: u64) -> bool
+    requires { from < 2 ^ 28 }
+    ensures { result ≡ nat_le (from + 600) to }
+{
+    from + 600 <= to
 }
 
 /// The minute at which rest ends, by a lawful list of events after which no tour runs: 0 where no minute is worked; ten
