@@ -22,9 +22,9 @@ pub record SpellsMonth (text : List ℕ) (month : ℕ) : Type 0 where
   pub year : 100 * spelled text 0 + spelled text 2 ≡ year_of month
   pub place : spelled text 5 ≡ place_in_year month
 
-pub month_text_spells : (text : List ℕ) (month : ℕ) → IsMonthInYears month → text ≡ month_text month → SpellsMonth text month
+pub month_text_spells : (text : List ℕ) (month : ℕ) → text ≡ month_text month → SpellsMonth text month
 unfolding month_text
-month_text_spells text month in_years e = record {
+month_text_spells text month e = record {
   len = ap length e;
   year = ap (λ t. 100 * spelled t 0 + spelled t 2) e ∙ omega arith;
   place = ap (λ t. spelled t 5) e ∙ omega arith;

@@ -2,13 +2,14 @@
 use Rattle.std.specs.Prelude.{ℕ, ◌/◌, ◌%◌, ◌<◌, ◌≤◌, Bool, ◌&&◌, nat_lt, nat_le, List, ◌∷◌, ◌++◌}
 use Rattle.desk_base.specs.Month.{month_of_day, two_digits}
 use Rattle.desk_base.specs.Day.{day_of, day_text}
+use Rattle.desk_base.specs.declared.minute.TheConstants.{YEARS_BEGIN, YEARS_END}
 
 -- from 2000-01-01 00:00 to 2099-12-31 23:59
 abbrev pub IsInYears : ℕ → Type 0
-IsInYears minute = (15_778_080 ≤ minute) × (minute < 68_374_080)
+IsInYears minute = (YEARS_BEGIN ≤ minute) × (minute < YEARS_END)
 
 abbrev pub is_in_years : ℕ → Bool
-is_in_years minute = nat_le 15_778_080 minute && nat_lt minute 68_374_080
+is_in_years minute = nat_le YEARS_BEGIN minute && nat_lt minute YEARS_END
 
 -- the month of a minute
 abbrev pub month_of : ℕ → ℕ

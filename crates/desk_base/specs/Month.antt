@@ -1,6 +1,7 @@
 -- Months, numbered from January 1970, which is 0, on the civil calendar of `jiff`.
 use Rattle.std.specs.Prelude.{ℕ, zero, suc, ◌+◌, ◌-◌, ◌*◌, ◌/◌, ◌%◌, ◌<◌, ◌≤◌, List, ◌∷◌, [], ◌++◌, pos, nat_le, if◌then◌else◌}
 use Rattle.jiff_core.specs.Calendar.{day_count, days_in_month}
+use Rattle.desk_base.specs.declared.month.TheConstants.{MONTHS_BEGIN, MONTHS_END}
 
 -- the civil year of a month
 abbrev pub year_of : ℕ → ℕ
@@ -38,7 +39,7 @@ pub record IsMonthOf (day month : ℕ) : Type 0 where
 
 -- a month of the years 2000 to 2099
 abbrev pub IsMonthInYears : ℕ → Type 0
-IsMonthInYears month = (360 ≤ month) × (month < 1560)
+IsMonthInYears month = (MONTHS_BEGIN ≤ month) × (month < MONTHS_END)
 
 -- two decimal digits
 abbrev pub two_digits : ℕ → List ℕ

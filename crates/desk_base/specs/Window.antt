@@ -1,6 +1,8 @@
 -- Windows of calendar months.
 use Rattle.std.specs.Prelude.{ℕ, ◌+◌, ◌<◌, ◌≤◌}
 use Rattle.desk_base.specs.Month.{first_minute}
+use Rattle.desk_base.specs.declared.month.TheConstants.{MONTHS_BEGIN, MONTHS_END}
+use Rattle.desk_base.specs.declared.window.TheConstants.{WINDOW_MONTHS}
 
 -- the first month, and how many there are
 pub record WindowValue : Type 0 where
@@ -13,9 +15,9 @@ window_of first months = record { first = first; months = months }
 -- 1 to 24 months that lie in the years 2000 to 2099
 pub record IsWindow (w : WindowValue) : Type 0 where
   pub some : 1 ≤ w.months
-  pub most : w.months ≤ 24
-  pub begins : 360 ≤ w.first
-  pub ends : w.first + w.months ≤ 1560
+  pub most : w.months ≤ WINDOW_MONTHS
+  pub begins : MONTHS_BEGIN ≤ w.first
+  pub ends : w.first + w.months ≤ MONTHS_END
 
 -- the window's first minute
 abbrev pub start_of : WindowValue → ℕ

@@ -5,10 +5,15 @@ ghost use Rattle.jiff_core.specs.Date.{epoch_day, IsYmd};
 ghost use Rattle.desk_base.specs.Month.{first_day, year_of, place_in_year, IsMonthOf, IsMonthInYears};
 ghost use Rattle.desk_base.specs.Civil.{IsMonthAt};
 
-use jiff_core::civil::Date;
+use jiff::ToSpan;
+use jiff::civil::{Date, date};
 
-// The days from -9999-01-01, from which `jiff` counts, to 1970-01-01.
-const BEFORE_1970: u32 = 4_371_587;
+// The day from which days are counted.
+fn epoch() -> Date
+    ensures { epoch_day result ≡ pos 0 }
+{
+    date(1970, 1, 1)
+}
 
 /// The date of that day.
 pub fn date_of(day: u32) -> Date
@@ -17,7 +22,7 @@ pub fn date_of(day: u32) -> Date
     ensures first { pos 1970 ≤ℤ result.year }
     ensures last { result.year ≤ℤ pos 2480 }
 {
-    Date::from_days_since_min(day + BEFORE_1970)
+    epoch() + i64::from(day).days()
 }
 
 /// The number of that date's day.
@@ -25,7 +30,7 @@ pub fn day_of(date: Date) -> u32
     requires { pos 1970 ≤ℤ date.year }
     ensures { epoch_day date ≡ pos result }
 {
-    date.days_since_min() - BEFORE_1970
+    (date.duration_since(epoch()).as_hours() / 24) as u32
 }
 
 /// The number of that day, if the calendar has it and it is of the years 2000 to 2099.
@@ -52,12 +57,20 @@ fn date_at(year: u16, place: u8, day: u8) -> Option<Date>
     Date::new(year as i16, place as i8, day as i8).ok()
 }
 
+/// The first date of that month.
+pub fn first_of(month: u16) -> Date
+    requires { month ≤ 6124 }
+    ensures { IsYmd (pos (year_of month)) (pos (place_in_year month)) (pos 1) result }
+{
+    date((1970 + month / 12) as i16, (month % 12 + 1) as i8, 1)
+}
+
 /// The first day of that month.
 pub fn first_day_of(month: u16) -> u32
     requires { month ≤ 6124 }
     ensures { result ≡ first_day month }
 {
-    day_of(Date::constrain((1970 + month / 12) as i16, (month % 12 + 1) as u8, 1))
+    day_of(first_of(month))
 }
 
 /// The month in which that date lies.
@@ -66,5 +79,5 @@ pub fn month_at(date: Date) -> u16
     requires high { date.year ≤ℤ pos 2480 }
     ensures { IsMonthAt result date }
 {
-    ((date.year - 1970) as u16) * 12 + u16::from(date.month) - 1
+    (date.year() - 1970) as u16 * 12 + date.month() as u16 - 1
 }

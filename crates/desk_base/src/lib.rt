@@ -18,14 +18,14 @@ mod window;
 pub use code::Code;
 pub use day::Day;
 pub use decimal::read_decimal;
-pub use minute::Minute;
-pub use month::Month;
+pub use minute::{Minute, YEARS_BEGIN, YEARS_END};
+pub use month::{MONTHS_BEGIN, MONTHS_END, Month};
 pub use no_memory::NoMemory;
 pub use parts::split_once;
 pub use person_no::PersonNo;
 pub use span::Span;
 pub use vac_no::VacNo;
-pub use window::Window;
+pub use window::{WINDOW_MONTHS, Window};
 
 #[cfg(test)]
 mod tests;

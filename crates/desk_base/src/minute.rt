@@ -10,6 +10,12 @@ use crate::civil::day_number;
 use crate::digits::{digits_of, number_of};
 use std::marker::Model;
 
+/// The first minute of the years 2000 to 2099: 2000-01-01 00:00.
+pub const YEARS_BEGIN: u64 = 15_778_080;
+
+/// The first minute behind them: 2100-01-01 00:00.
+pub const YEARS_END: u64 = 68_374_080;
+
 /// A minute of the desk's one civil time, counted from 1970-01-01 00:00, below 2^28 (in the year 2480).
 #[derive(Clone, Copy, Debug, PartialEq, Eq, PartialOrd, Ord, Hash)]
 pub struct Minute(u64);
@@ -70,7 +76,7 @@ impl Minute {
         ensures value { result ≡ is_in_years self }
         ensures lies { Decides result (IsInYears self) }
     {
-        self.0 >= 15_778_080 && self.0 < 68_374_080
+        self.0 >= YEARS_BEGIN && self.0 < YEARS_END
     }
 
     /// The minute of the text `YYYY-MM-DD HH:MM`, of a real date of the years 2000 to 2099, hours 00 to 23
@@ -99,9 +105,8 @@ impl Minute {
         }
     }
 
-    /// The text `YYYY-MM-DD HH:MM` of a minute of the years 2000 to 2099: its civil date and time of day.
+    /// The text `YYYY-MM-DD HH:MM` of the minute: its civil date and time of day.
     pub fn write(self) -> [u8; 16]
-        requires { IsInYears self }
         ensures text { result ≡ minute_text self }
         ensures civil { (date : Date) (hour past : ℕ) → IsMinuteAt self date hour past
             → result ≡ civil_text date hour past }

@@ -1,15 +1,21 @@
 ghost use Rattle.std.specs.Prelude.{◌≡◌, ℕ, ◌+◌, ◌≤◌, ◌<◌, IfSome};
 ghost use Rattle.std.specs.Option.{SomeIff};
+ghost use Rattle.std.specs.Bool.{Decides};
 ghost use Rattle.desk_base.specs.Month.{first_minute, minutes_of, month_text, IsMonthInYears};
 ghost use Rattle.desk_base.specs.Minute.{month_of};
 ghost use Rattle.desk_base.specs.Civil.{IsMinuteAt, IsMonthAt};
 ghost use Rattle.jiff_core.specs.declared.civil.date.Date.{Date};
 
-use crate::civil::{date_of, first_day_of, month_at};
+use crate::civil::{date_of, first_day_of, first_of, month_at};
 use crate::digits::{digits_of, number_of};
 use crate::{Day, Minute};
-use jiff_core::civil::days_in_month;
 use std::marker::Model;
+
+/// January 2000, the first month of the years 2000 to 2099.
+pub const MONTHS_BEGIN: u16 = 360;
+
+/// January 2100, the first month behind them.
+pub const MONTHS_END: u16 = 1560;
 
 /// A calendar month, by its number from January 1970, which is 0, up to the month of the last minute, May 2480.
 #[derive(Clone, Copy, Debug, PartialEq, Eq, PartialOrd, Ord, Hash)]
@@ -47,6 +53,13 @@ impl Month {
         self.0
     }
 
+    /// Whether it is of the years 2000 to 2099.
+    pub fn is_in_years(self) -> bool
+        ensures { Decides result (IsMonthInYears self) }
+    {
+        self.0 >= MONTHS_BEGIN && self.0 < MONTHS_END
+    }
+
     // The month that comes so many months after this one.
     pub(crate) fn after(self, months: u8) -> Month
         requires { self + months ≤ 6124 }
@@ -78,7 +91,7 @@ impl Month {
         ensures value { result ≡ minutes_of self }
         ensures next { first_minute self + result ≡ first_minute (self + 1) }
     {
-        1440 * u32::from(days_in_month((1970 + self.0 / 12) as i16, (self.0 % 12 + 1) as u8))
+        1440 * first_of(self.0).days_in_month() as u32
     }
 
     /// The month of the text `YYYY-MM`, of the years 2000 to 2099; `None` for any other text.
@@ -104,9 +117,8 @@ impl Month {
         }
     }
 
-    /// The text `YYYY-MM` of a month of the years 2000 to 2099.
+    /// The text `YYYY-MM` of the month.
     pub fn write(self) -> [u8; 7]
-        requires { IsMonthInYears self }
         ensures { result ≡ month_text self }
     {
         let year = 1970 + self.0 / 12;

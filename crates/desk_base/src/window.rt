@@ -2,8 +2,11 @@ ghost use Rattle.std.specs.Prelude.{◌≡◌, ℕ, ◌≤◌, ◌<◌, ◌↔�
 ghost use Rattle.std.specs.Option.{SomeIff};
 ghost use Rattle.desk_base.specs.Window.{IsWindow, Holds, start_of, end_of, window_of};
 
-use crate::{Minute, Month};
+use crate::{MONTHS_BEGIN, MONTHS_END, Minute, Month};
 use std::marker::Model;
+
+/// How many months a window may have.
+pub const WINDOW_MONTHS: u8 = 24;
 
 /// 1 to 24 calendar months, one after another, within the years 2000 to 2099.
 #[derive(Clone, Copy, Debug, PartialEq, Eq, Hash)]
@@ -31,8 +34,8 @@ impl Window {
         ensures { SomeIff result (IsWindow (window_of first months)) (window_of first months) }
     {
         let number = first.number();
-        let in_years = number >= 360 && number + u16::from(months) <= 1560;
-        if months >= 1 && months <= 24 && in_years {
+        let in_years = number >= MONTHS_BEGIN && number + u16::from(months) <= MONTHS_END;
+        if months >= 1 && months <= WINDOW_MONTHS && in_years {
             Some(Window { first, months })
         } else {
             None

@@ -18,9 +18,6 @@ place_bound : (day : ℕ) → place_in_month day ≤ 31
 place_bound day =
     omega (arith, (month_of_day_is day).not_over, first_day-next (month_of_day day), (length_of_bounds (month_of_day day)).1)
 
-pub write-requires : goal.write-requires
-write-requires c = rw c.of-month.ensures.value (month_in_years _ _ (month_of_day_is (day_of c.args.self)) (omega arith) (omega arith))
-
 pub overflow_cast-day : goal.overflow_cast-day
 overflow_cast-day c = omega (arith, place_is c, place_bound (day_of c.args.self))
 
