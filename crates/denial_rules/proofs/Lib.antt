@@ -1,3 +1,1 @@
-pub mod EqualityLemmas
-pub mod MissingLemmas
 pub mod TableLemmas

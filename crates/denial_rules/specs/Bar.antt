@@ -1,6 +1,9 @@
 -- The names of the bars.
-use Rattle.std.specs.Prelude.{ℕ, ◌≤◌, ⊤, List, codes}
+use Rattle.std.specs.Prelude.{ℕ, ◌<◌, ◌≤◌, ◌^◌, ⊤, List, codes}
+use Rattle.desk_base.specs.declared.minute.TheConstants.{YEARS_BEGIN}
+use Rattle.desk_base.specs.Code.{IsCode}
 use Rattle.desk_base.specs.Month.{IsMonthInYears}
+use Rattle.desk_base.specs.Number.{IsNumber}
 use Rattle.denial_rules.specs.declared.bar.Bar.{Bar}
 use Rattle.denial_rules.specs.declared.bar.Bar.TheVariants as bar
 
@@ -22,21 +25,18 @@ name_of (bar.SevenDays run need) = codes "21103(a)(4)(A)(ii)"
 name_of (bar.MonthHours month total) = codes "21103(a)(1)"
 name_of (bar.LimboHours month total) = codes "21103(c)(1)"
 
--- what a bar keeps can be written: the minute at which a rest ends isn't before the year 2000, and may lie behind 2099;
--- the month lies in the years 2000 to 2099; and a qualification has a number of 0 to 63
-abbrev pub HasItsValues : Bar → Type 0
-HasItsValues (bar.Rest ends) = 15_778_080 ≤ ends
-HasItsValues (bar.MoreRest ends) = 15_778_080 ≤ ends
-HasItsValues (bar.Undisturbed ends) = 15_778_080 ≤ ends
-HasItsValues (bar.MonthHours month total) = IsMonthInYears month
-HasItsValues (bar.LimboHours month total) = IsMonthInYears month
-HasItsValues (bar.Lacks number) = number ≤ 63
-HasItsValues bar.MarkedOff = ⊤
-HasItsValues bar.InTour = ⊤
-HasItsValues (bar.Assigned vacancy) = ⊤
-HasItsValues (bar.OnOffer vacancy) = ⊤
-HasItsValues (bar.Elsewhere place) = ⊤
-HasItsValues (bar.OtherCraft craft) = ⊤
-HasItsValues bar.Answered = ⊤
-HasItsValues (bar.SixDays run need) = ⊤
-HasItsValues (bar.SevenDays run need) = ⊤
+-- each value that a bar keeps is in its range: a vacancy's number, a place, a qualification of 0 to 63, a minute from the
+-- year 2000 on, which may lie behind 2099, a month of the years 2000 to 2099, and numbers of 32 bits
+abbrev pub FitsBar : Bar → Type 0
+FitsBar (bar.Assigned vacancy) = IsNumber vacancy
+FitsBar (bar.OnOffer vacancy) = IsNumber vacancy
+FitsBar (bar.Elsewhere place) = IsCode place
+FitsBar (bar.Lacks number) = number ≤ 63
+FitsBar (bar.Rest ends) = (YEARS_BEGIN ≤ ends) × (ends < 2 ^ 28)
+FitsBar (bar.MoreRest ends) = (YEARS_BEGIN ≤ ends) × (ends < 2 ^ 28)
+FitsBar (bar.Undisturbed ends) = (YEARS_BEGIN ≤ ends) × (ends < 2 ^ 28)
+FitsBar (bar.SixDays run need) = (run < 2 ^ 32) × (need < 2 ^ 32)
+FitsBar (bar.SevenDays run need) = (run < 2 ^ 32) × (need < 2 ^ 32)
+FitsBar (bar.MonthHours month total) = IsMonthInYears month × (total < 2 ^ 32)
+FitsBar (bar.LimboHours month total) = IsMonthInYears month × (total < 2 ^ 32)
+FitsBar other = ⊤

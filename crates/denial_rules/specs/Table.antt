@@ -1,20 +1,12 @@
 -- The table of bars: its rows, in order, and the first that holds.
-use Rattle.std.specs.Prelude.{◌≡◌, ℕ, ◌≤◌, Bool, true, false, IsTrue, IsNone, Option, None, Some, if◌then◌else◌, List, [], ◌∷◌}
+use Rattle.std.specs.Prelude.{◌≡◌, IsTrue, IsNone, Option, None, Some, if◌then◌else◌, List, [], ◌∷◌}
 use Rattle.std.specs.Option.{option_map}
 use Rattle.std.specs.Str.{bytes_eq}
-use Rattle.qualifications.specs.declared.craft.Craft.{Craft}
-use Rattle.qualifications.specs.declared.craft.Craft.TheVariants as craft
-use Rattle.qualifications.specs.Quals.{has, lowest_missing}
+use Rattle.qualifications.specs.Craft.{craft_eq}
+use Rattle.qualifications.specs.Quals.{HasAll, lowest_missing}
 use Rattle.denial_rules.specs.declared.bar.Bar.{Bar}
 use Rattle.denial_rules.specs.declared.bar.Bar.TheVariants as bar
 use Rattle.denial_rules.specs.declared.facts.Facts.{Facts}
-
--- two crafts are one
-abbrev pub craft_eq : Craft → Craft → Bool
-craft_eq craft.E craft.E = true
-craft_eq craft.C craft.C = true
-craft_eq craft.B craft.B = true
-craft_eq one other = false
 
 -- B1: marked off
 abbrev pub marked_off_row : Facts → Option Bar
@@ -79,6 +71,6 @@ pub record IsFree (facts : Facts) : Type 0 where
   pub no_offer : IsNone facts.on_offer
   pub at_the_place : facts.place_is ≡ facts.place_asked
   pub of_the_craft : facts.craft_is ≡ facts.craft_asked
-  pub qualified : (number : ℕ) → number ≤ 63 → IsTrue (has facts.quals_asked number) → IsTrue (has facts.quals_has number)
+  pub qualified : HasAll facts.quals_has facts.quals_asked
   pub not_answered : ¬ IsTrue facts.answered
   pub lawful : IsNone facts.law

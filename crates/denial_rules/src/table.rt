@@ -1,15 +1,13 @@
-ghost use Rattle.std.specs.Prelude.{◌≡◌, ◌↔◌, IsNone, IfSome};
-ghost use Rattle.denial_rules.specs.Bar.{HasItsValues};
+ghost use Rattle.std.specs.Prelude.{◌≡◌, ◌↔◌, IsNone};
 ghost use Rattle.denial_rules.specs.Table.{first_bar, IsFree};
 
 use crate::{Bar, Facts};
 
 /// The first bar that holds, this desk's own rules before the law; `None` where the person may be offered
-/// the vacancy. What it keeps can be written where what the law's bar keeps can be.
+/// the vacancy.
 pub fn first_bar(facts: &Facts) -> Option<Bar>
     ensures first { result ≡ first_bar facts.now }
     ensures free { IsNone result ↔ IsFree facts.now }
-    ensures range { IfSome facts.now.law HasItsValues → IfSome result HasItsValues }
 {
     if facts.marked_off {
         Some(Bar::MarkedOff)

@@ -6,7 +6,7 @@ ghost use Rattle.desk_base.specs.Code.{IsCode, is_code_byte, padded_code};
 use std::marker::Model;
 
 /// The code of a board, a place or a home: 1 to 6 bytes of A to Z and 0 to 9. A contract sees its text.
-#[derive(Clone, Copy, Debug, PartialEq, Eq, PartialOrd, Ord, Hash)]
+#[derive(Clone, Copy, Debug)]
 pub struct Code {
     bytes: [u8; 6],
     len: usize,
@@ -26,6 +26,26 @@ impl Model for Code {
     ghost inverse = { code_inside };
 
     ghost inverse_ok = { code_inside-code_text };
+}
+
+impl PartialEq for Code {
+    ghost use Rattle.std.specs.Str.{bytes_eq};
+    ghost use Rattle.std.specs.Cmp.{partial_equiv_from_equiv};
+    ghost use Rattle.std.proofs.lemmas.Cmp.{nat_list_eq_equiv};
+
+    ghost eq = { bytes_eq };
+
+    ghost laws = { partial_equiv_from_equiv nat_list_eq_equiv };
+
+    fn eq(&self, other: &Code) -> bool {
+        self.text() == other.text()
+    }
+}
+
+impl Eq for Code {
+    ghost use Rattle.std.proofs.lemmas.Cmp.{nat_list_eq_equiv};
+
+    ghost laws = { nat_list_eq_equiv };
 }
 
 impl Code {

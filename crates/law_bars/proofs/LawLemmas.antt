@@ -3,9 +3,6 @@ use Rattle.std.proofs.Common.{◌≡◌, ℕ, ◌+◌, ◌<◌, ◌≤◌, ◌�
 use Rattle.std.specs.Option.{option_or, option_map}
 use Rattle.std.proofs.lemmas.Bool.{false≢true, cases_lt}
 use Rattle.std.proofs.lemmas.Bool.Decides.{Decides-eqb}
-use Rattle.desk_base.specs.Minute.{IsInYears}
-use Rattle.desk_base.specs.Month.{IsMonthInYears, first_minute}
-use Rattle.desk_base.proofs.MonthLemmas.{first_day_mono, first_day-2000, first_day-2100}
 use Rattle.duty_events.specs.declared.event.Event.{Event}
 use Rattle.duty_events.specs.declared.stage.Stage.TheVariants as stage
 use Rattle.duty_events.specs.Lists.{IsLawful, stage_of}
@@ -44,22 +41,6 @@ law_bar-parts es home moment report duty limbo rest days hours rest_is days_is h
     let two = six_days_row es home report ∷ seven_days_row es home report ∷ [] in
     let three = month_row es report duty limbo ∷ limbo_row es report duty limbo ∷ [] in
     rw (rest_is, days_is, hours_is) (first_some-append one (two ++ three) ∙ ap (option_or (first_some one)) (first_some-append two three))
-
--- a month of a plan in the years 2000 to 2099 lies in these
-pub month-in_years : (m report end : ℕ) → IsInYears report → end ≤ 68_374_080 → report < first_minute (m + 1) → first_minute m < end → IsMonthInYears m
-month-in_years m report end in_years by from to = (low, high)
-  where
-    low : 360 ≤ m
-    low = elim (cases_lt m 360) [
-      | inl early ↦ absurd (omega (arith, in_years.0, from, first_day_mono (m + 1) 360 (omega (arith, early)), first_day-2000))
-      | inr late ↦ late
-    ]
-
-    high : m < 1560
-    high = elim (cases_lt m 1560) [
-      | inl early ↦ early
-      | inr late ↦ absurd (omega (arith, by, to, first_day_mono 1560 m late, first_day-2100))
-    ]
 
 -- a row that holds where something isn't so
 kept-none : (b : Bool) (held : Bar) → ((if b then None else Some held) ≡ None → b ≡ true) × (b ≡ true → (if b then None else Some held) ≡ None)

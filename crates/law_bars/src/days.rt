@@ -1,7 +1,6 @@
-ghost use Rattle.std.specs.Prelude.{◌≡◌, ◌==◌, None, Some, IfSome, if◌then◌else◌, [], ◌∷◌};
+ghost use Rattle.std.specs.Prelude.{◌≡◌, ◌==◌, None, Some, if◌then◌else◌, [], ◌∷◌};
 ghost use Rattle.denial_rules.specs.declared.bar.Bar.TheVariants as bar;
 ghost use Rattle.duty_events.specs.Lists.{IsLawful};
-ghost use Rattle.denial_rules.specs.Bar.{HasItsValues};
 ghost use Rattle.denial_rules.specs.Table.{first_some};
 ghost use Rattle.law_bars.specs.Law.{six_days_row, seven_days_row};
 
@@ -13,9 +12,8 @@ use duty_events::Event;
 /// The first bar of days in a row, from a job with this report.
 pub(crate) fn days_bar(events: &[Event], home: Code, report: Minute) -> Option<Bar>
     requires { IsLawful events.now }
-    ensures value { result ≡ first_some (six_days_row events.now home report
+    ensures { result ≡ first_some (six_days_row events.now home report
         ∷ seven_days_row events.now home report ∷ []) }
-    ensures range { IfSome result HasItsValues }
 {
     if days_ok(events, home, report) {
         return None;
@@ -26,10 +24,9 @@ pub(crate) fn days_bar(events: &[Event], home: Code, report: Minute) -> Option<B
 
 // The bar of so many days in a row that need so many minutes off.
 fn bar_of(run: u32, need: u32) -> Option<Bar>
-    ensures value { result ≡ first_some (
+    ensures { result ≡ first_some (
         (if need == 2_880 then Some (bar.SixDays run need) else None)
         ∷ (if need == 4_320 then Some (bar.SevenDays run need) else None) ∷ []) }
-    ensures range { IfSome result HasItsValues }
 {
     match need {
         2_880 => Some(Bar::SixDays { run, need }),

@@ -1,8 +1,6 @@
-ghost use Rattle.std.specs.Prelude.{◌≡◌, ◌+◌, ◌<◌, ◌≤◌, ◌^◌, IfSome, [], ◌∷◌};
+ghost use Rattle.std.specs.Prelude.{◌≡◌, ◌+◌, ◌<◌, ◌^◌, [], ◌∷◌};
 ghost use Rattle.duty_events.specs.Lists.{IsLawful};
-ghost use Rattle.denial_rules.specs.Bar.{HasItsValues};
 ghost use Rattle.denial_rules.specs.Table.{first_some};
-ghost use Rattle.desk_base.specs.Minute.{IsInYears};
 ghost use Rattle.law_bars.specs.Law.{month_row, limbo_row};
 
 use denial_rules::Bar;
@@ -15,9 +13,8 @@ use month_hours::{over_limbo, over_month};
 pub(crate) fn hours_bar(events: &[Event], report: Minute, duty: u32, limbo: u32) -> Option<Bar>
     requires lawful { IsLawful events.now }
     requires range { report + duty + limbo < 2 ^ 28 }
-    ensures value { result ≡ first_some (month_row events.now report duty limbo
+    ensures { result ≡ first_some (month_row events.now report duty limbo
         ∷ limbo_row events.now report duty limbo ∷ []) }
-    ensures range { IsInYears report → report + duty + limbo ≤ 68_374_080 → IfSome result HasItsValues }
 {
     if let Some(over) = over_month(events, report, duty, limbo) {
         return Some(Bar::MonthHours {

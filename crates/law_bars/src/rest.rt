@@ -1,7 +1,6 @@
-ghost use Rattle.std.specs.Prelude.{◌≡◌, IfSome, [], ◌∷◌};
+ghost use Rattle.std.specs.Prelude.{◌≡◌, [], ◌∷◌};
 ghost use Rattle.duty_events.specs.declared.stage.Stage.TheVariants as stage;
 ghost use Rattle.duty_events.specs.Lists.{IsLawful, stage_of};
-ghost use Rattle.denial_rules.specs.Bar.{HasItsValues};
 ghost use Rattle.denial_rules.specs.Table.{first_some};
 ghost use Rattle.law_bars.specs.Law.{rest_row, more_rest_row, undisturbed_row};
 
@@ -14,9 +13,8 @@ use rest_rules::{excess, off_from, rest_end, rest_ok};
 pub(crate) fn rest_bar(events: &[Event], moment: Minute, report: Minute) -> Option<Bar>
     requires lawful { IsLawful events.now }
     requires off { stage_of events.now ≡ stage.Off }
-    ensures value { result ≡ first_some (rest_row events.now report
+    ensures { result ≡ first_some (rest_row events.now report
         ∷ more_rest_row events.now report ∷ undisturbed_row events.now moment ∷ []) }
-    ensures range { IfSome result HasItsValues }
 {
     if !rest_ok(events, report, 0) {
         return Some(Bar::Rest(off_from(events).after(600)));

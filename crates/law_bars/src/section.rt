@@ -1,8 +1,6 @@
-ghost use Rattle.std.specs.Prelude.{◌≡◌, ◌+◌, ◌<◌, ◌≤◌, ◌^◌, ◌↔◌, IsNone, IfSome};
-ghost use Rattle.desk_base.specs.Minute.{IsInYears};
+ghost use Rattle.std.specs.Prelude.{◌≡◌, ◌+◌, ◌<◌, ◌^◌, ◌↔◌, IsNone};
 ghost use Rattle.duty_events.specs.declared.stage.Stage.TheVariants as stage;
 ghost use Rattle.duty_events.specs.Lists.{IsLawful, stage_of};
-ghost use Rattle.denial_rules.specs.Bar.{HasItsValues};
 ghost use Rattle.law_bars.specs.Law.{law_bar, KeepsLaw};
 
 use crate::days::days_bar;
@@ -15,7 +13,7 @@ use duty_events::Event;
 /// The first section of 49 USC 21103 that keeps someone from a job, by a lawful list of their events after which no tour
 /// runs: (a)(3), (c)(4) and (e) of rest, (a)(4)(A) of days in a row, (a)(1) and (c)(1) of a month's hours. The job has so
 /// many minutes on duty from its report on, and so many of limbo behind them; someone calls at the moment. There is none
-/// exactly where each section is kept. What the bar keeps can be written, where the plan lies in the years 2000 to 2099.
+/// exactly where each section is kept.
 pub fn law_bar(
     events: &[Event],
     home: Code,
@@ -29,7 +27,6 @@ pub fn law_bar(
     requires range { report + duty + limbo < 2 ^ 28 }
     ensures value { result ≡ law_bar events.now home moment report duty limbo }
     ensures free { IsNone result ↔ KeepsLaw events.now home moment report duty limbo }
-    ensures range { IsInYears report → report + duty + limbo ≤ 68_374_080 → IfSome result HasItsValues }
 {
     if let Some(bar) = rest_bar(events, moment, report) {
         return Some(bar);

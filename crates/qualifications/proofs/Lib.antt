@@ -1,2 +1,3 @@
 pub mod QualsLemmas
+pub mod MissingLemmas
 pub mod NumbersLemmas

@@ -1,5 +1,5 @@
 -- Sets of qualifications, each a number from 0 to 63 and kept as a bit.
-use Rattle.std.specs.Prelude.{ℕ, zero, suc, Bool, not, ◌&&◌, ◌==◌, Option, None, Some, if◌then◌else◌, List, [], ◌∷◌, ◌++◌, map, length, codes, decimal}
+use Rattle.std.specs.Prelude.{ℕ, ◌≤◌, IsTrue, zero, suc, Bool, not, ◌&&◌, ◌==◌, Option, None, Some, if◌then◌else◌, List, [], ◌∷◌, ◌++◌, map, length, codes, decimal}
 use Rattle.std.specs.Option.{option_or}
 use Rattle.std.specs.List.{join_with_byte}
 use Rattle.std.specs.Int.{bit_at}
@@ -16,6 +16,10 @@ lowest test (suc n) = option_or (lowest test n) (if test n then Some n else None
 -- the lowest number that is asked and not had
 abbrev pub lowest_missing : ℕ → ℕ → Option ℕ
 lowest_missing had asked = lowest (λ number. has asked number && not (has had number)) 64
+
+-- each number that is asked is had
+abbrev pub HasAll : ℕ → ℕ → Type 0
+HasAll had asked = (number : ℕ) → number ≤ 63 → IsTrue (has asked number) → IsTrue (has had number)
 
 -- the numbers below n that the set has, rising
 unfoldable pub numbers_below : ℕ → ℕ → List ℕ

@@ -3,7 +3,7 @@ ghost use Rattle.qualifications.specs.Craft.{craft_text};
 ghost use Rattle.qualifications.specs.declared.craft.Craft.{Craft as CraftValue};
 
 /// What a person works as, and what a vacancy asks for.
-#[derive(Clone, Copy, Debug, PartialEq, Eq, PartialOrd, Ord, Hash)]
+#[derive(Clone, Copy, Debug)]
 pub enum Craft {
     /// An engineer.
     E,
@@ -11,6 +11,28 @@ pub enum Craft {
     C,
     /// A brakeman.
     B,
+}
+
+impl PartialEq for Craft {
+    ghost use Rattle.std.specs.Cmp.{partial_equiv_from_equiv};
+    ghost use Rattle.qualifications.specs.Craft.{craft_eq, craft_eq-equivalence};
+
+    ghost eq = { craft_eq };
+
+    ghost laws = { partial_equiv_from_equiv craft_eq-equivalence };
+
+    fn eq(&self, other: &Craft) -> bool {
+        matches!(
+            (self, other),
+            (Craft::E, Craft::E) | (Craft::C, Craft::C) | (Craft::B, Craft::B)
+        )
+    }
+}
+
+impl Eq for Craft {
+    ghost use Rattle.qualifications.specs.Craft.{craft_eq-equivalence};
+
+    ghost laws = { craft_eq-equivalence };
 }
 
 impl Craft {

@@ -1,6 +1,6 @@
-ghost use Rattle.std.specs.Prelude.{◌≡◌, ◌≤◌, ◌<◌, ◌^◌, ◌+◌, ℕ, IfSome};
+ghost use Rattle.std.specs.Prelude.{◌≡◌, ◌↔◌, ◌≤◌, ◌<◌, ◌^◌, ◌+◌, ℕ, IfSome, IsNone};
 ghost use Rattle.arrayvec.specs.ArrayVec.{array_vec_len};
-ghost use Rattle.qualifications.specs.Quals.{has, lowest_missing, quals_text, with_number};
+ghost use Rattle.qualifications.specs.Quals.{has, lowest_missing, HasAll, quals_text, with_number};
 
 use arrayvec::ArrayVec;
 use desk_base::{read_decimal, split_once};
@@ -37,7 +37,9 @@ impl Quals {
 
     /// The lowest number that is asked and not in this set; `None` where all that is asked is.
     pub fn lowest_missing(self, asked: Quals) -> Option<u8>
-        ensures { result ≡ lowest_missing self asked }
+        ensures value { result ≡ lowest_missing self asked }
+        ensures none { IsNone result ↔ HasAll self asked }
+        ensures most { IfSome result (λ number. number ≤ 63) }
     {
         let missing = asked.0 & !self.0;
         if missing == 0 {
