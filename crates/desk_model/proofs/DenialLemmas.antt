@@ -12,13 +12,11 @@ use Rattle.desk_model.specs.declared.command.Cmd.TheVariants as cmd
 use Rattle.desk_model.specs.declared.person.Person.{Person}
 use Rattle.desk_model.specs.declared.link.Link.{Link}
 use Rattle.desk_model.specs.declared.reply.Reply.TheVariants as reply
-use Rattle.desk_model.specs.declared.vac_state.VacState.{VacState}
 use Rattle.desk_model.specs.declared.vac_state.VacState.TheVariants as state
-use Rattle.desk_model.specs.Opening.{OpeningValue}
 use Rattle.desk_model.specs.Entry.{EntryValue}
 use Rattle.desk_model.specs.Job.{JobValue}
-use Rattle.desk_model.specs.History.{is_done}
-use Rattle.desk_model.specs.Register.{makes, person_of, vacancy_of}
+use Rattle.desk_model.specs.History.{History, said, first_of}
+use Rattle.desk_model.specs.Register.{makes, person_of}
 use Rattle.desk_model.specs.Boards.{is_on, sent_to, keep_last, order, links, chain}
 use Rattle.desk_model.specs.Offers.{state_of}
 use Rattle.desk_model.specs.Bars.{bar_of, may_have, is_free, first_free}
@@ -26,11 +24,12 @@ use Rattle.desk_model.specs.NextAnswer.{choice_answer, state_answer, known_answe
 use Rattle.desk_model.specs.Denials.{IsOpen, IsBarred, IsClear, AreBarred, IsUnfilled, IsFirstClear}
 use Rattle.desk_model.specs.Legal.{IsLegal}
 use Rattle.desk_model.proofs.OrderLemmas.{same_number}
+use Rattle.desk_model.proofs.SaidLemmas.{said-some}
 use Rattle.desk_model.proofs.EnrolledLemmas.{on-enrolled}
 
 -- ---- all of a chain are enrolled
 
-abbrev IsEnrolled : List EntryValue → ℕ → Type 0
+abbrev IsEnrolled : History → ℕ → Type 0
 IsEnrolled h p = is_some (person_of h p) ≡ true
 
 filter-passes : (f : ℕ → Bool) (ps : List ℕ) → All (λ p. f p ≡ true) (filter f ps)
@@ -41,7 +40,7 @@ filter-passes f (p ∷ ps) = go (f p) refl (filter-passes f ps)
     go true is rest = All-cons (λ q. f q ≡ true) p (filter f ps) is rest
     go false is rest = rest
 
-links-enrolled : (h : List EntryValue) (b : List ℕ) (k : ℕ) (ps : List ℕ) → ((p : ℕ) → is_on h p b ≡ true → IsEnrolled h p) → All (λ p. is_on h p b ≡ true) ps
+links-enrolled : (h : History) (b : List ℕ) (k : ℕ) (ps : List ℕ) → ((p : ℕ) → is_on h p b ≡ true → IsEnrolled h p) → All (λ p. is_on h p b ≡ true) ps
     → All (λ (link : Link). IsEnrolled h link.person) (links b k ps)
 links-enrolled h b k [] known on = All-nil (λ (link : Link). IsEnrolled h link.person)
 links-enrolled h b k (p ∷ ps) known on =
@@ -49,17 +48,17 @@ links-enrolled h b k (p ∷ ps) known on =
     (known p (on 0 p (omega arith)))
     (links-enrolled h b (k + 1) ps known (All-tail (λ q. is_on h q b ≡ true) p ps on))
 
-chain-enrolled : (h : List EntryValue) (codes : List (List ℕ)) → ((p : ℕ) (b : List ℕ) → is_on h p b ≡ true → IsEnrolled h p)
+chain-enrolled : (h : History) (codes : List (List ℕ)) → ((p : ℕ) (b : List ℕ) → is_on h p b ≡ true → IsEnrolled h p)
     → All (λ (link : Link). IsEnrolled h link.person) (chain h codes)
 chain-enrolled h [] known = All-nil (λ (link : Link). IsEnrolled h link.person)
 chain-enrolled h (b ∷ codes) known =
     All-append (λ (link : Link). IsEnrolled h link.person) (links b 1 (order h b)) (chain h codes)
-    (links-enrolled h b 1 (order h b) (λ p. known p b) (filter-passes (λ p. is_on h p b) (keep_last (sent_to b [] h))))
+    (links-enrolled h b 1 (order h b) (λ p. known p b) (filter-passes (λ p. is_on h p b) (keep_last (sent_to h b))))
     (chain-enrolled h codes known)
 
 -- ---- one person
 
-barred-person : (h : List EntryValue) (m : ℕ) (job : JobValue) (p : ℕ) → IsEnrolled h p → is_free h m job p ≡ false → IsBarred h m job p
+barred-person : (h : History) (m : ℕ) (job : JobValue) (p : ℕ) → IsEnrolled h p → is_free h m job p ≡ false → IsBarred h m job p
 barred-person h m job p known held = go (person_of h p) refl known held
   where
     go : (found : Option Person) → person_of h p ≡ found → is_some found ≡ true → may_have h m job p found ≡ false → IsBarred h m job p
@@ -70,7 +69,7 @@ barred-person h m job p known held = go (person_of h p) refl known held
         by_bar None first held = absurd (false≢true (sym held))
         by_bar (Some bar) first held = record { person = person; bar = bar; enrolled = is; barred = first }
 
-clear-person : (h : List EntryValue) (m : ℕ) (job : JobValue) (p : ℕ) → is_free h m job p ≡ true → IsClear h m job p
+clear-person : (h : History) (m : ℕ) (job : JobValue) (p : ℕ) → is_free h m job p ≡ true → IsClear h m job p
 clear-person h m job p free = go (person_of h p) refl free
   where
     go : (found : Option Person) → person_of h p ≡ found → may_have h m job p found ≡ true → IsClear h m job p
@@ -81,15 +80,15 @@ clear-person h m job p free = go (person_of h p) refl free
         by_bar None first free = record { person = person; enrolled = is; clear = first }
         by_bar (Some bar) first free = absurd (false≢true free)
 
-not-free : (h : List EntryValue) (m : ℕ) (job : JobValue) (p : ℕ) → IsBarred h m job p → is_free h m job p ≡ false
+not-free : (h : History) (m : ℕ) (job : JobValue) (p : ℕ) → IsBarred h m job p → is_free h m job p ≡ false
 not-free h m job p b = ap (may_have h m job p) b.enrolled ∙ ap is_none b.barred
 
 -- ---- places of a chain
 
-abbrev are_free : List EntryValue → ℕ → JobValue → Link → Bool
+abbrev are_free : History → ℕ → JobValue → Link → Bool
 are_free h m job link = is_free h m job link.person
 
-none-barred : (h : List EntryValue) (m : ℕ) (job : JobValue) (places : List Link) → All (λ (link : Link). IsEnrolled h link.person) places
+none-barred : (h : History) (m : ℕ) (job : JobValue) (places : List Link) → All (λ (link : Link). IsEnrolled h link.person) places
     → find (are_free h m job) places ≡ None → AreBarred h m job places
 none-barred h m job [] known none = All-nil (λ (link : Link). IsBarred h m job link.person)
 none-barred h m job (link ∷ places) known none =
@@ -101,21 +100,21 @@ none-barred h m job (link ∷ places) known none =
     go false is none rest =
         All-cons (λ (x : Link). IsBarred h m job x.person) link places (barred-person h m job link.person (known 0 link (omega arith)) is) (rest none)
 
-barred-none : (h : List EntryValue) (m : ℕ) (job : JobValue) (places : List Link) → AreBarred h m job places → find (are_free h m job) places ≡ None
+barred-none : (h : History) (m : ℕ) (job : JobValue) (places : List Link) → AreBarred h m job places → find (are_free h m job) places ≡ None
 barred-none h m job [] barred = refl
 barred-none h m job (link ∷ places) barred =
     rw (not-free h m job link.person (barred 0 link (omega arith)))
     (barred-none h m job places (All-tail (λ (x : Link). IsBarred h m job x.person) link places barred))
 
 -- the first place whose person is free, and what stands before and behind it
-record Found (h : List EntryValue) (m : ℕ) (job : JobValue) (places : List Link) (link : Link) : Type 0 where
+record Found (h : History) (m : ℕ) (job : JobValue) (places : List Link) (link : Link) : Type 0 where
   before : List Link
   behind : List Link
   places_are : places ≡ before ++ link ∷ behind
   barred : AreBarred h m job before
   free : is_free h m job link.person ≡ true
 
-found-first : (h : List EntryValue) (m : ℕ) (job : JobValue) (places : List Link) (link : Link) → All (λ (x : Link). IsEnrolled h x.person) places
+found-first : (h : History) (m : ℕ) (job : JobValue) (places : List Link) (link : Link) → All (λ (x : Link). IsEnrolled h x.person) places
     → find (are_free h m job) places ≡ Some link → Found h m job places link
 found-first h m job [] link known found = cc
 found-first h m job (x ∷ places) link known found =
@@ -149,94 +148,62 @@ makes-vac v (cmd.Vacancy other) job made = go (nat_eq other.vac v) refl made
     go : (same : Bool) → nat_eq other.vac v ≡ same → cond same (Some other) None ≡ Some job → job.vac ≡ v
     go true is made = let same : other ≡ job = cc in ap (λ (x : JobValue). x.vac) (sym same) ∙ same_number other.vac v is
     go false is made = cc
-makes-vac v (cmd.Enrol person craft home quals) job made = cc
-makes-vac v (cmd.Board board extra place) job made = cc
-makes-vac v (cmd.List person board) job made = cc
-makes-vac v (cmd.Past person event) job made = cc
-makes-vac v (cmd.Happened person event) job made = cc
-makes-vac v (cmd.Next vac) job made = cc
-makes-vac v (cmd.Hours person month) job made = cc
-makes-vac v (cmd.Explain vac person) job made = cc
+makes-vac v other job made = cc
 
-made-vac : (h : List EntryValue) (v : ℕ) (job : JobValue) → vacancy_of h v ≡ Some job → job.vac ≡ v
-made-vac [] v job made = cc
-made-vac (e ∷ later) v job made = go (is_done e.reply) (makes v e.stated.cmd) refl made (made-vac later v job)
+made-vac : (v : ℕ) (es : List EntryValue) (job : JobValue) → first_of (said (makes v)) es ≡ Some job → job.vac ≡ v
+made-vac v [] job made = cc
+made-vac v (e ∷ later) job made = go (said (makes v) e) refl made (made-vac v later job)
   where
-    go : (done : Bool) (this : Option JobValue) → makes v e.stated.cmd ≡ this → option_or (cond done this None) (vacancy_of later v) ≡ Some job
-        → (vacancy_of later v ≡ Some job → job.vac ≡ v) → job.vac ≡ v
-    go true (Some other) is made rest = let same : other ≡ job = cc in subst (λ (x : JobValue). x.vac ≡ v) same (makes-vac v e.stated.cmd other is)
-    go true None is made rest = rest made
-    go false this is made rest = rest made
+    go : (this : Option JobValue) → said (makes v) e ≡ this → option_or this (first_of (said (makes v)) later) ≡ Some job
+        → (first_of (said (makes v)) later ≡ Some job → job.vac ≡ v) → job.vac ≡ v
+    go (Some other) is made rest =
+        let same : other ≡ job = cc in subst (λ (x : JobValue). x.vac ≡ v) same (makes-vac v e.stated.cmd other (said-some (makes v) e other is).1)
+    go None is made rest = rest made
 
 -- what is answered of a vacancy that is open
-open-answer : (h : List EntryValue) (m v : ℕ) (job : JobValue) → IsOpen h m v job
+open-answer : (h : History) (m v : ℕ) (job : JobValue) → IsOpen h m v job
     → next_answer h m v ≡ choice_answer (length (chain h job.chain)) (first_free h m job)
 open-answer h m v job is_open =
-    let vacant : state_of h job.vac ≡ state.Vacant = ap (state_of h) (made-vac h v job is_open.made) ∙ is_open.vacant in
+    let vacant : state_of h job.vac ≡ state.Vacant = ap (state_of h) (made-vac v h.entries job is_open.made) ∙ is_open.vacant in
     let in_time : nat_lt job.report m ≡ false = grind (arith, nat_tests, is_open.in_time) in
     ap (known_answer h m) is_open.made ∙ ap (state_answer h m job) vacant
     ∙ ap (λ late. cond late (reply.Lapsed job.report) (choice_answer (length (chain h job.chain)) (first_free h m job))) in_time
 
 -- it is unfilled where all are barred
-pub unfilled-barred : (o : OpeningValue) (h : List EntryValue) (m v : ℕ) (job : JobValue) → IsLegal o h → IsOpen h m v job
+pub unfilled-barred : (h : History) (m v : ℕ) (job : JobValue) → IsLegal h → IsOpen h m v job
     → IsUnfilled h job (next_answer h m v) → AreBarred h m job (chain h job.chain)
-unfilled-barred o h m v job legal is_open is = go (first_free h m job) refl (sym (open-answer h m v job is_open) ∙ is)
+unfilled-barred h m v job legal is_open is = go (first_free h m job) refl (sym (open-answer h m v job is_open) ∙ is)
   where
     go : (first : Option Link) → first_free h m job ≡ first → choice_answer (length (chain h job.chain)) first ≡ reply.Unfilled (length (chain h job.chain)) → AreBarred h m job (chain h job.chain)
-    go None first is = none-barred h m job (chain h job.chain) (chain-enrolled h job.chain (on-enrolled o h legal)) first
+    go None first is = none-barred h m job (chain h job.chain) (chain-enrolled h job.chain (on-enrolled h legal)) first
     go (Some link) first is = cc
 
-pub barred-unfilled : (h : List EntryValue) (m v : ℕ) (job : JobValue) → IsOpen h m v job → AreBarred h m job (chain h job.chain) → IsUnfilled h job (next_answer h m v)
+pub barred-unfilled : (h : History) (m v : ℕ) (job : JobValue) → IsOpen h m v job → AreBarred h m job (chain h job.chain) → IsUnfilled h job (next_answer h m v)
 barred-unfilled h m v job is_open barred =
     open-answer h m v job is_open ∙ ap (choice_answer (length (chain h job.chain))) (barred-none h m job (chain h job.chain) barred)
 
-abbrev link_of : List ℕ → ℕ → ℕ → Link
-link_of b k p = record { board = b; position = k; person = p }
-
--- it is offered to the first who is clear
-pub offered-first : (o : OpeningValue) (h : List EntryValue) (m v : ℕ) (job : JobValue) (p k : ℕ) (b : List ℕ) → IsLegal o h → vacancy_of h v ≡ Some job
-    → next_answer h m v ≡ reply.Offered p b k → IsFirstClear h m job (record { board = b; position = k; person = p })
-offered-first o h m v job p k b legal made is = by_state (state_of h job.vac) (sym (ap (known_answer h m) made) ∙ is)
-  where
-    chosen : (first : Option Link) → first_free h m job ≡ first → choice_answer (length (chain h job.chain)) first ≡ reply.Offered p b k
-        → IsFirstClear h m job (record { board = b; position = k; person = p })
-    chosen None first is = cc
-    chosen (Some link) first is =
-        let board : link.board ≡ b = cc in
-        let position : link.position ≡ k = cc in
-        let person : link.person ≡ p = cc in
-        let same : link ≡ record { board = b; position = k; person = p } = ap (λ x. link_of x link.position link.person) board ∙ ap (λ x. link_of b x link.person) position ∙ ap (link_of b k) person in
-        let found = found-first h m job (chain h job.chain) link (chain-enrolled h job.chain (on-enrolled o h legal)) first in
-        subst (IsFirstClear h m job) same (record {
-          before = found.before;
-          behind = found.behind;
-          chain_is = found.places_are;
-          barred = found.barred;
-          clear = clear-person h m job link.person found.free;
-        })
-
-    vacant : (late : Bool) → cond late (reply.Lapsed job.report) (choice_answer (length (chain h job.chain)) (first_free h m job)) ≡ reply.Offered p b k
-        → IsFirstClear h m job (record { board = b; position = k; person = p })
-    vacant true is = cc
-    vacant false is = chosen (first_free h m job) refl is
-
-    by_state : (how : VacState) → state_answer h m job how ≡ reply.Offered p b k → IsFirstClear h m job (record { board = b; position = k; person = p })
-    by_state (state.Taken q) is = cc
-    by_state (state.Begun q) is = cc
-    by_state state.Annulled is = cc
-    by_state (state.OnOffer q) is = cc
-    by_state state.Vacant is = vacant (nat_lt job.report m) is
+-- what a search finds is the first who is clear
+pub found-clear : (h : History) (m : ℕ) (job : JobValue) (link : Link) → IsLegal h → first_free h m job ≡ Some link → IsFirstClear h m job link
+found-clear h m job link legal first =
+    let found = found-first h m job (chain h job.chain) link (chain-enrolled h job.chain (on-enrolled h legal)) first in
+    record {
+      before = found.before;
+      behind = found.behind;
+      chain_is = found.places_are;
+      barred = found.barred;
+      clear = clear-person h m job link.person found.free;
+    }
 
 -- the first who is clear is offered it
-clear-free : (h : List EntryValue) (m : ℕ) (job : JobValue) (p : ℕ) → IsClear h m job p → is_free h m job p ≡ true
+clear-free : (h : History) (m : ℕ) (job : JobValue) (p : ℕ) → IsClear h m job p → is_free h m job p ≡ true
 clear-free h m job p c = ap (may_have h m job p) c.enrolled ∙ ap is_none c.clear
 
-clear-found : (h : List EntryValue) (m : ℕ) (job : JobValue) (link : Link) → IsFirstClear h m job link → first_free h m job ≡ Some link
+clear-found : (h : History) (m : ℕ) (job : JobValue) (link : Link) → IsFirstClear h m job link → first_free h m job ≡ Some link
 clear-found h m job link first =
     ap (find (are_free h m job)) first.chain_is
     ∙ find-append (are_free h m job) first.before (link ∷ first.behind)
     ∙ rw (barred-none h m job first.before first.barred, clear-free h m job link.person first.clear) refl
 
-pub first-offered : (h : List EntryValue) (m v : ℕ) (job : JobValue) (link : Link) → IsOpen h m v job → IsFirstClear h m job link
+pub first-offered : (h : History) (m v : ℕ) (job : JobValue) (link : Link) → IsOpen h m v job → IsFirstClear h m job link
     → next_answer h m v ≡ reply.Offered link.person link.board link.position
 first-offered h m v job link is_open first = open-answer h m v job is_open ∙ ap (choice_answer (length (chain h job.chain))) (clear-found h m job link first)

@@ -1,93 +1,120 @@
--- Legal histories: they grow by the entry that the rules give, and by no other.
-use Rattle.std.proofs.Common.{◌≡◌, ℕ, ◌<◌, ◌⊎◌, inl, inr, Some, List, [], ◌∷◌, ◌++◌, length, get_or, take, map, refl, sym, ap, subst, ◌∙◌, arith, append-nil, length-append, append_assoc}
-use Rattle.std.specs.List.{slice_get}
-use Rattle.std.proofs.Math.Seq.{take-append_seam, append_snoc}
-use Rattle.std.proofs.Math.ListN.{get_or-append}
-use Rattle.std.proofs.lemmas.Bool.{cases_order}
-use Rattle.std.proofs.lemmas.List.{take-append-le, map-append, get_or_push}
-use Rattle.std.proofs.lemmas.Option.{slice_get_within, get_or_from_slice_get, slice_get-get_or}
-use Rattle.desk_model.specs.Opening.{OpeningValue}
+-- Legal histories: they grow by the entries that the rules give, and by no others.
+use Rattle.std.proofs.Common.{◌≡◌, ◌⊎◌, inl, inr, ℕ, Bool, true, false, cond, Option, Some, List, [], ◌∷◌, ◌++◌, map, refl, sym, ap, subst, ◌∙◌, append-nil, append_assoc, arith}
+use Rattle.std.specs.List.{All}
+use Rattle.std.proofs.Math.Seq.{append_snoc}
+use Rattle.std.proofs.lemmas.Bool.{false≢true}
+use Rattle.std.proofs.lemmas.List.{map-append}
+use Rattle.std.proofs.lemmas.List.Elements.{All-nil, All-cons, All-tail, All-append}
+use Rattle.desk_model.specs.declared.command.Cmd.{Cmd}
+use Rattle.desk_model.specs.declared.reply.Reply.TheVariants as reply
+use Rattle.desk_model.specs.Opening.{OpeningValue, IsOpening}
 use Rattle.desk_model.specs.Statement.{StatedValue}
-use Rattle.desk_model.specs.Entry.{EntryValue}
-use Rattle.desk_model.specs.Legal.{next, IsLegal, given, history_from}
+use Rattle.desk_model.specs.Entry.{EntryValue, entry_of}
+use Rattle.desk_model.specs.History.{History, history_of, opened, with_entry, Step, step_of, steps_from, steps, is_done, said}
+use Rattle.desk_model.specs.Legal.{is_within, moment, answer_to, next, MayState, IsNext, IsLegal, given, history_from}
+use Rattle.desk_model.proofs.SaidLemmas.{steps-snoc, said-some}
 
--- what stands in a list that has grown by one
-slice_get-snoc : {X : Type 0} (xs : List X) (y : X) (i : ℕ) (x : X) → slice_get (xs ++ y ∷ []) i ≡ Some x
-    → ((i < length xs) × (slice_get xs i ≡ Some x)) ⊎ ((i ≡ length xs) × (y ≡ x))
-slice_get-snoc xs y i x found =
-    let within = slice_get_within (xs ++ y ∷ []) i x found in
-    let is : get_or (xs ++ y ∷ []) i x ≡ x = get_or_from_slice_get (xs ++ y ∷ []) i x x found in
-    elim (cases_order i (length xs)) [
-      | inl same ↦ inr (same, sym (get_or_push xs y x i (sym same)) ∙ is)
-      | inr apart ↦ elim apart [
-        | inl below ↦ inl (below, slice_get-get_or xs i x below ∙ ap Some (sym (get_or-append xs (y ∷ []) x i below) ∙ is))
-        | inr above ↦ absurd (omega (arith, within, length-append xs (y ∷ [])))
-      ]
-    ]
+abbrev pub IsRight : Step → Type 0
+IsRight s = IsNext s.before s.entry
 
--- what stood in a list stands in the longer one
-slice_get-append : {X : Type 0} (xs ys : List X) (i : ℕ) (x : X) → slice_get xs i ≡ Some x → slice_get (xs ++ ys) i ≡ Some x
-slice_get-append xs ys i x found =
-    let within = slice_get_within xs i x found in
-    slice_get-get_or (xs ++ ys) i x (omega (arith, within, length-append xs ys))
-    ∙ ap Some (get_or-append xs ys x i within ∙ get_or_from_slice_get xs i x x found)
+pub legal-opened : (o : OpeningValue) → IsOpening o → IsLegal (opened o)
+unfolding steps
+legal-opened o valid = record { opening = valid; each = All-nil IsRight }
 
--- what stands at the seam
-slice_get-seam : {X : Type 0} (xs : List X) (y : X) (ys : List X) → slice_get (xs ++ y ∷ ys) (length xs) ≡ Some y
-slice_get-seam {X = X} xs y ys =
-    slice_get-get_or (xs ++ y ∷ ys) (length xs) y (omega (arith, length-append xs (y ∷ ys))) ∙ ap Some (at_seam xs)
+pub legal-with : (h : History) (e : EntryValue) → IsLegal h → IsNext h e → IsLegal (with_entry h e)
+legal-with h e legal is = record {
+  opening = legal.opening;
+  each = subst (All IsRight) (sym (steps-snoc h e)) (All-append IsRight (steps h) (step_of h e ∷ []) legal.each (All-cons IsRight (step_of h e) [] is (All-nil IsRight)));
+}
+
+-- a property of the empty history that each next entry keeps holds of every legal one
+pub legal-induction : (P : History → Type 0) → ((o : OpeningValue) → IsOpening o → P (opened o))
+    → ((h : History) (e : EntryValue) → IsLegal h → IsNext h e → P h → P (with_entry h e)) → (h : History) → IsLegal h → P h
+unfolding steps
+legal-induction P first more h legal = go (opened h.opening) h.entries (legal-opened h.opening legal.opening) (first h.opening legal.opening) legal.each
   where
-    at_seam : (zs : List X) → get_or (zs ++ y ∷ ys) (length zs) y ≡ y
-    at_seam [] = refl
-    at_seam (z ∷ zs) = at_seam zs
+    go : (front : History) (later : List EntryValue) → IsLegal front → P front → All IsRight (steps_from front later) → P (history_of front.opening (front.entries ++ later))
+    go front [] fine was each = subst (λ es. P (history_of front.opening es)) (sym (append-nil front.entries)) was
+    go front (e ∷ later) fine was each =
+        let is : IsNext front e = each 0 (step_of front e) (omega arith) in
+        subst (λ es. P (history_of front.opening es)) (append_snoc front.entries e later)
+        (go (with_entry front e) later (legal-with front e fine is) (more front e fine is was) (All-tail IsRight (step_of front e) (steps_from (with_entry front e) later) each))
 
-pub legal-nil : (o : OpeningValue) → IsLegal o []
-unfolding IsLegal
-legal-nil o place e found = absurd (omega (arith, slice_get_within [] place e found))
+-- the same for what holds of each step
+pub each-step : (Q : Step → Type 0) → ((h : History) (e : EntryValue) → IsLegal h → IsNext h e → Q (step_of h e)) → (h : History) → IsLegal h → All Q (steps h)
+unfolding steps
+each-step Q right h legal = legal-induction (λ past. All Q (steps past)) none grown h legal
+  where
+    none : (o : OpeningValue) → IsOpening o → All Q (steps (opened o))
+    none o valid = All-nil Q
 
-pub legal-next : (o : OpeningValue) (h : List EntryValue) (caller : ℕ) (s : StatedValue) → IsLegal o h → IsLegal o (h ++ next o h caller s ∷ [])
-unfolding IsLegal next
-legal-next o h caller s legal place e found =
-    let y = next o h caller s in
-    elim (slice_get-snoc h y place e found) [
-      | inl before ↦ legal place e before.1 ∙ ap (λ older. next o older e.caller e.stated) (sym (take-append-le place h (y ∷ []) (omega (arith, before.0))))
-      | inr last ↦
-          sym last.1
-          ∙ ap (λ older. next o older caller s) (sym (ap (λ n. take n (h ++ y ∷ [])) last.0 ∙ take-append_seam h (y ∷ [])))
-          ∙ ap (λ x. next o (take place (h ++ y ∷ [])) x.caller x.stated) last.1
-    ]
+    grown : (past : History) (e : EntryValue) → IsLegal past → IsNext past e → All Q (steps past) → All Q (steps (with_entry past e))
+    grown past e fine is was =
+        subst (All Q) (sym (steps-snoc past e)) (All-append Q (steps past) (step_of past e ∷ []) was (All-cons Q (step_of past e) [] (right past e fine is) (All-nil Q)))
 
--- a front of a legal history is legal
-pub legal-front : (o : OpeningValue) (h later : List EntryValue) → IsLegal o (h ++ later) → IsLegal o h
-unfolding IsLegal
-legal-front o h later legal place e found =
-    legal place e (slice_get-append h later place e found)
-    ∙ ap (λ older. next o older e.caller e.stated) (take-append-le place h later (omega (arith, slice_get_within h place e found)))
+-- ---- the entry that the rules give
 
--- and what comes behind it is the entry that the rules give
-pub legal-entry : (o : OpeningValue) (h : List EntryValue) (e : EntryValue) (later : List EntryValue) → IsLegal o (h ++ e ∷ later) → e ≡ next o h e.caller e.stated
-unfolding IsLegal
-legal-entry o h e later legal =
-    legal (length h) e (slice_get-seam h e later) ∙ ap (λ older. next o older e.caller e.stated) (take-append_seam h (e ∷ later))
+pub next-is : (h : History) (e : EntryValue) → IsNext h e → e ≡ next h e.caller e.stated
+unfolding next
+next-is h e is = ap (λ m. entry_of e.caller e.stated m e.reply) is.moment ∙ ap (entry_of e.caller e.stated (moment h e.stated.minute)) is.reply
 
-pub legal-history_from : (o : OpeningValue) (h : List EntryValue) (commands : List (ℕ × StatedValue)) → IsLegal o h → IsLegal o (history_from o h commands)
+pub IsNext-next : (h : History) (caller : ℕ) (s : StatedValue) → MayState caller s → IsNext h (next h caller s)
+unfolding next
+IsNext-next h caller s may = record { may = may; moment = refl; reply = refl }
+
+-- its reply is the answer to the command at its moment, or says that its minute lies outside the window
+pub reply-is : (h : History) (e : EntryValue) → IsNext h e → (e.reply ≡ reply.OutsideWindow) ⊎ (e.reply ≡ answer_to h e.moment e.stated.cmd)
+reply-is h e is = go (is_within h.opening.window e.stated.minute) is.reply
+  where
+    go : (within : Bool) → e.reply ≡ cond within (answer_to h (moment h e.stated.minute) e.stated.cmd) reply.OutsideWindow
+        → (e.reply ≡ reply.OutsideWindow) ⊎ (e.reply ≡ answer_to h e.moment e.stated.cmd)
+    go true told = inr (told ∙ ap (λ m. answer_to h m e.stated.cmd) (sym is.moment))
+    go false told = inl told
+
+-- what was done is what the command was answered
+pub done-answer : (h : History) (e : EntryValue) → IsNext h e → is_done e.reply ≡ true → is_done (answer_to h e.moment e.stated.cmd) ≡ true
+done-answer h e is done = elim (reply-is h e is) [
+  | inl outside ↦ absurd (false≢true (ap is_done (sym outside) ∙ done))
+  | inr told ↦ ap is_done (sym told) ∙ done
+]
+
+-- and so what an entry says was done
+pub said-next : {X : Type 0} (f : Cmd → Option X) (h : History) (e : EntryValue) (x : X) → IsNext h e → said f e ≡ Some x
+    → (f e.stated.cmd ≡ Some x) × (is_done (answer_to h e.moment e.stated.cmd) ≡ true)
+said-next f h e x is some = let parts = said-some f e x some in (parts.1, done-answer h e is parts.0)
+
+-- ---- histories of commands
+
+pub legal-history_from : (h : History) (commands : List (ℕ × StatedValue)) → IsLegal h → All (λ c. MayState c.0 c.1) commands → IsLegal (history_from h commands)
 unfolding history_from
-legal-history_from o h [] legal = legal
-legal-history_from o h ((caller, s) ∷ rest) legal = legal-history_from o (h ++ next o h caller s ∷ []) rest (legal-next o h caller s legal)
+legal-history_from h [] legal may = legal
+legal-history_from h ((caller, s) ∷ rest) legal may =
+    legal-history_from (with_entry h (next h caller s)) rest
+    (legal-with h (next h caller s) legal (IsNext-next h caller s (may 0 (caller, s) (omega arith))))
+    (All-tail (λ c. MayState c.0 c.1) (caller, s) rest may)
 
-pub given-history_from : (o : OpeningValue) (h : List EntryValue) (commands : List (ℕ × StatedValue)) → map given (history_from o h commands) ≡ map given h ++ commands
+pub opening-history_from : (h : History) (commands : List (ℕ × StatedValue)) → (history_from h commands).opening ≡ h.opening
+unfolding history_from
+opening-history_from h [] = refl
+opening-history_from h ((caller, s) ∷ rest) = opening-history_from (with_entry h (next h caller s)) rest
+
+pub given-history_from : (h : History) (commands : List (ℕ × StatedValue)) → map given (history_from h commands).entries ≡ map given h.entries ++ commands
 unfolding history_from next
-given-history_from o h [] = sym (append-nil (map given h))
-given-history_from o h ((caller, s) ∷ rest) =
-    given-history_from o (h ++ next o h caller s ∷ []) rest
-    ∙ ap (λ front. front ++ rest) (map-append given h (next o h caller s ∷ []))
-    ∙ append_assoc (map given h) ((caller, s) ∷ []) rest
+given-history_from h [] = sym (append-nil (map given h.entries))
+given-history_from h ((caller, s) ∷ rest) =
+    given-history_from (with_entry h (next h caller s)) rest
+    ∙ ap (λ front. front ++ rest) (map-append given h.entries (next h caller s ∷ []))
+    ∙ append_assoc (map given h.entries) ((caller, s) ∷ []) rest
 
--- the commands of a legal history give it again
-pub history_from-given : (o : OpeningValue) (h later : List EntryValue) → IsLegal o (h ++ later) → history_from o h (map given later) ≡ h ++ later
+-- the commands of right steps give their entries again
+history_from-given : (h : History) (later : List EntryValue) → All IsRight (steps_from h later) → history_from h (map given later) ≡ history_of h.opening (h.entries ++ later)
 unfolding history_from
-history_from-given o h [] legal = sym (append-nil h)
-history_from-given o h (e ∷ later) legal =
-    ap (λ x. history_from o (h ++ x ∷ []) (map given later)) (sym (legal-entry o h e later legal))
-    ∙ history_from-given o (h ++ e ∷ []) later (subst (IsLegal o) (sym (append_snoc h e later)) legal)
-    ∙ append_snoc h e later
+history_from-given h [] each = ap (history_of h.opening) (sym (append-nil h.entries))
+history_from-given h (e ∷ later) each =
+    ap (λ x. history_from (with_entry h x) (map given later)) (sym (next-is h e (each 0 (step_of h e) (omega arith))))
+    ∙ history_from-given (with_entry h e) later (All-tail IsRight (step_of h e) (steps_from (with_entry h e) later) each)
+    ∙ ap (history_of h.opening) (append_snoc h.entries e later)
+
+pub history-given : (h : History) → IsLegal h → h ≡ history_from (opened h.opening) (map given h.entries)
+unfolding steps
+history-given h legal = sym (history_from-given (opened h.opening) h.entries legal.each)

@@ -1,13 +1,13 @@
 -- The order of a board where one entry more has come, and who is on it.
-use Rattle.std.proofs.Common.{◌≡◌, ℕ, suc, ◌≤◌, Bool, true, false, not, cond, ◌||◌, nat_eq, Option, None, Some, unwrap_or, List, [], ◌∷◌, ◌++◌, length, filter, refl, sym, ap, ◌∙◌, arith, append_assoc, append-nil, length-append}
-use Rattle.std.specs.List.{list_any, cons_option}
+use Rattle.std.proofs.Common.{◌≡◌, ℕ, suc, ◌≤◌, Bool, true, false, not, cond, ◌||◌, nat_eq, None, Some, unwrap_or, List, [], ◌∷◌, ◌++◌, length, filter, refl, ap, ◌∙◌, arith, append-nil, length-append}
+use Rattle.std.specs.List.{list_any, cons_option, filter_map}
 use Rattle.std.proofs.lemmas.List.Elements.{filter-append, filter_agree}
 use Rattle.std.proofs.lemmas.List.Folds.{list_any-append}
 use Rattle.std.proofs.lemmas.Bool.Decides.{nat_tests}
 use Rattle.desk_model.specs.Entry.{EntryValue}
-use Rattle.desk_model.specs.History.{said}
-use Rattle.desk_model.specs.Boards.{puts, is_on, sends, sent_to, keep_last, order}
-use Rattle.desk_model.proofs.SaidLemmas.{last_of-silent, last_of-tells}
+use Rattle.desk_model.specs.History.{History, with_entry, step_of, steps, said}
+use Rattle.desk_model.specs.Boards.{puts, is_on, sends, sent, sent_to, keep_last, order}
+use Rattle.desk_model.proofs.SaidLemmas.{last_of-silent, last_of-tells, filter_map-snoc, steps-snoc}
 
 -- all but this person
 abbrev pub without : ℕ → List ℕ → List ℕ
@@ -31,18 +31,8 @@ any-snoc p ps q = list_any-append (nat_eq p) ps (q ∷ []) ∙ ap (λ b. list_an
 
 -- ---- who was sent, with one entry more
 
-pub sent_to-snoc : (b : List ℕ) (before h : List EntryValue) (e : EntryValue)
-    → sent_to b before (h ++ e ∷ []) ≡ sent_to b before h ++ cons_option (said (sends b (before ++ h)) e) []
-sent_to-snoc b before [] e = ap (λ all. cons_option (said (sends b all) e) []) (sym (append-nil before))
-sent_to-snoc b before (x ∷ h) e =
-    ap (cons_option (said (sends b before) x))
-    (sent_to-snoc b (before ++ x ∷ []) h e ∙ ap (λ all. sent_to b (before ++ x ∷ []) h ++ cons_option (said (sends b all) e) []) (append_assoc before (x ∷ []) h))
-    ∙ front (said (sends b before) x)
-  where
-    front : (who : Option ℕ) → cons_option who (sent_to b (before ++ x ∷ []) h ++ cons_option (said (sends b (before ++ x ∷ h)) e) [])
-        ≡ cons_option who (sent_to b (before ++ x ∷ []) h) ++ cons_option (said (sends b (before ++ x ∷ h)) e) []
-    front None = refl
-    front (Some p) = refl
+pub sent_to-snoc : (h : History) (e : EntryValue) (b : List ℕ) → sent_to (with_entry h e) b ≡ sent_to h b ++ cons_option (said (sends b h) e) []
+sent_to-snoc h e b = ap (filter_map (sent b)) (steps-snoc h e) ∙ filter_map-snoc (sent b) (steps h) (step_of h e)
 
 pub keep_last-snoc : (ps : List ℕ) (p : ℕ) → keep_last (ps ++ p ∷ []) ≡ without p (keep_last ps) ++ p ∷ []
 keep_last-snoc [] p = refl
@@ -80,38 +70,38 @@ length-without p (q ∷ ps) = go (nat_eq p q) (length-without p ps)
 -- ---- the order
 
 -- an entry that says nothing of the board
-pub order-silent : (h : List EntryValue) (e : EntryValue) (b : List ℕ) → said (sends b h) e ≡ None → ((p : ℕ) → said (puts b p) e ≡ None)
-    → order (h ++ e ∷ []) b ≡ order h b
+pub order-silent : (h : History) (e : EntryValue) (b : List ℕ) → said (sends b h) e ≡ None → ((p : ℕ) → said (puts b p) e ≡ None)
+    → order (with_entry h e) b ≡ order h b
 order-silent h e b unsent unput =
-    ap (λ ps. filter (λ p. is_on (h ++ e ∷ []) p b) (keep_last ps))
-    (sent_to-snoc b [] h e ∙ ap (λ who. sent_to b [] h ++ cons_option who []) unsent ∙ append-nil (sent_to b [] h))
-    ∙ filter_agree (λ p. is_on (h ++ e ∷ []) p b) (λ p. is_on h p b) (λ p. ap (λ o. unwrap_or o false) (last_of-silent (said (puts b p)) h e (unput p))) (keep_last (sent_to b [] h))
+    ap (λ ps. filter (λ p. is_on (with_entry h e) p b) (keep_last ps))
+    (sent_to-snoc h e b ∙ ap (λ who. sent_to h b ++ cons_option who []) unsent ∙ append-nil (sent_to h b))
+    ∙ filter_agree (λ p. is_on (with_entry h e) p b) (λ p. is_on h p b) (λ p. ap (λ o. unwrap_or o false) (last_of-silent (said (puts b p)) h.entries e (unput p))) (keep_last (sent_to h b))
 
 -- an entry that puts a person on the board, at its bottom
-pub order-sent : (h : List EntryValue) (e : EntryValue) (b : List ℕ) (p : ℕ) → said (sends b h) e ≡ Some p → said (puts b p) e ≡ Some true
-    → ((q : ℕ) → nat_eq p q ≡ false → said (puts b q) e ≡ None) → order (h ++ e ∷ []) b ≡ without p (order h b) ++ p ∷ []
+pub order-sent : (h : History) (e : EntryValue) (b : List ℕ) (p : ℕ) → said (sends b h) e ≡ Some p → said (puts b p) e ≡ Some true
+    → ((q : ℕ) → nat_eq p q ≡ false → said (puts b q) e ≡ None) → order (with_entry h e) b ≡ without p (order h b) ++ p ∷ []
 order-sent h e b p sent put others =
-    let on : ℕ → Bool = λ q. is_on (h ++ e ∷ []) q b in
-    ap (λ ps. filter on (keep_last ps)) (sent_to-snoc b [] h e ∙ ap (λ who. sent_to b [] h ++ cons_option who []) sent)
-    ∙ ap (filter on) (keep_last-snoc (sent_to b [] h) p)
-    ∙ filter-append on (without p (keep_last (sent_to b [] h))) (p ∷ [])
-    ∙ ap (λ last. filter on (without p (keep_last (sent_to b [] h))) ++ last) (ap (λ t. cond t (p ∷ []) []) (ap (λ o. unwrap_or o false) (last_of-tells (said (puts b p)) h e true put)))
-    ∙ ap (λ front. front ++ p ∷ []) (filter-without on (λ q. is_on h q b) p (λ q other. ap (λ o. unwrap_or o false) (last_of-silent (said (puts b q)) h e (others q other))) (keep_last (sent_to b [] h)))
+    let on : ℕ → Bool = λ q. is_on (with_entry h e) q b in
+    ap (λ ps. filter on (keep_last ps)) (sent_to-snoc h e b ∙ ap (λ who. sent_to h b ++ cons_option who []) sent)
+    ∙ ap (filter on) (keep_last-snoc (sent_to h b) p)
+    ∙ filter-append on (without p (keep_last (sent_to h b))) (p ∷ [])
+    ∙ ap (λ last. filter on (without p (keep_last (sent_to h b))) ++ last) (ap (λ t. cond t (p ∷ []) []) (ap (λ o. unwrap_or o false) (last_of-tells (said (puts b p)) h.entries e true put)))
+    ∙ ap (λ front. front ++ p ∷ []) (filter-without on (λ q. is_on h q b) p (λ q other. ap (λ o. unwrap_or o false) (last_of-silent (said (puts b q)) h.entries e (others q other))) (keep_last (sent_to h b)))
 
 -- it makes the order longer by one at most
-pub length-order-sent : (h : List EntryValue) (e : EntryValue) (b : List ℕ) (p : ℕ) → order (h ++ e ∷ []) b ≡ without p (order h b) ++ p ∷ []
-    → length (order (h ++ e ∷ []) b) ≤ suc (length (order h b))
+pub length-order-sent : (h : History) (e : EntryValue) (b : List ℕ) (p : ℕ) → order (with_entry h e) b ≡ without p (order h b) ++ p ∷ []
+    → length (order (with_entry h e) b) ≤ suc (length (order h b))
 length-order-sent h e b p is =
     rw is (omega (arith, length-append (without p (order h b)) (p ∷ []), length-without p (order h b)))
 
 -- an entry that sends a person there and puts nobody on it
-pub order-moved : (h : List EntryValue) (e : EntryValue) (b : List ℕ) (p : ℕ) → said (sends b h) e ≡ Some p → ((q : ℕ) → said (puts b q) e ≡ None)
-    → order (h ++ e ∷ []) b ≡ without p (order h b) ++ cond (is_on h p b) (p ∷ []) []
+pub order-moved : (h : History) (e : EntryValue) (b : List ℕ) (p : ℕ) → said (sends b h) e ≡ Some p → ((q : ℕ) → said (puts b q) e ≡ None)
+    → order (with_entry h e) b ≡ without p (order h b) ++ cond (is_on h p b) (p ∷ []) []
 order-moved h e b p sent unput =
-    let on : ℕ → Bool = λ q. is_on (h ++ e ∷ []) q b in
-    let same : (q : ℕ) → on q ≡ is_on h q b = λ q. ap (λ o. unwrap_or o false) (last_of-silent (said (puts b q)) h e (unput q)) in
-    ap (λ ps. filter on (keep_last ps)) (sent_to-snoc b [] h e ∙ ap (λ who. sent_to b [] h ++ cons_option who []) sent)
-    ∙ ap (filter on) (keep_last-snoc (sent_to b [] h) p)
-    ∙ filter-append on (without p (keep_last (sent_to b [] h))) (p ∷ [])
-    ∙ ap (λ t. filter on (without p (keep_last (sent_to b [] h))) ++ cond t (p ∷ []) []) (same p)
-    ∙ ap (λ front. front ++ cond (is_on h p b) (p ∷ []) []) (filter-without on (λ q. is_on h q b) p (λ q other. same q) (keep_last (sent_to b [] h)))
+    let on : ℕ → Bool = λ q. is_on (with_entry h e) q b in
+    let same : (q : ℕ) → on q ≡ is_on h q b = λ q. ap (λ o. unwrap_or o false) (last_of-silent (said (puts b q)) h.entries e (unput q)) in
+    ap (λ ps. filter on (keep_last ps)) (sent_to-snoc h e b ∙ ap (λ who. sent_to h b ++ cons_option who []) sent)
+    ∙ ap (filter on) (keep_last-snoc (sent_to h b) p)
+    ∙ filter-append on (without p (keep_last (sent_to h b))) (p ∷ [])
+    ∙ ap (λ t. filter on (without p (keep_last (sent_to h b))) ++ cond t (p ∷ []) []) (same p)
+    ∙ ap (λ front. front ++ cond (is_on h p b) (p ∷ []) []) (filter-without on (λ q. is_on h q b) p (λ q other. same q) (keep_last (sent_to h b)))

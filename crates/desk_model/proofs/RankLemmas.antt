@@ -2,16 +2,17 @@
 use Rattle.std.proofs.Common.{◌≡◌, ℕ, suc, ◌+◌, not, length, length-append, ◌≤◌, inl, inr, Bool, true, false, cond, ◌&&◌, ◌||◌, nat_eq, Option, None, Some, unwrap_or, List, [], ◌∷◌, ◌++◌, filter, refl, sym, ap, subst, ◌∙◌, arith}
 use Rattle.std.specs.Str.{bytes_eq}
 use Rattle.std.specs.Option.{option_or}
-use Rattle.std.specs.List.{list_any, cons_option}
+use Rattle.std.specs.List.{list_any, cons_option, filter_map}
 use Rattle.std.proofs.lemmas.Bool.{cases_Bool, false≢true}
 use Rattle.std.proofs.lemmas.Bool.Decides.{nat_tests}
 use Rattle.desk_model.specs.declared.command.Cmd.{Cmd}
 use Rattle.desk_model.specs.declared.command.Cmd.TheVariants as cmd
 use Rattle.desk_model.specs.Entry.{EntryValue}
-use Rattle.desk_model.specs.History.{is_done, said, last_of}
-use Rattle.desk_model.specs.Boards.{puts, is_on, sends, sent_to, keep_last, order}
+use Rattle.desk_model.specs.History.{History, opened, with_entry, steps_from, steps, said, last_of}
+use Rattle.desk_model.specs.Boards.{puts, is_on, sends, sent, sent_to, keep_last, order}
+use Rattle.desk_model.proofs.SaidLemmas.{said-some}
 use Rattle.desk_model.proofs.OrderLemmas.{without, length-without, order-moved, same_number, nat_eq-same}
-use Rattle.desk_model.specs.Rank.{is_number, last_place, rank, IsBefore, Rises, IsByRank}
+use Rattle.desk_model.specs.Rank.{is_number, sends_at, rank, IsBefore, Rises, IsByRank}
 
 and_false : (b : Bool) → (b && false) ≡ false
 and_false true = refl
@@ -43,36 +44,31 @@ any-keep_last p (q ∷ ps) = go (list_any (nat_eq q) ps) (nat_eq p q) refl refl 
 
 -- ---- who is on a board was sent there
 
-puts-sends : (b : List ℕ) (p : ℕ) (before : List EntryValue) (c : Cmd) → puts b p c ≡ Some true → sends b before c ≡ Some p
-puts-sends b p before (cmd.List person board) put = go (bytes_eq board b) (nat_eq person p) refl put
+puts-sends : (b : List ℕ) (p : ℕ) (h : History) (c : Cmd) → puts b p c ≡ Some true → sends b h c ≡ Some p
+puts-sends b p h (cmd.List person board) put = go (bytes_eq board b) (nat_eq person p) refl put
   where
     go : (here same : Bool) → nat_eq person p ≡ same → cond here (cond same (Some true) None) None ≡ Some true → cond here (Some person) None ≡ Some p
     go true true is put = ap Some (same_number person p is)
     go true false is put = cc
     go false same is put = cc
-puts-sends b p before (cmd.Enrol person craft home quals) put = cc
-puts-sends b p before (cmd.Board board extra place) put = cc
-puts-sends b p before (cmd.Past person event) put = cc
-puts-sends b p before (cmd.Happened person event) put = cc
-puts-sends b p before (cmd.Vacancy job) put = cc
-puts-sends b p before (cmd.Next vac) put = cc
-puts-sends b p before (cmd.Hours person month) put = cc
-puts-sends b p before (cmd.Explain vac person) put = cc
+puts-sends b p h other put = cc
 
-said-puts-sends : (b : List ℕ) (p : ℕ) (before : List EntryValue) (e : EntryValue) → said (puts b p) e ≡ Some true → said (sends b before) e ≡ Some p
-said-puts-sends b p before e put = go (is_done e.reply) put
-  where
-    go : (done : Bool) → cond done (puts b p e.stated.cmd) None ≡ Some true → cond done (sends b before e.stated.cmd) None ≡ Some p
-    go true put = puts-sends b p before e.stated.cmd put
-    go false put = cc
+said-puts-sends : (b : List ℕ) (p : ℕ) (h : History) (e : EntryValue) → said (puts b p) e ≡ Some true → said (sends b h) e ≡ Some p
+said-puts-sends b p h e put =
+    let parts = said-some (puts b p) e true put in
+    ap (λ done. cond done (sends b h e.stated.cmd) None) parts.0 ∙ puts-sends b p h e.stated.cmd parts.1
 
-was_sent : (b : List ℕ) (p : ℕ) (before h : List EntryValue) → last_of (said (puts b p)) h ≡ Some true → list_any (nat_eq p) (sent_to b before h) ≡ true
-was_sent b p before [] put = cc
-was_sent b p before (e ∷ later) put =
-    go (last_of (said (puts b p)) later) (said (puts b p) e) (said (sends b before) e) put (was_sent b p (before ++ e ∷ []) later) (said-puts-sends b p before e)
+-- whom entries that come after a history sent
+abbrev sent_from : List ℕ → History → List EntryValue → List ℕ
+sent_from b h es = filter_map (sent b) (steps_from h es)
+
+was_sent : (b : List ℕ) (p : ℕ) (h : History) (es : List EntryValue) → last_of (said (puts b p)) es ≡ Some true → list_any (nat_eq p) (sent_from b h es) ≡ true
+was_sent b p h [] put = cc
+was_sent b p h (e ∷ later) put =
+    go (last_of (said (puts b p)) later) (said (puts b p) e) (said (sends b h) e) put (was_sent b p (with_entry h e) later) (said-puts-sends b p h e)
   where
     rest : List ℕ
-    rest = sent_to b (before ++ e ∷ []) later
+    rest = sent_from b (with_entry h e) later
 
     front : (who : Option ℕ) → list_any (nat_eq p) rest ≡ true → list_any (nat_eq p) (cons_option who rest) ≡ true
     front None any = any
@@ -83,18 +79,19 @@ was_sent b p before (e ∷ later) put =
     go (Some on) this who put known here = front who (known put)
     go None this who put known here = rw (here put, nat_eq-same p) refl
 
-on_board : (b : List ℕ) (p : ℕ) (h : List EntryValue) → is_on h p b ≡ true → list_any (nat_eq p) (sent_to b [] h) ≡ true
-on_board b p h on = was_sent b p [] h (go (last_of (said (puts b p)) h) on)
+on_board : (b : List ℕ) (p : ℕ) (h : History) → is_on h p b ≡ true → list_any (nat_eq p) (sent_to h b) ≡ true
+unfolding steps
+on_board b p h on = was_sent b p (opened h.opening) h.entries (go (last_of (said (puts b p)) h.entries) on)
   where
     go : (o : Option Bool) → unwrap_or o false ≡ true → o ≡ Some true
     go None on = absurd (false≢true on)
     go (Some x) on = ap Some on
 
-any-order : (h : List EntryValue) (b : List ℕ) (p : ℕ) → list_any (nat_eq p) (order h b) ≡ is_on h p b
+any-order : (h : History) (b : List ℕ) (p : ℕ) → list_any (nat_eq p) (order h b) ≡ is_on h p b
 any-order h b p =
-    any-filter (λ q. is_on h q b) p (keep_last (sent_to b [] h))
-    ∙ ap (λ any. is_on h p b && any) (any-keep_last p (sent_to b [] h))
-    ∙ go (is_on h p b) (list_any (nat_eq p) (sent_to b [] h)) (on_board b p h)
+    any-filter (λ q. is_on h q b) p (keep_last (sent_to h b))
+    ∙ ap (λ any. is_on h p b && any) (any-keep_last p (sent_to h b))
+    ∙ go (is_on h p b) (list_any (nat_eq p) (sent_to h b)) (on_board b p h)
   where
     go : (on any : Bool) → (on ≡ true → any ≡ true) → (on && any) ≡ on
     go true any known = known refl
@@ -111,8 +108,8 @@ length-without-in p (q ∷ ps) any = go (nat_eq p q) any (length-without-in p ps
     go false any rest = omega (arith, rest any)
 
 -- who is sent to the bottom of a board makes it no longer
-pub length-order-moved : (h : List EntryValue) (e : EntryValue) (b : List ℕ) (p : ℕ) → said (sends b h) e ≡ Some p → ((q : ℕ) → said (puts b q) e ≡ None)
-    → length (order (h ++ e ∷ []) b) ≤ length (order h b)
+pub length-order-moved : (h : History) (e : EntryValue) (b : List ℕ) (p : ℕ) → said (sends b h) e ≡ Some p → ((q : ℕ) → said (puts b q) e ≡ None)
+    → length (order (with_entry h e) b) ≤ length (order h b)
 length-order-moved h e b p sent unput = rw (order-moved h e b p sent unput) (go (is_on h p b) (any-order h b p))
   where
     go : (on : Bool) → list_any (nat_eq p) (order h b) ≡ on → length (without p (order h b) ++ cond on (p ∷ []) []) ≤ length (order h b)
@@ -128,15 +125,18 @@ or_none (Some n) = refl
 or_first : (p n : ℕ) (o other : Option ℕ) → o ≡ Some n → option_or o other ≡ Some n
 or_first p n o other is = ap (λ first. option_or first other) is
 
+-- the last place at which entries that come after a history sent a person
+abbrev last_place : List ℕ → ℕ → History → List EntryValue → Option ℕ
+last_place b p h es = last_of (sends_at b p) (steps_from h es)
+
 -- who was not sent has no rank
-no_place : (b : List ℕ) (p place : ℕ) (before h : List EntryValue) → list_any (nat_eq p) (sent_to b before h) ≡ false → last_place b p place before h ≡ None
-no_place b p place before [] any = refl
-no_place b p place before (e ∷ later) any =
-    go (said (sends b before) e) (sent_to b (before ++ e ∷ []) later) (last_place b p (place + 1) (before ++ e ∷ []) later) any
-    (no_place b p (place + 1) (before ++ e ∷ []) later)
+no_place : (b : List ℕ) (p : ℕ) (h : History) (es : List EntryValue) → list_any (nat_eq p) (sent_from b h es) ≡ false → last_place b p h es ≡ None
+no_place b p h [] any = refl
+no_place b p h (e ∷ later) any =
+    go (said (sends b h) e) (sent_from b (with_entry h e) later) (last_place b p (with_entry h e) later) any (no_place b p (with_entry h e) later)
   where
     go : (who : Option ℕ) (rest : List ℕ) (last : Option ℕ) → list_any (nat_eq p) (cons_option who rest) ≡ false
-        → (list_any (nat_eq p) rest ≡ false → last ≡ None) → option_or last (cond (is_number p who) (Some place) None) ≡ None
+        → (list_any (nat_eq p) rest ≡ false → last ≡ None) → option_or last (cond (is_number p who) (Some (length h.entries)) None) ≡ None
     go None rest last any known = ap (λ o. option_or o None) (known any)
     go (Some q) rest last any known = elim (cases_Bool (nat_eq p q)) [
       | inl same ↦ absurd (false≢true (sym any ∙ rw same refl))
@@ -149,24 +149,27 @@ record HasPlace (first : ℕ) (rank : Option ℕ) : Type 0 where
   is : rank ≡ Some at
   least : first ≤ at
 
-has_place : (b : List ℕ) (p place : ℕ) (before h : List EntryValue) → list_any (nat_eq p) (sent_to b before h) ≡ true
-    → HasPlace place (last_place b p place before h)
-has_place b p place before [] any = absurd (false≢true any)
-has_place b p place before (e ∷ later) any =
-    go (said (sends b before) e) (sent_to b (before ++ e ∷ []) later) (last_place b p (place + 1) (before ++ e ∷ []) later) any
-    (has_place b p (place + 1) (before ++ e ∷ []) later) (no_place b p (place + 1) (before ++ e ∷ []) later)
+one_more : (h : History) (e : EntryValue) → length (with_entry h e).entries ≡ length h.entries + 1
+one_more h e = length-append h.entries (e ∷ [])
+
+has_place : (b : List ℕ) (p : ℕ) (h : History) (es : List EntryValue) → list_any (nat_eq p) (sent_from b h es) ≡ true
+    → HasPlace (length h.entries) (last_place b p h es)
+has_place b p h [] any = absurd (false≢true any)
+has_place b p h (e ∷ later) any =
+    go (said (sends b h) e) (sent_from b (with_entry h e) later) (last_place b p (with_entry h e) later) any
+    (has_place b p (with_entry h e) later) (no_place b p (with_entry h e) later)
   where
-    again : (last other : Option ℕ) → HasPlace (place + 1) last → HasPlace place (option_or last other)
-    again last other known = record { at = known.at; is = or_first p known.at last other known.is; least = omega (arith, known.least) }
+    again : (last other : Option ℕ) → HasPlace (length (with_entry h e).entries) last → HasPlace (length h.entries) (option_or last other)
+    again last other known = record { at = known.at; is = or_first p known.at last other known.is; least = omega (arith, known.least, one_more h e) }
 
     go : (who : Option ℕ) (rest : List ℕ) (last : Option ℕ) → list_any (nat_eq p) (cons_option who rest) ≡ true
-        → (list_any (nat_eq p) rest ≡ true → HasPlace (place + 1) last) → (list_any (nat_eq p) rest ≡ false → last ≡ None)
-        → HasPlace place (option_or last (cond (is_number p who) (Some place) None))
+        → (list_any (nat_eq p) rest ≡ true → HasPlace (length (with_entry h e).entries) last) → (list_any (nat_eq p) rest ≡ false → last ≡ None)
+        → HasPlace (length h.entries) (option_or last (cond (is_number p who) (Some (length h.entries)) None))
     go None rest last any known unknown = again last None (known any)
     go (Some q) rest last any known unknown = elim (cases_Bool (list_any (nat_eq p) rest)) [
-      | inl more ↦ again last (cond (nat_eq p q) (Some place) None) (known more)
+      | inl more ↦ again last (cond (nat_eq p q) (Some (length h.entries)) None) (known more)
       | inr none ↦ elim (cases_Bool (nat_eq p q)) [
-        | inl same ↦ record { at = place; is = rw (unknown none, same) refl; least = omega arith }
+        | inl same ↦ record { at = length h.entries; is = rw (unknown none, same) refl; least = omega arith }
         | inr other ↦ absurd (false≢true (rw (other, none) at any))
       ]
     ]
@@ -198,35 +201,39 @@ rises-filter f r (p ∷ ps) rises = go (f p) (rises-filter f r ps rises.1)
     go false rest = rest
 
 -- those who are kept rise
-rises-kept : (b : List ℕ) (place : ℕ) (before h : List EntryValue) → Rises (λ p. last_place b p place before h) (keep_last (sent_to b before h))
-rises-kept b place before [] = tt
-rises-kept b place before (e ∷ later) =
-    go (said (sends b before) e) (sent_to b (before ++ e ∷ []) later) (λ p. last_place b p (place + 1) (before ++ e ∷ []) later)
-    (rises-kept b (place + 1) (before ++ e ∷ []) later) (λ p. has_place b p (place + 1) (before ++ e ∷ []) later) (λ p. no_place b p (place + 1) (before ++ e ∷ []) later)
+rises-kept : (b : List ℕ) (h : History) (es : List EntryValue) → Rises (λ p. last_place b p h es) (keep_last (sent_from b h es))
+rises-kept b h [] = tt
+rises-kept b h (e ∷ later) =
+    go (said (sends b h) e) (sent_from b (with_entry h e) later) (λ p. last_place b p (with_entry h e) later)
+    (rises-kept b (with_entry h e) later) (λ p. has_place b p (with_entry h e) later) (λ p. no_place b p (with_entry h e) later)
   where
+    here : ℕ
+    here = length h.entries
+
     go : (who : Option ℕ) (rest : List ℕ) (last : ℕ → Option ℕ) → Rises last (keep_last rest)
-        → ((p : ℕ) → list_any (nat_eq p) rest ≡ true → HasPlace (place + 1) (last p)) → ((p : ℕ) → list_any (nat_eq p) rest ≡ false → last p ≡ None)
-        → Rises (λ p. option_or (last p) (cond (is_number p who) (Some place) None)) (keep_last (cons_option who rest))
+        → ((p : ℕ) → list_any (nat_eq p) rest ≡ true → HasPlace (length (with_entry h e).entries) (last p)) → ((p : ℕ) → list_any (nat_eq p) rest ≡ false → last p ≡ None)
+        → Rises (λ p. option_or (last p) (cond (is_number p who) (Some here) None)) (keep_last (cons_option who rest))
     go None rest last rises known unknown = rises-same last _ (keep_last rest) (λ q any. sym (or_none (last q))) rises
     go (Some q) rest last rises known unknown = elim (cases_Bool (list_any (nat_eq q) rest)) [
       | inl again ↦ rw again tail
       | inr once ↦ rw once (first once, tail)
     ]
       where
-        stands : (p : ℕ) → list_any (nat_eq p) (keep_last rest) ≡ true → HasPlace (place + 1) (last p)
+        stands : (p : ℕ) → list_any (nat_eq p) (keep_last rest) ≡ true → HasPlace (length (with_entry h e).entries) (last p)
         stands p any = known p (sym (any-keep_last p rest) ∙ any)
 
-        tail : Rises (λ p. option_or (last p) (cond (nat_eq p q) (Some place) None)) (keep_last rest)
+        tail : Rises (λ p. option_or (last p) (cond (nat_eq p q) (Some here) None)) (keep_last rest)
         tail = rises-same last _ (keep_last rest) (λ p any. let at = stands p any in at.is ∙ sym (or_first p at.at (last p) _ at.is)) rises
 
         first : list_any (nat_eq q) rest ≡ false → (p : ℕ) → list_any (nat_eq p) (keep_last rest) ≡ true
-            → IsBefore (option_or (last q) (cond (nat_eq q q) (Some place) None)) (option_or (last p) (cond (nat_eq p q) (Some place) None))
-        first once p any = let at = stands p any in rw (unknown q once, nat_eq-same q, at.is) (omega (arith, at.least))
+            → IsBefore (option_or (last q) (cond (nat_eq q q) (Some here) None)) (option_or (last p) (cond (nat_eq p q) (Some here) None))
+        first once p any = let at = stands p any in rw (unknown q once, nat_eq-same q, at.is) (omega (arith, at.least, one_more h e))
 
-pub order-by_rank : (h : List EntryValue) (b : List ℕ) → IsByRank h b (order h b)
+pub order-by_rank : (h : History) (b : List ℕ) → IsByRank h b (order h b)
+unfolding steps
 order-by_rank h b = record {
   those = any-order h b;
-  rising = rises-filter (λ p. is_on h p b) (rank h b) (keep_last (sent_to b [] h)) (rises-kept b 0 [] h);
+  rising = rises-filter (λ p. is_on h p b) (rank h b) (keep_last (sent_to h b)) (rises-kept b (opened h.opening) h.entries);
 }
 
 -- ---- there is one list by rising rank
@@ -269,6 +276,6 @@ rises-only r (p ∷ ps) (q ∷ qs) one other same =
       | inr apart ↦ rw (apart, subst (λ y. nat_eq x y ≡ false) head apart) at (same x)
     ]
 
-pub order-only : (h : List EntryValue) (b : List ℕ) (ps : List ℕ) → IsByRank h b ps → ps ≡ order h b
+pub order-only : (h : History) (b : List ℕ) (ps : List ℕ) → IsByRank h b ps → ps ≡ order h b
 order-only h b ps by_rank =
     rises-only (rank h b) ps (order h b) by_rank.rising (order-by_rank h b).rising (λ p. by_rank.those p ∙ sym (any-order h b p))

@@ -1,7 +1,7 @@
 -- An entry that refuses or tells changes nothing.
-use Rattle.std.proofs.Common.{◌≡◌, ℕ, ◌+◌, Bool, true, false, cond, ◌||◌, Option, None, Some, is_some, is_none, unwrap_or, fold, List, [], ◌∷◌, ◌++◌, refl, sym, ap, subst, ◌∙◌, append-nil, append_assoc}
-use Rattle.std.specs.Option.{option_or}
-use Rattle.std.specs.List.{find}
+use Rattle.std.proofs.Common.{◌≡◌, ℕ, Bool, true, false, cond, ◌||◌, Option, None, Some, is_some, is_none, unwrap_or, fold, List, [], ◌∷◌, length, refl, sym, ap, ◌∙◌}
+use Rattle.std.specs.Option.{option_map}
+use Rattle.std.specs.List.{find, filter_map}
 use Rattle.std.proofs.lemmas.Bool.{false≢true}
 use Rattle.desk_model.specs.declared.command.Cmd.{Cmd}
 use Rattle.desk_model.specs.declared.reply.Reply.{Reply}
@@ -9,17 +9,18 @@ use Rattle.desk_model.specs.declared.reply.Reply.TheVariants as reply
 use Rattle.desk_model.specs.declared.vac_state.VacState.TheVariants as state
 use Rattle.desk_model.specs.declared.person.Person.{Person}
 use Rattle.desk_model.specs.declared.link.Link.{Link}
+use Rattle.desk_model.specs.declared.offer.Offer.{Offer}
 use Rattle.desk_model.specs.Entry.{EntryValue}
 use Rattle.desk_model.specs.Job.{JobValue}
-use Rattle.desk_model.specs.History.{is_done, said}
+use Rattle.desk_model.specs.History.{History, with_entry, step_of, steps, is_done, said, last_of}
 use Rattle.desk_model.specs.Register.{enrols, enrols_any, sets_up, sets_up_any, makes, makes_any, person_of, vacancies}
 use Rattle.desk_model.specs.Boards.{puts, is_on, sends, order, chain}
-use Rattle.desk_model.specs.Offers.{asks_for, offer_in, is_of, opened, offer_said, open_offer, is_to, on_offer, offered_state}
-use Rattle.desk_model.specs.Duty.{tells, keep, events, closes}
+use Rattle.desk_model.specs.Offers.{asks_for, offer_in, is_of, offer_said, open_offer, is_to, on_offer, offered_state}
+use Rattle.desk_model.specs.Duty.{tells, told_at, told_by, events_in, keep, told, events, closes}
 use Rattle.desk_model.specs.Bars.{bar_of, may_have, is_free}
-use Rattle.desk_model.specs.Rank.{is_number, last_place}
+use Rattle.desk_model.specs.Rank.{is_number, sends_at, rank}
 use Rattle.desk_model.specs.Refusal.{changes, IsSameDesk}
-use Rattle.desk_model.proofs.SaidLemmas.{first_of-silent, last_of-silent, all_of-silent}
+use Rattle.desk_model.proofs.SaidLemmas.{first_of-silent, last_of-silent, filter_map-silent, steps-snoc}
 use Rattle.desk_model.proofs.OrderLemmas.{order-silent}
 
 no_change-done : (r : Reply) → changes r ≡ false → is_done r ≡ false
@@ -40,7 +41,7 @@ said-refused f e same = rw (no_change-done e.reply same) refl
 offer_said-refused : (v : ℕ) (e : EntryValue) → changes e.reply ≡ false → offer_said v e ≡ None
 offer_said-refused v e same = rw (no_change-offer e.moment e.reply same) (go (is_of v (asks_for e.stated.cmd)))
   where
-    go : (mine : Bool) → cond mine (opened None) None ≡ None
+    go : (mine : Bool) → cond mine None None ≡ (let none : Option (Option Offer) = None in none)
     go true = refl
     go false = refl
 
@@ -49,68 +50,68 @@ find_agree : {X : Type 0} (f g : X → Bool) → ((x : X) → f x ≡ g x) → (
 find_agree f g agree [] = refl
 find_agree f g agree (x ∷ xs) = rw (agree x, find_agree f g agree xs) refl
 
-chain_agree : (h later : List EntryValue) → ((b : List ℕ) → order later b ≡ order h b) → (codes : List (List ℕ)) → chain later codes ≡ chain h codes
+chain_agree : (h later : History) → ((b : List ℕ) → order later b ≡ order h b) → (codes : List (List ℕ)) → chain later codes ≡ chain h codes
 chain_agree h later same [] = refl
 chain_agree h later same (b ∷ codes) = rw (same b, chain_agree h later same codes) refl
 
-events-silent : (h : List EntryValue) (e : EntryValue) (p : ℕ) → said (tells p) e ≡ None → events (h ++ e ∷ []) p ≡ events h p
-unfolding events
-events-silent h e p none = ap (fold keep []) (all_of-silent (said (tells p)) h e none)
+events-silent : (h : History) (e : EntryValue) (p : ℕ) → said (tells p) e ≡ None → events (with_entry h e) p ≡ events h p
+unfolding events told
+events-silent h e p none =
+    ap (λ xs. events_in (fold keep [] xs))
+    (ap (filter_map (told_by p)) (steps-snoc h e) ∙ filter_map-silent (told_by p) (steps h) (step_of h e) (ap (option_map (told_at (length h.entries))) none))
 
 -- an entry that sends nobody changes no rank
-last_place-silent : (b : List ℕ) (p place : ℕ) (before h : List EntryValue) (e : EntryValue) → said (sends b (before ++ h)) e ≡ None
-    → last_place b p place before (h ++ e ∷ []) ≡ last_place b p place before h
-last_place-silent b p place before [] e none = rw (subst (λ all. said (sends b all) e ≡ None) (append-nil before) none) refl
-last_place-silent b p place before (x ∷ h) e none =
-    let none_later = subst (λ all. said (sends b all) e ≡ None) (sym (append_assoc before (x ∷ []) h)) none in
-    ap (λ later. option_or later (cond (is_number p (said (sends b before) x)) (Some place) None)) (last_place-silent b p (place + 1) (before ++ x ∷ []) h e none_later)
+rank-silent : (h : History) (e : EntryValue) (b : List ℕ) (p : ℕ) → said (sends b h) e ≡ None → rank (with_entry h e) b p ≡ rank h b p
+rank-silent h e b p none =
+    ap (last_of (sends_at b p)) (steps-snoc h e)
+    ∙ last_of-silent (sends_at b p) (steps h) (step_of h e) (ap (λ who. cond (is_number p who) (Some (length h.entries)) None) none)
 
-pub refused : (h : List EntryValue) (e : EntryValue) → changes e.reply ≡ false → IsSameDesk h (h ++ e ∷ [])
+pub refused : (h : History) (e : EntryValue) → changes e.reply ≡ false → IsSameDesk h (with_entry h e)
 refused h e same = record {
-  person = λ p. first_of-silent (said (enrols p)) h e (said-refused (enrols p) e same);
-  board = λ b. first_of-silent (said (sets_up b)) h e (said-refused (sets_up b) e same);
-  vacancy = λ v. first_of-silent (said (makes v)) h e (said-refused (makes v) e same);
-  persons = all_of-silent (said enrols_any) h e (said-refused enrols_any e same);
-  boards = all_of-silent (said sets_up_any) h e (said-refused sets_up_any e same);
-  vacancies = all_of-silent (said makes_any) h e (said-refused makes_any e same);
+  person = λ p. first_of-silent (said (enrols p)) h.entries e (said-refused (enrols p) e same);
+  board = λ b. first_of-silent (said (sets_up b)) h.entries e (said-refused (sets_up b) e same);
+  vacancy = λ v. first_of-silent (said (makes v)) h.entries e (said-refused (makes v) e same);
+  persons = filter_map-silent (said enrols_any) h.entries e (said-refused enrols_any e same);
+  boards = filter_map-silent (said sets_up_any) h.entries e (said-refused sets_up_any e same);
+  vacancies = filter_map-silent (said makes_any) h.entries e (said-refused makes_any e same);
   events = told;
-  closed = λ p. ap is_some (first_of-silent (said (closes p)) h e (said-refused (closes p) e same));
+  closed = λ p. ap is_some (first_of-silent (said (closes p)) h.entries e (said-refused (closes p) e same));
   on = on;
-  rank = λ b p. last_place-silent b p 0 [] h e (said-refused (sends b h) e same);
+  rank = λ b p. rank-silent h e b p (said-refused (sends b h) e same);
   order = orders;
-  chain = chain_agree h (h ++ e ∷ []) orders;
+  chain = chain_agree h (with_entry h e) orders;
   offer = offers;
   on_offer = on_offers;
   state = λ v. ap (λ o. unwrap_or (offered_state o) state.Vacant) (offers v);
   bar = bars;
   first = λ m job.
-      ap (find (λ link. is_free (h ++ e ∷ []) m job link.person)) (chain_agree h (h ++ e ∷ []) orders job.chain)
-      ∙ find_agree (λ (link : Link). is_free (h ++ e ∷ []) m job link.person) (λ link. is_free h m job link.person) (λ link. free m job link.person) (chain h job.chain);
+      ap (find (λ link. is_free (with_entry h e) m job link.person)) (chain_agree h (with_entry h e) orders job.chain)
+      ∙ find_agree (λ (link : Link). is_free (with_entry h e) m job link.person) (λ link. is_free h m job link.person) (λ link. free m job link.person) (chain h job.chain);
 }
   where
-    told : (p : ℕ) → events (h ++ e ∷ []) p ≡ events h p
+    told : (p : ℕ) → events (with_entry h e) p ≡ events h p
     told p = events-silent h e p (said-refused (tells p) e same)
 
-    on : (p : ℕ) (b : List ℕ) → is_on (h ++ e ∷ []) p b ≡ is_on h p b
-    on p b = ap (λ o. unwrap_or o false) (last_of-silent (said (puts b p)) h e (said-refused (puts b p) e same))
+    on : (p : ℕ) (b : List ℕ) → is_on (with_entry h e) p b ≡ is_on h p b
+    on p b = ap (λ o. unwrap_or o false) (last_of-silent (said (puts b p)) h.entries e (said-refused (puts b p) e same))
 
-    orders : (b : List ℕ) → order (h ++ e ∷ []) b ≡ order h b
+    orders : (b : List ℕ) → order (with_entry h e) b ≡ order h b
     orders b = order-silent h e b (said-refused (sends b h) e same) (λ p. said-refused (puts b p) e same)
 
-    offers : (v : ℕ) → open_offer (h ++ e ∷ []) v ≡ open_offer h v
-    offers v = ap (λ o. unwrap_or o None) (last_of-silent (offer_said v) h e (offer_said-refused v e same))
+    offers : (v : ℕ) → open_offer (with_entry h e) v ≡ open_offer h v
+    offers v = ap (λ o. unwrap_or o None) (last_of-silent (offer_said v) h.entries e (offer_said-refused v e same))
 
-    on_offers : (p : ℕ) → on_offer (h ++ e ∷ []) p ≡ on_offer h p
+    on_offers : (p : ℕ) → on_offer (with_entry h e) p ≡ on_offer h p
     on_offers p =
-        ap (find (λ v. is_to p (open_offer (h ++ e ∷ []) v))) (all_of-silent (said makes_any) h e (said-refused makes_any e same))
-        ∙ find_agree (λ v. is_to p (open_offer (h ++ e ∷ []) v)) (λ v. is_to p (open_offer h v)) (λ v. ap (is_to p) (offers v)) (vacancies h)
+        ap (find (λ v. is_to p (open_offer (with_entry h e) v))) (filter_map-silent (said makes_any) h.entries e (said-refused makes_any e same))
+        ∙ find_agree (λ v. is_to p (open_offer (with_entry h e) v)) (λ v. is_to p (open_offer h v)) (λ v. ap (is_to p) (offers v)) (vacancies h)
 
-    bars : (m : ℕ) (job : JobValue) (p : ℕ) (person : Person) → bar_of (h ++ e ∷ []) m job p person ≡ bar_of h m job p person
+    bars : (m : ℕ) (job : JobValue) (p : ℕ) (person : Person) → bar_of (with_entry h e) m job p person ≡ bar_of h m job p person
     bars m job p person = rw (on_offers p, told p) refl
 
-    free : (m : ℕ) (job : JobValue) (p : ℕ) → is_free (h ++ e ∷ []) m job p ≡ is_free h m job p
-    free m job p = ap (may_have (h ++ e ∷ []) m job p) (first_of-silent (said (enrols p)) h e (said-refused (enrols p) e same)) ∙ go (person_of h p)
+    free : (m : ℕ) (job : JobValue) (p : ℕ) → is_free (with_entry h e) m job p ≡ is_free h m job p
+    free m job p = ap (may_have (with_entry h e) m job p) (first_of-silent (said (enrols p)) h.entries e (said-refused (enrols p) e same)) ∙ go (person_of h p)
       where
-        go : (known : Option Person) → may_have (h ++ e ∷ []) m job p known ≡ may_have h m job p known
+        go : (known : Option Person) → may_have (with_entry h e) m job p known ≡ may_have h m job p known
         go None = refl
         go (Some person) = ap is_none (bars m job p person)

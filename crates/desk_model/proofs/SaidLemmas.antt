@@ -1,9 +1,11 @@
--- What a list of entries says where one entry more has come.
-use Rattle.std.proofs.Common.{◌≡◌, Option, None, Some, List, [], ◌∷◌, ◌++◌, refl, sym, ap, ◌∙◌, append-nil}
+-- What entries and steps say where one more has come, and what an entry says that was accepted.
+use Rattle.std.proofs.Common.{◌≡◌, Bool, true, false, cond, Option, None, Some, List, [], ◌∷◌, ◌++◌, refl, sym, ap, ◌∙◌, append-nil, append_assoc}
 use Rattle.std.specs.Option.{option_or}
-use Rattle.std.specs.List.{cons_option}
+use Rattle.std.specs.List.{cons_option, filter_map}
+use Rattle.std.proofs.lemmas.List.Elements.{filter_map-append}
+use Rattle.desk_model.specs.declared.command.Cmd.{Cmd}
 use Rattle.desk_model.specs.Entry.{EntryValue}
-use Rattle.desk_model.specs.History.{first_of, last_of, all_of}
+use Rattle.desk_model.specs.History.{History, history_of, with_entry, step_of, steps_from, steps, is_done, said, first_of, last_of}
 
 or_none : {X : Type 0} (o : Option X) → option_or o None ≡ o
 or_none None = refl
@@ -13,32 +15,51 @@ or_assoc : {X : Type 0} (one two three : Option X) → option_or one (option_or 
 or_assoc None two three = refl
 or_assoc (Some x) two three = refl
 
-cons_option-append : {X : Type 0} (o : Option X) (xs ys : List X) → cons_option o (xs ++ ys) ≡ cons_option o xs ++ ys
-cons_option-append None xs ys = refl
-cons_option-append (Some x) xs ys = refl
-
-pub first_of-snoc : {X : Type 0} (f : EntryValue → Option X) (h : List EntryValue) (e : EntryValue) → first_of f (h ++ e ∷ []) ≡ option_or (first_of f h) (f e)
+pub first_of-snoc : {E : Type 0} {X : Type 0} (f : E → Option X) (es : List E) (e : E) → first_of f (es ++ e ∷ []) ≡ option_or (first_of f es) (f e)
 first_of-snoc f [] e = or_none (f e)
-first_of-snoc f (x ∷ h) e = ap (option_or (f x)) (first_of-snoc f h e) ∙ or_assoc (f x) (first_of f h) (f e)
+first_of-snoc f (x ∷ es) e = ap (option_or (f x)) (first_of-snoc f es e) ∙ or_assoc (f x) (first_of f es) (f e)
 
-pub last_of-snoc : {X : Type 0} (f : EntryValue → Option X) (h : List EntryValue) (e : EntryValue) → last_of f (h ++ e ∷ []) ≡ option_or (f e) (last_of f h)
+pub last_of-snoc : {E : Type 0} {X : Type 0} (f : E → Option X) (es : List E) (e : E) → last_of f (es ++ e ∷ []) ≡ option_or (f e) (last_of f es)
 last_of-snoc f [] e = sym (or_none (f e))
-last_of-snoc f (x ∷ h) e = ap (λ last. option_or last (f x)) (last_of-snoc f h e) ∙ sym (or_assoc (f e) (last_of f h) (f x))
+last_of-snoc f (x ∷ es) e = ap (λ last. option_or last (f x)) (last_of-snoc f es e) ∙ sym (or_assoc (f e) (last_of f es) (f x))
 
-pub all_of-snoc : {X : Type 0} (f : EntryValue → Option X) (h : List EntryValue) (e : EntryValue) → all_of f (h ++ e ∷ []) ≡ all_of f h ++ cons_option (f e) []
-all_of-snoc f [] e = refl
-all_of-snoc f (x ∷ h) e = ap (cons_option (f x)) (all_of-snoc f h e) ∙ cons_option-append (f x) (all_of f h) (cons_option (f e) [])
+pub filter_map-snoc : {E : Type 0} {X : Type 0} (f : E → Option X) (es : List E) (e : E) → filter_map f (es ++ e ∷ []) ≡ filter_map f es ++ cons_option (f e) []
+filter_map-snoc f es e = filter_map-append f es (e ∷ [])
 
--- an entry of which f says nothing
-pub first_of-silent : {X : Type 0} (f : EntryValue → Option X) (h : List EntryValue) (e : EntryValue) → f e ≡ None → first_of f (h ++ e ∷ []) ≡ first_of f h
-first_of-silent f h e none = first_of-snoc f h e ∙ ap (option_or (first_of f h)) none ∙ or_none (first_of f h)
+-- one of which f says nothing
+pub first_of-silent : {E : Type 0} {X : Type 0} (f : E → Option X) (es : List E) (e : E) → f e ≡ None → first_of f (es ++ e ∷ []) ≡ first_of f es
+first_of-silent f es e none = first_of-snoc f es e ∙ ap (option_or (first_of f es)) none ∙ or_none (first_of f es)
 
-pub last_of-silent : {X : Type 0} (f : EntryValue → Option X) (h : List EntryValue) (e : EntryValue) → f e ≡ None → last_of f (h ++ e ∷ []) ≡ last_of f h
-last_of-silent f h e none = last_of-snoc f h e ∙ ap (λ o. option_or o (last_of f h)) none
+pub last_of-silent : {E : Type 0} {X : Type 0} (f : E → Option X) (es : List E) (e : E) → f e ≡ None → last_of f (es ++ e ∷ []) ≡ last_of f es
+last_of-silent f es e none = last_of-snoc f es e ∙ ap (λ o. option_or o (last_of f es)) none
 
-pub all_of-silent : {X : Type 0} (f : EntryValue → Option X) (h : List EntryValue) (e : EntryValue) → f e ≡ None → all_of f (h ++ e ∷ []) ≡ all_of f h
-all_of-silent f h e none = all_of-snoc f h e ∙ ap (λ o. all_of f h ++ cons_option o []) none ∙ append-nil (all_of f h)
+pub filter_map-silent : {E : Type 0} {X : Type 0} (f : E → Option X) (es : List E) (e : E) → f e ≡ None → filter_map f (es ++ e ∷ []) ≡ filter_map f es
+filter_map-silent f es e none = filter_map-snoc f es e ∙ ap (λ o. filter_map f es ++ cons_option o []) none ∙ append-nil (filter_map f es)
 
--- an entry of which f says something
-pub last_of-tells : {X : Type 0} (f : EntryValue → Option X) (h : List EntryValue) (e : EntryValue) (x : X) → f e ≡ Some x → last_of f (h ++ e ∷ []) ≡ Some x
-last_of-tells f h e x some = last_of-snoc f h e ∙ ap (λ o. option_or o (last_of f h)) some
+-- one of which f says something
+pub last_of-tells : {E : Type 0} {X : Type 0} (f : E → Option X) (es : List E) (e : E) (x : X) → f e ≡ Some x → last_of f (es ++ e ∷ []) ≡ Some x
+last_of-tells f es e x some = last_of-snoc f es e ∙ ap (λ o. option_or o (last_of f es)) some
+
+-- ---- the steps of a history that has one entry more
+
+steps_from-snoc : (h : History) (es : List EntryValue) (e : EntryValue)
+    → steps_from h (es ++ e ∷ []) ≡ steps_from h es ++ step_of (history_of h.opening (h.entries ++ es)) e ∷ []
+steps_from-snoc h [] e = ap (λ all. step_of (history_of h.opening all) e ∷ []) (sym (append-nil h.entries))
+steps_from-snoc h (x ∷ es) e =
+    ap (λ rest. step_of h x ∷ rest)
+    (steps_from-snoc (with_entry h x) es e
+    ∙ ap (λ all. steps_from (with_entry h x) es ++ step_of (history_of h.opening all) e ∷ []) (append_assoc h.entries (x ∷ []) es))
+
+pub steps-snoc : (h : History) (e : EntryValue) → steps (with_entry h e) ≡ steps h ++ step_of h e ∷ []
+unfolding steps
+steps-snoc h e = steps_from-snoc (history_of h.opening []) h.entries e
+
+-- ---- what is said
+
+-- who says something was accepted
+pub said-some : {X : Type 0} (f : Cmd → Option X) (e : EntryValue) (x : X) → said f e ≡ Some x → (is_done e.reply ≡ true) × (f e.stated.cmd ≡ Some x)
+said-some f e x is = go (is_done e.reply) refl is
+  where
+    go : (done : Bool) → is_done e.reply ≡ done → cond done (f e.stated.cmd) None ≡ Some x → (is_done e.reply ≡ true) × (f e.stated.cmd ≡ Some x)
+    go true done is = (done, is)
+    go false done is = cc

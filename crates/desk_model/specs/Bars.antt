@@ -1,5 +1,5 @@
 -- Who is barred from a vacancy, and the first who isn't.
-use Rattle.std.specs.Prelude.{ℕ, Bool, false, Option, None, Some, is_none, if◌then◌else◌, List}
+use Rattle.std.specs.Prelude.{ℕ, Bool, false, Option, None, Some, is_none, if◌then◌else◌}
 use Rattle.std.specs.List.{find}
 use Rattle.denial_rules.specs.declared.bar.Bar.{Bar}
 use Rattle.denial_rules.specs.declared.facts.Facts.{Facts}
@@ -7,31 +7,31 @@ use Rattle.denial_rules.specs.Table.{first_bar}
 use Rattle.law_bars.specs.Law.{law_bar}
 use Rattle.desk_model.specs.declared.person.Person.{Person}
 use Rattle.desk_model.specs.declared.link.Link.{Link}
-use Rattle.desk_model.specs.Entry.{EntryValue}
+use Rattle.desk_model.specs.History.{History}
 use Rattle.desk_model.specs.Job.{JobValue}
 use Rattle.desk_model.specs.Register.{person_of}
 use Rattle.desk_model.specs.Boards.{chain}
-use Rattle.desk_model.specs.Duty.{events, in_tour, place_of}
+use Rattle.desk_model.specs.Duty.{events, in_tour, place_at}
 use Rattle.desk_model.specs.Offers.{on_offer}
 
 -- what an enrolled person can do: what they were enrolled with
-abbrev pub quals_of : List EntryValue → ℕ → Person → ℕ
+abbrev pub quals_of : History → ℕ → Person → ℕ
 quals_of h p person = person.quals
 
 -- the first section of the law that keeps an enrolled person from the job, for a call at a moment. It is asked only of
 -- who is in no tour: who is in one is barred by that before
-abbrev pub law_of : List EntryValue → ℕ → JobValue → ℕ → Person → Option Bar
+abbrev pub law_of : History → ℕ → JobValue → ℕ → Person → Option Bar
 law_of h m job p person = if in_tour h p then None else law_bar (events h p) person.home m job.report job.duty job.limbo
 
 -- what bears at a moment on whether an enrolled person may have the job. As yet nobody is marked off, assigned or has
 -- answered.
-abbrev pub facts_of : List EntryValue → ℕ → JobValue → ℕ → Person → Facts
+abbrev pub facts_of : History → ℕ → JobValue → ℕ → Person → Facts
 facts_of h m job p person = record {
   marked_off = false;
   in_tour = in_tour h p;
   assigned = None;
   on_offer = on_offer h p;
-  place_is = place_of h m p person;
+  place_is = place_at h m p person;
   place_asked = job.place;
   craft_is = person.craft;
   craft_asked = job.craft;
@@ -42,17 +42,17 @@ facts_of h m job p person = record {
 }
 
 -- the first bar that keeps an enrolled person from the job at a moment
-abbrev pub bar_of : List EntryValue → ℕ → JobValue → ℕ → Person → Option Bar
+abbrev pub bar_of : History → ℕ → JobValue → ℕ → Person → Option Bar
 bar_of h m job p person = first_bar (facts_of h m job p person)
 
 -- the person is enrolled, and no bar holds
-abbrev pub may_have : List EntryValue → ℕ → JobValue → ℕ → Option Person → Bool
+abbrev pub may_have : History → ℕ → JobValue → ℕ → Option Person → Bool
 may_have h m job p None = false
 may_have h m job p (Some person) = is_none (bar_of h m job p person)
 
-abbrev pub is_free : List EntryValue → ℕ → JobValue → ℕ → Bool
+abbrev pub is_free : History → ℕ → JobValue → ℕ → Bool
 is_free h m job p = may_have h m job p (person_of h p)
 
 -- the first of the chain whom nothing bars at a moment
-abbrev pub first_free : List EntryValue → ℕ → JobValue → Option Link
+abbrev pub first_free : History → ℕ → JobValue → Option Link
 first_free h m job = find (λ link. is_free h m job link.person) (chain h job.chain)

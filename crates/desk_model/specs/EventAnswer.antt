@@ -9,7 +9,7 @@ use Rattle.desk_base.specs.Window.{start_of}
 use Rattle.desk_model.specs.declared.reply.Reply.{Reply}
 use Rattle.desk_model.specs.declared.reply.Reply.TheVariants as reply
 use Rattle.desk_model.specs.Opening.{OpeningValue}
-use Rattle.desk_model.specs.Entry.{EntryValue}
+use Rattle.desk_model.specs.History.{History}
 use Rattle.desk_model.specs.Register.{person_of}
 use Rattle.desk_model.specs.Offers.{on_offer}
 use Rattle.desk_model.specs.Duty.{events, is_closed}
@@ -28,11 +28,11 @@ told_answer o es m e =
 
 -- `past`: nobody has the number; the person was listed, or an event of theirs was accepted by `event`; else what the
 -- event gives
-abbrev pub past_answer : OpeningValue → List EntryValue → ℕ → ℕ → Event → Reply
-past_answer o h m p e =
+abbrev pub past_answer : History → ℕ → ℕ → Event → Reply
+past_answer h m p e =
     if is_none (person_of h p) then reply.UnknownPerson
     else if is_closed h p then reply.PastClosed
-    else told_answer o (events h p) m e
+    else told_answer h.opening (events h p) m e
 
 -- a vacancy is on offer to the person; else what the event gives
 abbrev pub unless_frozen : Option ℕ → Reply → Reply
@@ -40,7 +40,7 @@ unless_frozen None other = other
 unless_frozen (Some vac) other = reply.Frozen vac
 
 -- `event`: nobody has the number; a vacancy is on offer to the person; else what the event gives
-abbrev pub event_answer : OpeningValue → List EntryValue → ℕ → ℕ → Event → Reply
-event_answer o h m p e =
+abbrev pub event_answer : History → ℕ → ℕ → Event → Reply
+event_answer h m p e =
     if is_none (person_of h p) then reply.UnknownPerson
-    else unless_frozen (on_offer h p) (told_answer o (events h p) m e)
+    else unless_frozen (on_offer h p) (told_answer h.opening (events h p) m e)

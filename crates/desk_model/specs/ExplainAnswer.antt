@@ -6,7 +6,7 @@ use Rattle.desk_model.specs.declared.reply.Reply.{Reply}
 use Rattle.desk_model.specs.declared.reply.Reply.TheVariants as reply
 use Rattle.desk_model.specs.declared.person.Person.{Person}
 use Rattle.desk_model.specs.declared.link.Link.{Link}
-use Rattle.desk_model.specs.Entry.{EntryValue}
+use Rattle.desk_model.specs.History.{History}
 use Rattle.desk_model.specs.Job.{JobValue}
 use Rattle.desk_model.specs.Register.{person_of, vacancy_of}
 use Rattle.desk_model.specs.Boards.{chain}
@@ -27,17 +27,17 @@ place_answer bar None = reply.NotListed
 place_answer bar (Some link) = clear_answer bar link
 
 -- nobody has the number; the moment is after the report; else what the chain and the bars give
-abbrev pub person_answer : List EntryValue → ℕ → JobValue → ℕ → Option Person → Reply
+abbrev pub person_answer : History → ℕ → JobValue → ℕ → Option Person → Reply
 person_answer h m job p None = reply.UnknownPerson
 person_answer h m job p (Some person) =
     if nat_lt job.report m then reply.Lapsed job.report
     else place_answer (bar_of h m job p person) (place_in (chain h job.chain) p)
 
 -- the vacancy was never made; else what the person gives, however the vacancy stands
-abbrev pub job_answer : List EntryValue → ℕ → ℕ → Option JobValue → Reply
+abbrev pub job_answer : History → ℕ → ℕ → Option JobValue → Reply
 job_answer h m p None = reply.UnknownVacancy
 job_answer h m p (Some job) = person_answer h m job p (person_of h p)
 
 -- the answer by the numbers of the vacancy and the person
-abbrev pub explain_answer : List EntryValue → ℕ → ℕ → ℕ → Reply
+abbrev pub explain_answer : History → ℕ → ℕ → ℕ → Reply
 explain_answer h m v p = job_answer h m p (vacancy_of h v)

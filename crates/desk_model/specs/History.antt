@@ -1,56 +1,62 @@
--- Histories: what the entries of a list say. The place of an entry is the number of entries before it.
-use Rattle.std.specs.Prelude.{Bool, true, false, Option, None, if◌then◌else◌, List, [], ◌∷◌}
+-- Histories: how a desk was opened, and its entries since. The place of an entry is the number of entries before it.
+use Rattle.std.specs.Prelude.{ℕ, Bool, true, false, Option, None, if◌then◌else◌, List, [], ◌∷◌, ◌++◌, length}
 use Rattle.std.specs.Option.{option_or}
-use Rattle.std.specs.List.{cons_option}
 use Rattle.desk_model.specs.declared.command.Cmd.{Cmd}
 use Rattle.desk_model.specs.declared.reply.Reply.{Reply}
 use Rattle.desk_model.specs.declared.reply.Reply.TheVariants as reply
+use Rattle.desk_model.specs.Opening.{OpeningValue}
 use Rattle.desk_model.specs.Entry.{EntryValue}
+
+pub record History : Type 0 where
+  pub opening : OpeningValue
+  pub entries : List EntryValue
+
+abbrev pub history_of : OpeningValue → List EntryValue → History
+history_of o es = record { opening = o; entries = es }
+
+-- that of a desk which was opened so and has answered nothing yet
+abbrev pub opened : OpeningValue → History
+opened o = history_of o []
+
+-- a history with one entry more
+abbrev pub with_entry : History → EntryValue → History
+with_entry h e = history_of h.opening (h.entries ++ e ∷ [])
+
+-- a step of the desk: an entry, and the history before it
+pub record Step : Type 0 where
+  pub before : History
+  pub entry : EntryValue
+
+abbrev pub step_of : History → EntryValue → Step
+step_of h e = record { before = h; entry = e }
+
+-- the steps that entries are which come after a history
+abbrev pub steps_from : History → List EntryValue → List Step
+steps_from h [] = []
+steps_from h (e ∷ later) = step_of h e ∷ steps_from (with_entry h e) later
+
+-- the steps of a history, in order
+unfoldable pub steps : History → List Step
+steps h = steps_from (opened h.opening) h.entries
+
+-- the place of a step's entry
+abbrev pub place_of : Step → ℕ
+place_of s = length s.before.entries
 
 -- the command was accepted
 abbrev pub is_done : Reply → Bool
 is_done reply.Done = true
-is_done reply.OutsideWindow = false
-is_done (reply.Offered person board position) = false
-is_done (reply.Unfilled listed) = false
-is_done (reply.Hours used capped) = false
-is_done reply.NotListed = false
-is_done (reply.Denied bar) = false
-is_done (reply.Clear board position) = false
-is_done (reply.Frozen vac) = false
-is_done reply.PastClosed = false
-is_done (reply.EventAhead moment) = false
-is_done (reply.Event fault) = false
-is_done reply.Used = false
-is_done reply.PersonsFull = false
-is_done reply.BoardsFull = false
-is_done reply.UnknownPerson = false
-is_done (reply.UnknownBoard board) = false
-is_done reply.ListsFull = false
-is_done reply.MembersFull = false
-is_done reply.VacanciesFull = false
-is_done (reply.BadChain board) = false
-is_done reply.PlanTooLong = false
-is_done (reply.ReportPast report) = false
-is_done reply.UnknownVacancy = false
-is_done (reply.Closed how) = false
-is_done (reply.OfferOpen person) = false
-is_done (reply.Lapsed report) = false
+is_done other = false
 
 -- what an entry says by f, where its command was accepted
 abbrev pub said : {X : Type 0} → (Cmd → Option X) → EntryValue → Option X
 said f e = if is_done e.reply then f e.stated.cmd else None
 
--- what the first entry says of which f says anything, and what the last one says
-abbrev pub first_of : {X : Type 0} → (EntryValue → Option X) → List EntryValue → Option X
+-- what the first says of which f says anything, and what the last one says: of entries, or of steps
+abbrev pub first_of : {E : Type 0} {X : Type 0} → (E → Option X) → List E → Option X
 first_of f [] = None
 first_of f (e ∷ later) = option_or (f e) (first_of f later)
 
-abbrev pub last_of : {X : Type 0} → (EntryValue → Option X) → List EntryValue → Option X
+abbrev pub last_of : {E : Type 0} {X : Type 0} → (E → Option X) → List E → Option X
 last_of f [] = None
 last_of f (e ∷ later) = option_or (last_of f later) (f e)
-
--- all that the entries say by f, in order
-abbrev pub all_of : {X : Type 0} → (EntryValue → Option X) → List EntryValue → List X
-all_of f [] = []
-all_of f (e ∷ later) = cons_option (f e) (all_of f later)

@@ -4,6 +4,7 @@ use Rattle.std.specs.List.{join_with_byte, flat_map}
 use Rattle.desk_base.specs.Minute.{minute_text}
 use Rattle.desk_model.specs.Opening.{OpeningValue, opening_fields}
 use Rattle.desk_model.specs.Entry.{EntryValue}
+use Rattle.desk_model.specs.History.{History}
 use Rattle.desk_model.specs.StatedTexts.{stated_fields}
 use Rattle.desk_model.specs.ReplyTexts.{reply_text}
 
@@ -16,10 +17,10 @@ unfoldable pub entry_line : EntryValue → List ℕ
 entry_line e =
     decimal e.caller ++ 124 ∷ join_with_byte 44 (stated_fields e.stated) ++ 124 ∷ minute_text e.moment ++ 124 ∷ reply_text e.reply ++ 10 ∷ []
 
--- the lines of a history's entries, one after another
+-- the lines of entries, one after another
 abbrev pub entry_lines : List EntryValue → List ℕ
-entry_lines h = flat_map entry_line h
+entry_lines es = flat_map entry_line es
 
--- the journal of a desk that was opened so and has this history
-abbrev pub journal : OpeningValue → List EntryValue → List ℕ
-journal o h = opening_line o ++ entry_lines h
+-- the journal of a history
+abbrev pub journal : History → List ℕ
+journal h = opening_line h.opening ++ entry_lines h.entries

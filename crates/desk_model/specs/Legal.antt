@@ -1,14 +1,17 @@
 -- The entry that the rules give, and legal histories.
-use Rattle.std.specs.Prelude.{◌≡◌, ℕ, Bool, ◌&&◌, nat_le, nat_lt, max, Some, if◌then◌else◌, List, [], ◌∷◌, ◌++◌, take}
-use Rattle.std.specs.List.{slice_get}
+use Rattle.std.specs.Prelude.{◌≡◌, ℕ, ◌≤◌, Bool, ◌&&◌, nat_le, nat_lt, max, Some, unwrap_or, if◌then◌else◌, List, [], ◌∷◌}
+use Rattle.std.specs.List.{All}
 use Rattle.desk_base.specs.Window.{WindowValue, start_of, end_of}
+use Rattle.desk_model.specs.declared.limits.TheConstants.{LAST_CALLER}
 use Rattle.desk_model.specs.declared.command.Cmd.{Cmd}
 use Rattle.desk_model.specs.declared.command.Cmd.TheVariants as cmd
 use Rattle.desk_model.specs.declared.reply.Reply.{Reply}
 use Rattle.desk_model.specs.declared.reply.Reply.TheVariants as reply
-use Rattle.desk_model.specs.Opening.{OpeningValue}
+use Rattle.desk_model.specs.Opening.{OpeningValue, IsOpening}
 use Rattle.desk_model.specs.Statement.{StatedValue}
+use Rattle.desk_model.specs.Fits.{IsStated}
 use Rattle.desk_model.specs.Entry.{EntryValue, entry_of}
+use Rattle.desk_model.specs.History.{History, opened, with_entry, steps, last_of}
 use Rattle.desk_model.specs.EnrolAnswer.{enrol_answer}
 use Rattle.desk_model.specs.BoardAnswer.{board_answer}
 use Rattle.desk_model.specs.ListAnswer.{list_answer}
@@ -23,48 +26,59 @@ abbrev pub is_within : WindowValue → ℕ → Bool
 is_within w minute = nat_le (start_of w) minute && nat_lt minute (end_of w)
 
 -- the last moment: that of the last entry, or the opening's
-abbrev pub last_moment : ℕ → List EntryValue → ℕ
-last_moment start [] = start
-last_moment start (e ∷ later) = last_moment e.moment later
+abbrev pub last_moment : History → ℕ
+last_moment h = unwrap_or (last_of (λ e. Some e.moment) h.entries) h.opening.start
 
 -- the moment of what is stated: the later of its minute and the last moment; the last moment where its minute lies
 -- outside the window
-abbrev pub moment : OpeningValue → List EntryValue → ℕ → ℕ
-moment o h minute = if is_within o.window minute then max minute (last_moment o.start h) else last_moment o.start h
+abbrev pub moment : History → ℕ → ℕ
+moment h minute = if is_within h.opening.window minute then max minute (last_moment h) else last_moment h
 
 -- the answer to a command at a moment
-abbrev pub answer_to : OpeningValue → List EntryValue → ℕ → Cmd → Reply
-answer_to o h m (cmd.Enrol person craft home quals) = enrol_answer h person
-answer_to o h m (cmd.Board board extra place) = board_answer h board
-answer_to o h m (cmd.List person board) = list_answer h person board
-answer_to o h m (cmd.Vacancy job) = vacancy_answer o h m job
-answer_to o h m (cmd.Next vac) = next_answer h m vac
-answer_to o h m (cmd.Past person event) = past_answer o h m person event
-answer_to o h m (cmd.Happened person event) = event_answer o h m person event
-answer_to o h m (cmd.Hours person month) = hours_answer o h person month
-answer_to o h m (cmd.Explain vac person) = explain_answer h m vac person
+abbrev pub answer_to : History → ℕ → Cmd → Reply
+answer_to h m (cmd.Enrol person craft home quals) = enrol_answer h person
+answer_to h m (cmd.Board board extra place) = board_answer h board
+answer_to h m (cmd.List person board) = list_answer h person board
+answer_to h m (cmd.Vacancy job) = vacancy_answer h m job
+answer_to h m (cmd.Next vac) = next_answer h m vac
+answer_to h m (cmd.Past person event) = past_answer h m person event
+answer_to h m (cmd.Happened person event) = event_answer h m person event
+answer_to h m (cmd.Hours person month) = hours_answer h person month
+answer_to h m (cmd.Explain vac person) = explain_answer h m vac person
 
 -- the answer to what is stated; a minute outside the window is named before all else
-abbrev pub answer : OpeningValue → List EntryValue → StatedValue → Reply
-answer o h s = if is_within o.window s.minute then answer_to o h (moment o h s.minute) s.cmd else reply.OutsideWindow
+abbrev pub answer : History → StatedValue → Reply
+answer h s = if is_within h.opening.window s.minute then answer_to h (moment h s.minute) s.cmd else reply.OutsideWindow
 
--- the entry that the rules give after these
-unfoldable pub next : OpeningValue → List EntryValue → ℕ → StatedValue → EntryValue
-next o h caller s = entry_of caller s (moment o h s.minute) (answer o h s)
+-- the entry that the rules give after this history
+unfoldable pub next : History → ℕ → StatedValue → EntryValue
+next h caller s = entry_of caller s (moment h s.minute) (answer h s)
 
--- each entry is the one that the rules give after those before it
-unfoldable pub IsLegal : OpeningValue → List EntryValue → Type 0
-IsLegal o h = (place : ℕ) (e : EntryValue) → slice_get h place ≡ Some e → e ≡ next o (take place h) e.caller e.stated
+-- a caller of 0 to 63 states something of which each value has its form
+pub record MayState (caller : ℕ) (s : StatedValue) : Type 0 where
+  pub caller_in : caller ≤ LAST_CALLER
+  pub stated : IsStated s
+
+-- the entry is one that the rules give after this history
+pub record IsNext (h : History) (e : EntryValue) : Type 0 where
+  pub may : MayState e.caller e.stated
+  pub moment : e.moment ≡ moment h e.stated.minute
+  pub reply : e.reply ≡ answer h e.stated
+
+-- each entry is one that the rules give after those before it
+pub record IsLegal (h : History) : Type 0 where
+  pub opening : IsOpening h.opening
+  pub each : All (λ s. IsNext s.before s.entry) (steps h)
 
 -- who stated what
 abbrev pub given : EntryValue → ℕ × StatedValue
 given e = (e.caller, e.stated)
 
 -- a history, with the entries that the rules give for these commands after it
-unfoldable pub history_from : OpeningValue → List EntryValue → List (ℕ × StatedValue) → List EntryValue
-history_from o h [] = h
-history_from o h ((caller, s) ∷ rest) = history_from o (h ++ next o h caller s ∷ []) rest
+unfoldable pub history_from : History → List (ℕ × StatedValue) → History
+history_from h [] = h
+history_from h ((caller, s) ∷ rest) = history_from (with_entry h (next h caller s)) rest
 
 -- the history that the rules give for these commands
-abbrev pub history : OpeningValue → List (ℕ × StatedValue) → List EntryValue
-history o commands = history_from o [] commands
+abbrev pub history : OpeningValue → List (ℕ × StatedValue) → History
+history o commands = history_from (opened o) commands

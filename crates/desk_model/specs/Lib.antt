@@ -1,10 +1,11 @@
 pub mod Opening
+pub mod Mark
 pub mod Chain
 pub mod ChainInside
 pub mod Job
 pub mod Statement
-pub mod Fits
 pub mod Entry
+pub mod Fits
 pub mod History
 pub mod Register
 pub mod Boards

@@ -2,9 +2,8 @@
 use Rattle.std.specs.Prelude.{◌≡◌, ℕ, Bool, ◌||◌, is_some, List}
 use Rattle.desk_model.specs.declared.reply.Reply.{Reply}
 use Rattle.desk_model.specs.declared.person.Person.{Person}
-use Rattle.desk_model.specs.Entry.{EntryValue}
 use Rattle.desk_model.specs.Job.{JobValue}
-use Rattle.desk_model.specs.History.{is_done}
+use Rattle.desk_model.specs.History.{History, is_done}
 use Rattle.desk_model.specs.Register.{person_of, board_of, vacancy_of, persons, boards, vacancies}
 use Rattle.desk_model.specs.Boards.{is_on, order, chain}
 use Rattle.desk_model.specs.Duty.{events, is_closed}
@@ -18,7 +17,7 @@ changes r = is_done r || is_some (offer_in 0 r)
 
 -- after these entries and after those, the desk has the same persons, boards, lists, vacancies and offers, and at each
 -- moment the same bars and the same first choice
-pub record IsSameDesk (h later : List EntryValue) : Type 0 where
+pub record IsSameDesk (h later : History) : Type 0 where
   pub person : (p : ℕ) → person_of later p ≡ person_of h p
   pub board : (b : List ℕ) → board_of later b ≡ board_of h b
   pub vacancy : (v : ℕ) → vacancy_of later v ≡ vacancy_of h v

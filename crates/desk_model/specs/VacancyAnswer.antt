@@ -2,12 +2,13 @@
 use Rattle.std.specs.Prelude.{ℕ, ◌+◌, Bool, false, not, nat_lt, nat_le, Option, None, Some, is_none, is_some, if◌then◌else◌, List, length, drop}
 use Rattle.std.specs.List.{find}
 use Rattle.desk_base.specs.Window.{end_of}
+use Rattle.desk_model.specs.declared.limits.TheConstants.{PLAN_LIMIT, VACANCY_LIMIT}
 use Rattle.desk_model.specs.declared.reply.Reply.{Reply}
 use Rattle.desk_model.specs.declared.reply.Reply.TheVariants as reply
 use Rattle.desk_model.specs.declared.board_setup.BoardSetup.{BoardSetup}
-use Rattle.desk_model.specs.Entry.{EntryValue}
-use Rattle.desk_model.specs.Job.{JobValue}
 use Rattle.desk_model.specs.Opening.{OpeningValue}
+use Rattle.desk_model.specs.History.{History}
+use Rattle.desk_model.specs.Job.{JobValue}
 use Rattle.desk_model.specs.Register.{board_of, vacancy_of, vacancies}
 
 -- the code is an extra board
@@ -16,18 +17,18 @@ is_extra None = false
 is_extra (Some board) = board.extra
 
 -- the first code of a chain that is no board
-abbrev pub unknown_in : List EntryValue → List (List ℕ) → Option (List ℕ)
+abbrev pub unknown_in : History → List (List ℕ) → Option (List ℕ)
 unknown_in h codes = find (λ b. is_none (board_of h b)) codes
 
 -- the first board behind the chain's first that is no extra board
-abbrev pub bad_in : List EntryValue → List (List ℕ) → Option (List ℕ)
+abbrev pub bad_in : History → List (List ℕ) → Option (List ℕ)
 bad_in h codes = find (λ b. not (is_extra (board_of h b))) (drop 1 codes)
 
 -- the duty is above 720 minutes (49 USC 21103(a)(2)); the report is before the moment; the plan ends after the
 -- window; else it is done
 abbrev pub plan_answer : OpeningValue → ℕ → JobValue → Reply
 plan_answer o m job =
-    if nat_lt 720 job.duty then reply.PlanTooLong
+    if nat_lt PLAN_LIMIT job.duty then reply.PlanTooLong
     else if nat_lt job.report m then reply.ReportPast job.report
     else if nat_lt (end_of o.window) (job.report + job.duty + job.limbo) then reply.OutsideWindow
     else reply.Done
@@ -39,8 +40,8 @@ chain_answer o m job None (Some b) = reply.BadChain b
 chain_answer o m job None None = plan_answer o m job
 
 -- the vacancy was made before; 20,000 were made; else what its chain gives
-abbrev pub vacancy_answer : OpeningValue → List EntryValue → ℕ → JobValue → Reply
-vacancy_answer o h m job =
+abbrev pub vacancy_answer : History → ℕ → JobValue → Reply
+vacancy_answer h m job =
     if is_some (vacancy_of h job.vac) then reply.Used
-    else if nat_le 20_000 (length (vacancies h)) then reply.VacanciesFull
-    else chain_answer o m job (unknown_in h job.chain) (bad_in h job.chain)
+    else if nat_le VACANCY_LIMIT (length (vacancies h)) then reply.VacanciesFull
+    else chain_answer h.opening m job (unknown_in h job.chain) (bad_in h job.chain)

@@ -1,24 +1,22 @@
-ghost use Rattle.std.specs.Prelude.{◌≡◌, ◌≤◌, length};
-
-/// What stands for a list of entries, and has room for more.
+/// What stands for a history, and has room for more entries.
 pub trait Booked {
-    ghost use Rattle.std.specs.Prelude.{ℕ, List};
-    ghost use Rattle.desk_model.specs.Opening.{OpeningValue};
-    ghost use Rattle.desk_model.specs.Entry.{EntryValue};
+    ghost use Rattle.std.specs.Prelude.{ℕ, ◌≡◌, ◌≤◌, length};
+    ghost use Rattle.desk_model.specs.History.{History};
+    ghost use Rattle.desk_model.specs.Mark.{Mark};
 
-    // The entries, in order.
-    ghost list: { Self → List EntryValue };
-
-    // How the desk was opened.
-    ghost opening: { Self → OpeningValue };
+    // How the desk was opened, and its entries in order.
+    ghost history: { Self → History };
 
     // How many entries there can be: those that there are, and those that it has room for beside.
     ghost room: { Self → ℕ };
 
+    // Which wall of windows shows its entries, if any does.
+    ghost mark: { Self → Mark };
+
     /// How many entries there are.
     fn count(&self) -> u32
-        ensures { result ≡ length (list self.now) };
+        ensures { result ≡ length (history self.now).entries };
 
     // There are no more entries than there can be.
-    ghost within: { (book : Self) → length (list book) ≤ room book };
+    ghost within: { (book : Self) → length (history book).entries ≤ room book };
 }

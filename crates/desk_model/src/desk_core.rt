@@ -1,12 +1,12 @@
 ghost use Rattle.std.specs.Prelude.{◌≡◌, ◌+◌, ◌<◌, ◌≤◌};
 
-use crate::{Entry, Stated};
+use crate::{Entry, LAST_CALLER, Stated};
 
 /// What answers commands. It stands for the history of all that it was asked so far.
 pub trait DeskCore: Drop {
-    ghost use Rattle.std.specs.Prelude.{ℕ, List, [], ◌∷◌, ◌++◌};
+    ghost use Rattle.std.specs.Prelude.{ℕ};
     ghost use Rattle.desk_model.specs.Opening.{OpeningValue};
-    ghost use Rattle.desk_model.specs.Entry.{EntryValue};
+    ghost use Rattle.desk_model.specs.History.{History, with_entry};
     ghost use Rattle.desk_model.specs.Legal.{next, IsLegal};
 
     // How the desk was opened.
@@ -16,17 +16,15 @@ pub trait DeskCore: Drop {
     ghost room: { Self → ℕ };
 
     // It answers as a desk does after this history.
-    ghost stands: { Self → List EntryValue → Type 0 };
+    ghost stands: { Self → History → Type 0 };
 
     /// Answers what caller 0 to 63 states: the entry that the rules give after all entries before it. It takes no
     /// memory, and one of the steps that are left.
     fn step(&mut self, caller: u8, stated: Stated) -> Entry
         requires room { 0 < room self.old }
-        requires caller { caller ≤ 63 }
-        ensures answer { (h : List EntryValue) → stands self.old h
-            → result ≡ next (opening self.old) h caller stated }
-        ensures stands { (h : List EntryValue) → stands self.old h
-            → stands self.new (h ++ result ∷ []) }
+        requires caller { caller ≤ LAST_CALLER }
+        ensures answer { (h : History) → stands self.old h → result ≡ next h caller stated }
+        ensures stands { (h : History) → stands self.old h → stands self.new (with_entry h result) }
         ensures room { room self.new + 1 ≡ room self.old }
         ensures opening { opening self.new ≡ opening self.old };
 
@@ -35,8 +33,10 @@ pub trait DeskCore: Drop {
         ensures { result ≡ room self.now };
 
     // There is a history that it stands for.
-    ghost some: { (core : Self) → ∥ ((h : List EntryValue) × stands core h) ∥₁ };
+    ghost some: { (core : Self) → ∥ ((h : History) × stands core h) ∥₁ };
 
-    // What it stands for is legal.
-    ghost legal: { (core : Self) (h : List EntryValue) → stands core h → IsLegal (opening core) h };
+    // What it stands for was opened as it was, and is legal.
+    ghost opened: { (core : Self) (h : History) → stands core h → h.opening ≡ opening core };
+
+    ghost legal: { (core : Self) (h : History) → stands core h → IsLegal h };
 }

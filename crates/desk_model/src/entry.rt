@@ -1,9 +1,8 @@
 ghost use Rattle.std.specs.Prelude.{◌≡◌, ◌≤◌};
-ghost use Rattle.desk_base.specs.Minute.{IsInYears};
-ghost use Rattle.desk_model.specs.Entry.{entry_of, IsEntry};
-ghost use Rattle.desk_model.specs.Fits.{HasItsMinute};
+ghost use Rattle.desk_model.specs.declared.limits.TheConstants.{LAST_CALLER};
+ghost use Rattle.desk_model.specs.Entry.{entry_of};
 
-use crate::{Cmd, Reply, Stated};
+use crate::{Reply, Stated};
 use desk_base::Minute;
 use std::marker::Model;
 
@@ -17,13 +16,15 @@ pub struct Entry {
 }
 
 impl Model for Entry {
-    ghost use Rattle.desk_model.specs.Entry.{EntryValue, entry_of, IsEntry};
+    ghost use Rattle.std.specs.Prelude.{◌≤◌};
+    ghost use Rattle.desk_model.specs.declared.limits.TheConstants.{LAST_CALLER};
+    ghost use Rattle.desk_model.specs.Entry.{EntryValue, entry_of};
 
     ghost Value = { EntryValue };
 
     ghost view = { λ e. entry_of e.caller e.stated e.moment e.reply };
 
-    ghost invariant = { λ e. IsEntry e.caller e.moment e.reply };
+    ghost invariant = { λ e. e.caller ≤ LAST_CALLER };
 
     ghost inverse = { λ v. record {
       caller = v.caller;
@@ -34,9 +35,9 @@ impl Model for Entry {
 }
 
 impl Entry {
-    /// An entry of caller 0 to 63, at a moment of the years 2000 to 2099, with a reply whose minute can be written.
+    /// An entry of caller 0 to 63.
     pub fn new(caller: u8, stated: Stated, moment: Minute, reply: Reply) -> Entry
-        requires { IsEntry caller moment reply }
+        requires { caller ≤ LAST_CALLER }
         ensures { result ≡ entry_of caller stated moment reply }
     {
         Entry {
@@ -50,7 +51,7 @@ impl Entry {
     /// The caller, 0 to 63; the day file's commands are those of caller 0.
     pub fn caller(&self) -> u8
         ensures value { result ≡ self.now.caller }
-        ensures range { result ≤ 63 }
+        ensures range { result ≤ LAST_CALLER }
     {
         self.caller
     }
@@ -62,18 +63,16 @@ impl Entry {
         &self.stated
     }
 
-    /// When the desk took it, in the years 2000 to 2099.
+    /// When the desk took it.
     pub fn moment(&self) -> Minute
-        ensures value { result ≡ self.now.moment }
-        ensures range { IsInYears result }
+        ensures { result ≡ self.now.moment }
     {
         self.moment
     }
 
     /// What the desk answered.
     pub fn reply(&self) -> Reply
-        ensures value { result ≡ self.now.reply }
-        ensures range { HasItsMinute result }
+        ensures { result ≡ self.now.reply }
     {
         self.reply
     }

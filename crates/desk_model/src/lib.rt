@@ -10,6 +10,7 @@ mod entry;
 mod job;
 mod laws;
 mod legal;
+mod limits;
 mod link;
 mod offer;
 mod opening;
@@ -26,10 +27,14 @@ pub use desk_core::DeskCore;
 pub use entry::Entry;
 pub use job::Job;
 pub use laws::{
-    a_refusal_changes_nothing, an_offer_keeps_the_law, no_event_is_left_out, one_offer_to_a_person,
+    a_refusal_changes_nothing, each_offer_is_right, no_event_is_left_out, one_offer_to_a_person,
     order_is_by_rank, unfilled_where_all_are_barred,
 };
-pub use legal::one_history_is_legal;
+pub use legal::{boards_and_chains_are_bounded, one_history_is_legal};
+pub use limits::{
+    BOARD_LIMIT, CHAIN_LIMIT, LAST_CALLER, LIST_LIMIT, MEMBER_LIMIT, PERSON_LIMIT, PLAN_LIMIT,
+    VACANCY_LIMIT,
+};
 pub use link::Link;
 pub use offer::Offer;
 pub use opening::Opening;

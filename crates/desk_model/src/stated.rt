@@ -1,12 +1,10 @@
 ghost use Rattle.std.specs.Prelude.{◌≡◌};
 ghost use Rattle.std.specs.Option.{SomeIff};
 ghost use Rattle.std.specs.Bool.{Decides};
-ghost use Rattle.duty_events.specs.Allowed.{first_minute, last_minute};
-ghost use Rattle.desk_base.specs.Minute.{IsInYears};
 ghost use Rattle.desk_model.specs.Statement.{stated_of};
-ghost use Rattle.desk_model.specs.Fits.{TellsYears, IsInItsYears};
+ghost use Rattle.desk_model.specs.Fits.{IsEvent, IsJob, IsCommand, IsStated};
 
-use crate::Cmd;
+use crate::{Cmd, Job};
 use desk_base::Minute;
 use duty_events::Event;
 use std::marker::Model;
@@ -20,13 +18,13 @@ pub struct Stated {
 
 impl Model for Stated {
     ghost use Rattle.desk_model.specs.Statement.{StatedValue, stated_of};
-    ghost use Rattle.desk_model.specs.Fits.{IsInItsYears};
+    ghost use Rattle.desk_model.specs.Fits.{IsStated};
 
     ghost Value = { StatedValue };
 
     ghost view = { λ s. stated_of s.minute s.cmd };
 
-    ghost invariant = { λ s. IsInItsYears (stated_of s.minute s.cmd) };
+    ghost invariant = { λ s. IsStated (stated_of s.minute s.cmd) };
 
     ghost inverse = { λ v. record { minute = v.minute; cmd = v.cmd } };
 }
@@ -35,9 +33,9 @@ impl Stated {
     /// A command stated at a minute; `None` where that minute, or one that the command tells of an event, or the
     /// month that it asks about, lies outside the years 2000 to 2099.
     pub fn new(minute: Minute, cmd: Cmd) -> Option<Stated>
-        ensures { SomeIff result (IsInItsYears (stated_of minute cmd)) (stated_of minute cmd) }
+        ensures { SomeIff result (IsStated (stated_of minute cmd)) (stated_of minute cmd) }
     {
-        if minute.is_in_years() && tells_years(&cmd) {
+        if minute.is_in_years() && is_command(&cmd) {
             Some(Stated { minute, cmd })
         } else {
             None
@@ -47,40 +45,103 @@ impl Stated {
     /// The minute, of the years 2000 to 2099.
     pub fn minute(&self) -> Minute
         ensures value { result ≡ self.now.minute }
-        ensures range { IsInYears result }
+        ensures range { IsStated self.now }
     {
         self.minute
     }
 
-    /// The command.
+    /// The command, each of whose values is in its range.
     pub fn cmd(&self) -> &Cmd
         ensures value { result.now ≡ self.now.cmd }
-        ensures range { TellsYears result.now }
+        ensures range { IsStated self.now }
     {
         &self.cmd
     }
 }
 
-// The event's minutes lie in the years 2000 to 2099.
-fn is_event_in_years(event: &Event) -> bool
-    ensures { Decides result (IsInYears (first_minute event.now) × IsInYears (last_minute event.now)) }
-{
-    event.first_minute().is_in_years() && event.last_minute().is_in_years()
-}
-
-// The minutes and the month that a command tells do.
-fn tells_years(cmd: &Cmd) -> bool
-    ensures { Decides result (TellsYears cmd.now) }
+// Each value of the command has its form: those that tell of time lie in the years 2000 to 2099, and of the others their types
+// keep it.
+fn is_command(cmd: &Cmd) -> bool
+    ensures { Decides result (IsCommand cmd.now) }
 {
     match cmd {
-        Cmd::Past { event, .. } => is_event_in_years(event),
-        Cmd::Happened { event, .. } => is_event_in_years(event),
-        Cmd::Hours { month, .. } => month.number() >= 360 && month.number() < 1560,
-        Cmd::Enrol { .. }
-        | Cmd::Board { .. }
-        | Cmd::List { .. }
-        | Cmd::Vacancy(_)
-        | Cmd::Next { .. }
-        | Cmd::Explain { .. } => true,
+        Cmd::Enrol {
+            person,
+            home,
+            quals,
+            ..
+        } => {
+            person.number();
+            home.text();
+            quals.bits();
+            true
+        }
+        Cmd::Board { board, place, .. } => {
+            board.text();
+            place.text();
+            true
+        }
+        Cmd::List { person, board } => {
+            person.number();
+            board.text();
+            true
+        }
+        Cmd::Past { person, event } => {
+            person.number();
+            is_event(event)
+        }
+        Cmd::Happened { person, event } => {
+            person.number();
+            is_event(event)
+        }
+        Cmd::Vacancy(job) => is_job(job),
+        Cmd::Next { vac } => {
+            vac.number();
+            true
+        }
+        Cmd::Hours { person, month } => {
+            person.number();
+            month.is_in_years()
+        }
+        Cmd::Explain { vac, person } => {
+            vac.number();
+            person.number();
+            true
+        }
     }
+}
+
+// Each value of the event has its form.
+fn is_event(event: &Event) -> bool
+    ensures { Decides result (IsEvent event.now) }
+{
+    match event {
+        Event::Interim(at, _, place) | Event::Final(at, place) => {
+            place.text();
+            at.is_in_years()
+        }
+        Event::Other(span, place) => {
+            place.text();
+            span.from().is_in_years() && span.to().is_in_years()
+        }
+        Event::Ride(at)
+        | Event::Duty(at)
+        | Event::Resume(at)
+        | Event::Relieve(at)
+        | Event::RideHome(at) => at.is_in_years(),
+    }
+}
+
+// So has each value of a job.
+fn is_job(job: &Job) -> bool
+    ensures { Decides result (IsJob job.now) }
+{
+    job.vac().number();
+    job.quals().bits();
+    job.place().text();
+    job.report();
+    job.duty();
+    job.limbo();
+    job.chain().codes();
+    true
 }

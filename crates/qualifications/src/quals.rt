@@ -27,6 +27,14 @@ impl Model for Quals {
 }
 
 impl Quals {
+    /// The bits of the numbers in the set, 0 to 63.
+    pub fn bits(self) -> u64
+        ensures value { result ≡ self }
+        ensures range { result < 2 ^ 64 }
+    {
+        self.0
+    }
+
     /// Whether the set has this number, 0 to 63.
     pub fn has(self, number: u8) -> bool
         requires { number ≤ 63 }

@@ -1,5 +1,5 @@
-use Rattle.desk_model.proofs.ToldLemmas.{events-all}
+use Rattle.desk_model.proofs.EventLemmas.{events-all}
 use Rattle.desk_model.proofs.laws.no_event_is_left_out.Goals as goal
 
 pub returns : goal.returns
-returns c o h legal stated p = events-all o h p legal stated
+returns c h legal p = events-all h p legal

@@ -1,22 +1,21 @@
-use Rattle.std.proofs.Common.{[], sym}
-use Rattle.desk_model.proofs.LegalLemmas.{legal-nil, legal-next, legal-history_from, given-history_from, history_from-given}
-use Rattle.desk_model.proofs.BoundLemmas.{length-order}
+use Rattle.desk_model.specs.History.{opened}
+use Rattle.desk_model.proofs.LegalLemmas.{legal-opened, legal-with, IsNext-next, legal-history_from, opening-history_from, given-history_from, history-given}
 use Rattle.desk_model.proofs.legal.one_history_is_legal.Goals as goal
 
 pub returns-clause-empty : goal.returns-clause-empty
-returns-clause-empty c o = legal-nil o
-
-pub returns-clause-boards : goal.returns-clause-boards
-returns-clause-boards c o h b legal = length-order o h b legal
+returns-clause-empty c o valid = legal-opened o valid
 
 pub returns-clause-legal : goal.returns-clause-legal
-returns-clause-legal c o commands = legal-history_from o [] commands (legal-nil o)
+returns-clause-legal c o commands valid may = legal-history_from (opened o) commands (legal-opened o valid) may
+
+pub returns-clause-opening : goal.returns-clause-opening
+returns-clause-opening c o commands = opening-history_from (opened o) commands
 
 pub returns-clause-given : goal.returns-clause-given
-returns-clause-given c o commands = given-history_from o [] commands
+returns-clause-given c o commands = given-history_from (opened o) commands
 
 pub returns-clause-only : goal.returns-clause-only
-returns-clause-only c o h legal = sym (history_from-given o [] h legal)
+returns-clause-only c h legal = history-given h legal
 
 pub returns-clause-grows : goal.returns-clause-grows
-returns-clause-grows c o h caller s legal = legal-next o h caller s legal
+returns-clause-grows c h caller s legal may = legal-with h _ legal (IsNext-next h caller s may)

@@ -1,0 +1,7 @@
+use Rattle.desk_model.specs.Denials.{OffersRightly}
+use Rattle.desk_model.proofs.LegalLemmas.{each-step}
+use Rattle.desk_model.proofs.OfferLemmas.{offers-rightly}
+use Rattle.desk_model.proofs.laws.each_offer_is_right.Goals as goal
+
+pub returns : goal.returns
+returns c h legal = each-step OffersRightly offers-rightly h legal
