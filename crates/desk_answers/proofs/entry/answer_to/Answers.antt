@@ -1,0 +1,10 @@
+use Rattle.desk_answers.proofs.entry.answer_to.Goals as goal
+
+pub returns-in-Enrol-clause-answer : goal.returns-in-Enrol-clause-answer
+returns-in-Enrol-clause-answer g c h tells = rw c.in-Enrol.is (c.enrol_answer.ensures h tells)
+
+pub returns-in-Board-clause-answer : goal.returns-in-Board-clause-answer
+returns-in-Board-clause-answer g c h tells = rw c.in-Board.is (c.board_answer.ensures h tells)
+
+pub returns-in-List-clause-answer : goal.returns-in-List-clause-answer
+returns-in-List-clause-answer g c h tells = rw c.in-List.is (c.list_answer.ensures h tells)

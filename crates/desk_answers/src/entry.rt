@@ -1,0 +1,62 @@
+ghost use Rattle.std.specs.Prelude.{◌≡◌, ◌≤◌};
+ghost use Rattle.desk_model.specs.declared.limits.TheConstants.{LAST_CALLER};
+ghost use Rattle.desk_model.specs.History.{History};
+ghost use Rattle.desk_model.specs.Legal.{moment, answer_to, answer, next};
+
+use crate::Reads;
+use crate::board_answer::board_answer;
+use crate::enrol_answer::enrol_answer;
+use crate::event_answer::{event_answer, past_answer};
+use crate::explain_answer::explain_answer;
+use crate::hours_answer::hours_answer;
+use crate::list_answer::list_answer;
+use crate::moment::{is_within, moment};
+use crate::next_answer::next_answer;
+use crate::vacancy_answer::vacancy_answer;
+use desk_base::Minute;
+use desk_model::{Cmd, Entry, LAST_CALLER, Reply, Stated};
+
+// The answer to a command at a moment.
+fn answer_to<R: Reads>(reads: &R, work: &mut R::Work, moment: Minute, cmd: &Cmd) -> Reply
+    requires { R.suits reads.now work.old }
+    ensures answer { (h : History) → R.tells reads.now h → result ≡ answer_to h moment cmd.now }
+    ensures suits { R.suits reads.now work.new }
+{
+    match cmd {
+        Cmd::Enrol { person, .. } => enrol_answer(reads, *person),
+        Cmd::Board { board, .. } => board_answer(reads, board),
+        Cmd::List { person, board } => list_answer(reads, *person, board),
+        Cmd::Past { person, event } => past_answer(reads, moment, *person, event),
+        Cmd::Happened { person, event } => event_answer(reads, moment, *person, event),
+        Cmd::Vacancy(job) => vacancy_answer(reads, moment, job),
+        Cmd::Next { vac } => next_answer(reads, work, moment, *vac),
+        Cmd::Hours { person, month } => hours_answer(reads, work, *person, *month),
+        Cmd::Explain { vac, person } => explain_answer(reads, work, moment, *vac, *person),
+    }
+}
+
+// The answer to what is stated; a minute outside the window is named before all else.
+fn answer<R: Reads>(reads: &R, work: &mut R::Work, taken: Minute, stated: &Stated) -> Reply
+    requires { R.suits reads.now work.old }
+    ensures answer { (h : History) → R.tells reads.now h → taken ≡ moment h stated.now.minute
+        → result ≡ answer h stated.now }
+    ensures suits { R.suits reads.now work.new }
+{
+    if is_within(&reads.opening().window(), stated.minute()) {
+        answer_to(reads, work, taken, stated.cmd())
+    } else {
+        Reply::OutsideWindow
+    }
+}
+
+/// The entry that the rules give for what caller 0 to 63 states.
+pub fn next_entry<R: Reads>(reads: &R, work: &mut R::Work, caller: u8, stated: Stated) -> Entry
+    requires caller { caller ≤ LAST_CALLER }
+    requires suits { R.suits reads.now work.old }
+    ensures entry { (h : History) → R.tells reads.now h → result ≡ next h caller stated }
+    ensures suits { R.suits reads.now work.new }
+{
+    let taken = moment(reads, stated.minute());
+    let reply = answer(reads, work, taken, &stated);
+    Entry::new(caller, stated, taken, reply)
+}

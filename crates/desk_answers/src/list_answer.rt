@@ -1,0 +1,26 @@
+ghost use Rattle.std.specs.Prelude.{◌≡◌};
+ghost use Rattle.desk_model.specs.History.{History};
+ghost use Rattle.desk_model.specs.ListAnswer.{list_answer};
+
+use crate::Reads;
+use desk_base::{Code, PersonNo};
+use desk_model::{LIST_LIMIT, MEMBER_LIMIT, Reply};
+
+/// The answer to `list`.
+pub(crate) fn list_answer<R: Reads>(reads: &R, person: PersonNo, board: &Code) -> Reply
+    ensures { (h : History) → R.tells reads.now h → result ≡ list_answer h person board.now }
+{
+    if reads.person(person).is_none() {
+        Reply::UnknownPerson
+    } else if reads.board(board).is_none() {
+        Reply::UnknownBoard(*board)
+    } else if reads.is_on(person, board) {
+        Reply::Used
+    } else if reads.list_count(person) >= LIST_LIMIT {
+        Reply::ListsFull
+    } else if reads.member_count(board) >= MEMBER_LIMIT {
+        Reply::MembersFull
+    } else {
+        Reply::Done
+    }
+}

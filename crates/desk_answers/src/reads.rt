@@ -1,0 +1,132 @@
+ghost use Rattle.std.specs.Prelude.{◌≡◌, length};
+ghost use Rattle.duty_events.specs.Allowed.{judge};
+ghost use Rattle.duty_events.specs.Lists.{stage_of, latest};
+ghost use Rattle.month_hours.specs.Used.{used};
+ghost use Rattle.month_hours.specs.Capped.{capped};
+ghost use Rattle.desk_model.specs.Register.{person_of, persons, board_of, boards, vacancy_of, vacancies};
+ghost use Rattle.desk_model.specs.Boards.{is_on, boards_of, order, chain};
+ghost use Rattle.desk_model.specs.Duty.{events, is_closed};
+ghost use Rattle.desk_model.specs.Offers.{on_offer, state_of};
+ghost use Rattle.desk_model.specs.Bars.{bar_of, first_free};
+ghost use Rattle.desk_model.specs.ExplainAnswer.{place_in};
+ghost use Rattle.desk_model.specs.Legal.{last_moment};
+
+use denial_rules::Bar;
+use desk_base::{Code, Minute, Month, PersonNo, VacNo};
+use desk_model::{BoardSetup, Chain, Job, Link, Opening, Person, VacState};
+use duty_events::{Event, EventFault, Stage};
+
+/// What can tell of the history that it stands for. It may want memory to work in.
+pub trait Reads {
+    ghost use Rattle.desk_model.specs.History.{History};
+
+    /// The memory that it works in.
+    type Work;
+
+    // It stands for this history.
+    ghost tells: { Self → History → Type 0 };
+
+    // The memory has room enough for it.
+    ghost suits: { Self → Self.Work → Type 0 };
+
+    /// How the desk was opened.
+    fn opening(&self) -> Opening
+        ensures { (h : History) → tells self.now h → result ≡ h.opening };
+
+    /// The moment of the last entry, or the opening's first minute.
+    fn last_moment(&self) -> Minute
+        ensures { (h : History) → tells self.now h → result ≡ last_moment h };
+
+    /// What the person was enrolled with; `None` where nobody has the number.
+    fn person(&self, person: PersonNo) -> Option<Person>
+        ensures { (h : History) → tells self.now h → result ≡ person_of h person };
+
+    /// How many persons are enrolled.
+    fn person_count(&self) -> usize
+        ensures { (h : History) → tells self.now h → result ≡ length (persons h) };
+
+    /// What the board was set up as; `None` where the code is no board.
+    fn board(&self, board: &Code) -> Option<BoardSetup>
+        ensures { (h : History) → tells self.now h → result ≡ board_of h board.now };
+
+    /// How many boards there are.
+    fn board_count(&self) -> usize
+        ensures { (h : History) → tells self.now h → result ≡ length (boards h) };
+
+    /// The job that the vacancy was made as; `None` where it never was.
+    fn vacancy(&self, vac: VacNo) -> Option<Job>
+        ensures { (h : History) → tells self.now h → result ≡ vacancy_of h vac };
+
+    /// How many vacancies were made.
+    fn vacancy_count(&self) -> usize
+        ensures { (h : History) → tells self.now h → result ≡ length (vacancies h) };
+
+    /// How a vacancy stands.
+    fn state(&self, vac: VacNo) -> VacState
+        ensures { (h : History) → tells self.now h → result ≡ state_of h vac };
+
+    /// Whether the person is on the board.
+    fn is_on(&self, person: PersonNo, board: &Code) -> bool
+        ensures { (h : History) → tells self.now h → result ≡ is_on h person board.now };
+
+    /// On how many boards the person is.
+    fn list_count(&self, person: PersonNo) -> usize
+        ensures { (h : History) → tells self.now h → result ≡ length (boards_of h person) };
+
+    /// How many persons are on the board.
+    fn member_count(&self, board: &Code) -> usize
+        ensures { (h : History) → tells self.now h → result ≡ length (order h board.now) };
+
+    /// Whether what the person did before they were listed can't be told any more.
+    fn is_closed(&self, person: PersonNo) -> bool
+        ensures { (h : History) → tells self.now h → result ≡ is_closed h person };
+
+    /// The vacancy that is on offer to the person; `None` where none is.
+    fn on_offer(&self, person: PersonNo) -> Option<VacNo>
+        ensures { (h : History) → tells self.now h → result ≡ on_offer h person };
+
+    /// The stage that an event leads to after the person's events, or why it is not allowed.
+    fn judge(&self, person: PersonNo, event: &Event) -> Result<Stage, EventFault>
+        ensures { (h : History) → tells self.now h
+            → result ≡ judge (stage_of (events h person)) event.now (latest (events h person)) };
+
+    /// How many minutes of the month the person worked.
+    fn used(&self, work: &mut Self::Work, person: PersonNo, month: Month) -> u32
+        requires { suits self.now work.old }
+        ensures answer { (h : History) → tells self.now h → result ≡ used (events h person) month }
+        ensures suits { suits self.now work.new };
+
+    /// How many of the person's minutes of limbo in the month are capped.
+    fn capped(&self, work: &mut Self::Work, person: PersonNo, month: Month) -> u32
+        requires { suits self.now work.old }
+        ensures answer { (h : History) → tells self.now h → result ≡ capped (events h person) month }
+        ensures suits { suits self.now work.new };
+
+    /// The first bar that keeps an enrolled person from the job at this moment; `None` where nothing does.
+    fn bar(
+        &self,
+        work: &mut Self::Work,
+        moment: Minute,
+        job: &Job,
+        number: PersonNo,
+        person: &Person,
+    ) -> Option<Bar>
+        requires { suits self.now work.old }
+        ensures answer { (h : History) → tells self.now h
+            → result ≡ bar_of h moment job.now number person.now }
+        ensures suits { suits self.now work.new };
+
+    /// The first place of the job's chain whose person nothing bars from it at this moment; `None` where all are barred.
+    fn first_free(&self, work: &mut Self::Work, moment: Minute, job: &Job) -> Option<Link>
+        requires { suits self.now work.old }
+        ensures answer { (h : History) → tells self.now h → result ≡ first_free h moment job.now }
+        ensures suits { suits self.now work.new };
+
+    /// The first place of the chain that is this person's; `None` where none is.
+    fn place_in(&self, boards: &Chain, person: PersonNo) -> Option<Link>
+        ensures { (h : History) → tells self.now h → result ≡ place_in (chain h boards.now) person };
+
+    /// How many places the chain has.
+    fn listed(&self, boards: &Chain) -> u16
+        ensures { (h : History) → tells self.now h → result ≡ length (chain h boards.now) };
+}
