@@ -4,11 +4,13 @@ pub mod SaidLemmas
 pub mod LegalLemmas
 pub mod OrderLemmas
 pub mod RankLemmas
+pub mod MovedLemmas
 pub mod BoundLemmas
 pub mod EventLemmas
 pub mod RefusalLemmas
 pub mod OfferedLemmas
 pub mod OneOfferLemmas
+pub mod OnOfferLemmas
 pub mod EnrolledLemmas
 pub mod DenialLemmas
 pub mod OfferLemmas

@@ -17,7 +17,7 @@ use Rattle.desk_model.specs.History.{History, with_entry, said, first_of}
 use Rattle.desk_model.specs.Register.{makes, makes_any, person_of, vacancy_of, vacancies}
 use Rattle.desk_model.specs.Boards.{chain}
 use Rattle.desk_model.specs.Duty.{in_tour}
-use Rattle.desk_model.specs.Offers.{asks_for, is_of, offer_said, open_offer, is_to, on_offer}
+use Rattle.desk_model.specs.Offers.{asks_for, offer_in, is_of, offer_said, open_offer, is_to, offered_to, on_offer}
 use Rattle.desk_model.specs.Bars.{bar_of, may_have, is_free}
 use Rattle.desk_model.specs.Legal.{IsNext, IsLegal}
 use Rattle.desk_model.proofs.SaidLemmas.{last_of-silent, last_of-tells, filter_map-snoc, said-some}
@@ -27,7 +27,7 @@ use Rattle.desk_model.proofs.LegalLemmas.{legal-induction}
 
 -- ---- searches
 
-find-passes : {X : Type 0} (test : X → Bool) (xs : List X) (x : X) → find test xs ≡ Some x → test x ≡ true
+pub find-passes : {X : Type 0} (test : X → Bool) (xs : List X) (x : X) → find test xs ≡ Some x → test x ≡ true
 find-passes test [] x found = cc
 find-passes test (y ∷ ys) x found = go (test y) refl (find-passes test ys x) found
   where
@@ -35,7 +35,7 @@ find-passes test (y ∷ ys) x found = go (test y) refl (find-passes test ys x) f
     go true is rest found = let same : y ≡ x = cc in subst (λ z. test z ≡ true) same is
     go false is rest found = rest found
 
-find-fails : (test : ℕ → Bool) (xs : List ℕ) (x : ℕ) → find test xs ≡ None → list_any (nat_eq x) xs ≡ true → test x ≡ false
+pub find-fails : (test : ℕ → Bool) (xs : List ℕ) (x : ℕ) → find test xs ≡ None → list_any (nat_eq x) xs ≡ true → test x ≡ false
 find-fails test [] x none any = absurd (false≢true any)
 find-fails test (y ∷ ys) x none any = go (test y) (nat_eq x y) refl refl (find-fails test ys x) none any
   where
@@ -107,22 +107,24 @@ still-among h e v any =
 -- ---- what the entry that the rules give says of offers
 
 -- it opens this offer of this vacancy, which was made, to a person without one, and says nothing of others
-record Opens (h : History) (e : EntryValue) : Type 0 where
-  vac : ℕ
-  offer : Offer
-  this : (v : ℕ) → nat_eq vac v ≡ true → offer_said v e ≡ Some (Some offer)
-  no_other : (v : ℕ) → nat_eq vac v ≡ false → offer_said v e ≡ None
-  made : list_any (nat_eq vac) (vacancies h) ≡ true
-  free : on_offer h offer.person ≡ None
+pub record Opens (h : History) (e : EntryValue) : Type 0 where
+  pub vac : ℕ
+  pub offer : Offer
+  pub this : (v : ℕ) → nat_eq vac v ≡ true → offer_said v e ≡ Some (Some offer)
+  pub no_other : (v : ℕ) → nat_eq vac v ≡ false → offer_said v e ≡ None
+  pub to : (p : ℕ) → nat_eq offer.person p ≡ true → offered_to p e ≡ Some vac
+  pub to_other : (p : ℕ) → nat_eq offer.person p ≡ false → offered_to p e ≡ None
+  pub made : list_any (nat_eq vac) (vacancies h) ≡ true
+  pub free : on_offer h offer.person ≡ None
 
-next-says : (h : History) (e : EntryValue) → IsNext h e → ((v : ℕ) → offer_said v e ≡ None) ⊎ Opens h e
+pub next-says : (h : History) (e : EntryValue) → IsNext h e → (((v : ℕ) → offer_said v e ≡ None) × ((p : ℕ) → offered_to p e ≡ None)) ⊎ Opens h e
 next-says h e is = go e.reply refl
   where
     none : (mine : Bool) → cond mine None None ≡ (let nothing : Option (Option Offer) = None in nothing)
     none true = refl
     none false = refl
 
-    go : (r : Reply) → e.reply ≡ r → ((v : ℕ) → offer_said v e ≡ None) ⊎ Opens h e
+    go : (r : Reply) → e.reply ≡ r → (((v : ℕ) → offer_said v e ≡ None) × ((p : ℕ) → offered_to p e ≡ None)) ⊎ Opens h e
     go (reply.Offered p b k) told =
         let offered = entry-offered h e p k b is told in
         let was = offered.1.1 in
@@ -131,18 +133,20 @@ next-says h e is = go e.reply refl
           offer = record { person = p; board = b; made = e.moment };
           this = λ v same. rw (told, offered.1.0, same) refl;
           no_other = λ v other. rw (told, offered.1.0, other) refl;
+          to = λ q same. ap (λ r. cond (is_to q (offer_in e.moment r)) (asks_for e.stated.cmd) None) told ∙ ap (λ mine. cond mine (asks_for e.stated.cmd) None) same ∙ ap asks_for offered.1.0;
+          to_other = λ q other. ap (λ r. cond (is_to q (offer_in e.moment r)) (asks_for e.stated.cmd) None) told ∙ ap (λ mine. cond mine (asks_for e.stated.cmd) None) other;
           made = made-among h offered.0 was.job was.made;
           free = free-no_offer h e.moment was.job p (find-passes (λ (l : Link). is_free h e.moment was.job l.person) (chain h was.job.chain) (link_of b k p) was.first);
         })
-    go other told = inl (λ v. rw told (none (is_of v (asks_for e.stated.cmd))))
+    go other told = inl (λ v. rw told (none (is_of v (asks_for e.stated.cmd))), λ p. rw told refl)
 
 -- ---- a legal history
 
-record OneOffer (h : History) : Type 0 where
-  among : (v p : ℕ) → is_to p (open_offer h v) ≡ true → list_any (nat_eq v) (vacancies h) ≡ true
-  one : (v w p : ℕ) → is_to p (open_offer h v) ≡ true → is_to p (open_offer h w) ≡ true → v ≡ w
+pub record OneOffer (h : History) : Type 0 where
+  pub among : (v p : ℕ) → is_to p (open_offer h v) ≡ true → list_any (nat_eq v) (vacancies h) ≡ true
+  pub one : (v w p : ℕ) → is_to p (open_offer h v) ≡ true → is_to p (open_offer h w) ≡ true → v ≡ w
 
-stays : (h : History) (e : EntryValue) (v : ℕ) → offer_said v e ≡ None → open_offer (with_entry h e) v ≡ open_offer h v
+pub stays : (h : History) (e : EntryValue) (v : ℕ) → offer_said v e ≡ None → open_offer (with_entry h e) v ≡ open_offer h v
 stays h e v none = ap (λ o. unwrap_or o None) (last_of-silent (offer_said v) h.entries e none)
 
 grown-silent : (h : History) (e : EntryValue) → ((v : ℕ) → offer_said v e ≡ None) → OneOffer h → OneOffer (with_entry h e)
@@ -150,6 +154,9 @@ grown-silent h e none was = record {
   among = λ v p to. still-among h e v (was.among v p (rw (stays h e v (none v)) at to));
   one = λ v w p to too. was.one v w p (rw (stays h e v (none v)) at to) (rw (stays h e w (none w)) at too);
 }
+
+pub opens-this : (h : History) (e : EntryValue) (new : Opens h e) (v : ℕ) → nat_eq new.vac v ≡ true → open_offer (with_entry h e) v ≡ Some new.offer
+opens-this h e new v this = ap (λ o. unwrap_or o None) (last_of-tells (offer_said v) h.entries e (Some new.offer) (new.this v this))
 
 grown-opens : (h : History) (e : EntryValue) → Opens h e → OneOffer h → OneOffer (with_entry h e)
 grown-opens h e new was = record {
@@ -169,19 +176,15 @@ grown-opens h e new was = record {
   ];
 }
   where
-    opens : (v : ℕ) → nat_eq new.vac v ≡ true → open_offer (with_entry h e) v ≡ Some new.offer
-    opens v this = ap (λ o. unwrap_or o None) (last_of-tells (offer_said v) h.entries e (Some new.offer) (new.this v this))
-
     apart : (v w p : ℕ) → nat_eq new.vac v ≡ true → nat_eq new.vac w ≡ false → is_to p (open_offer (with_entry h e) v) ≡ true → is_to p (open_offer (with_entry h e) w) ≡ true → ⊥
     apart v w p this other to too =
-        let same : new.offer.person ≡ p = same_number new.offer.person p (rw (opens v this) at to) in
+        let same : new.offer.person ≡ p = same_number new.offer.person p (rw (opens-this h e new v this) at to) in
         let old : is_to p (open_offer h w) ≡ true = rw (stays h e w (new.no_other w other)) at too in
         let fails : is_to new.offer.person (open_offer h w) ≡ false = find-fails (λ x. is_to new.offer.person (open_offer h x)) (vacancies h) w new.free (was.among w p old) in
         false≢true (sym fails ∙ ap (λ q. is_to q (open_offer h w)) same ∙ old)
 
 grown : (h : History) (e : EntryValue) → IsLegal h → IsNext h e → OneOffer h → OneOffer (with_entry h e)
-grown h e legal is was = elim (next-says h e is) [ inl none ↦ grown-silent h e none was | inr new ↦ grown-opens h e new was ]
+grown h e legal is was = elim (next-says h e is) [ inl none ↦ grown-silent h e none.0 was | inr new ↦ grown-opens h e new was ]
 
-pub one_offer : (h : History) → IsLegal h → (v w p : ℕ) → is_to p (open_offer h v) ≡ true → is_to p (open_offer h w) ≡ true → v ≡ w
-one_offer h legal v w p to too =
-    (legal-induction OneOffer (λ o valid. record { among = λ x q at. absurd (false≢true at); one = λ x y q at too. absurd (false≢true at) }) grown h legal).one v w p to too
+pub one-offer : (h : History) → IsLegal h → OneOffer h
+one-offer h legal = legal-induction OneOffer (λ o valid. record { among = λ x q at. absurd (false≢true at); one = λ x y q at too. absurd (false≢true at) }) grown h legal

@@ -53,7 +53,7 @@ puts-sends b p h (cmd.List person board) put = go (bytes_eq board b) (nat_eq per
     go false same is put = cc
 puts-sends b p h other put = cc
 
-said-puts-sends : (b : List ℕ) (p : ℕ) (h : History) (e : EntryValue) → said (puts b p) e ≡ Some true → said (sends b h) e ≡ Some p
+pub said-puts-sends : (b : List ℕ) (p : ℕ) (h : History) (e : EntryValue) → said (puts b p) e ≡ Some true → said (sends b h) e ≡ Some p
 said-puts-sends b p h e put =
     let parts = said-some (puts b p) e true put in
     ap (λ done. cond done (sends b h e.stated.cmd) None) parts.0 ∙ puts-sends b p h e.stated.cmd parts.1
@@ -87,7 +87,7 @@ on_board b p h on = was_sent b p (opened h.opening) h.entries (go (last_of (said
     go None on = absurd (false≢true on)
     go (Some x) on = ap Some on
 
-any-order : (h : History) (b : List ℕ) (p : ℕ) → list_any (nat_eq p) (order h b) ≡ is_on h p b
+pub any-order : (h : History) (b : List ℕ) (p : ℕ) → list_any (nat_eq p) (order h b) ≡ is_on h p b
 any-order h b p =
     any-filter (λ q. is_on h q b) p (keep_last (sent_to h b))
     ∙ ap (λ any. is_on h p b && any) (any-keep_last p (sent_to h b))

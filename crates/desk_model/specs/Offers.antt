@@ -41,6 +41,10 @@ abbrev pub is_to : ℕ → Option Offer → Bool
 is_to p None = false
 is_to p (Some offer) = nat_eq offer.person p
 
+-- the vacancy that an entry offers to this person
+abbrev pub offered_to : ℕ → EntryValue → Option ℕ
+offered_to p e = if is_to p (offer_in e.moment e.reply) then asks_for e.stated.cmd else None
+
 -- the vacancy that is on offer to the person
 abbrev pub on_offer : History → ℕ → Option ℕ
 on_offer h p = find (λ v. is_to p (open_offer h v)) (vacancies h)
