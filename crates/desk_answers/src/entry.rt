@@ -1,5 +1,6 @@
 ghost use Rattle.std.specs.Prelude.{◌≡◌, ◌≤◌};
 ghost use Rattle.desk_model.specs.declared.limits.TheConstants.{LAST_CALLER};
+ghost use Rattle.desk_model.specs.Fits.{IsStated};
 ghost use Rattle.desk_model.specs.History.{History};
 ghost use Rattle.desk_model.specs.Legal.{moment, answer_to, answer, next};
 
@@ -25,9 +26,9 @@ fn answer_to<R: Reads>(reads: &R, work: &mut R::Work, moment: Minute, cmd: &Cmd)
     match cmd {
         Cmd::Enrol { person, .. } => enrol_answer(reads, *person),
         Cmd::Board { board, .. } => board_answer(reads, board),
-        Cmd::List { person, board } => list_answer(reads, *person, board),
-        Cmd::Past { person, event } => past_answer(reads, moment, *person, event),
-        Cmd::Happened { person, event } => event_answer(reads, moment, *person, event),
+        Cmd::List { person, board } => list_answer(reads, work, *person, board),
+        Cmd::Past { person, event } => past_answer(reads, work, moment, *person, event),
+        Cmd::Happened { person, event } => event_answer(reads, work, moment, *person, event),
         Cmd::Vacancy(job) => vacancy_answer(reads, moment, job),
         Cmd::Next { vac } => next_answer(reads, work, moment, *vac),
         Cmd::Hours { person, month } => hours_answer(reads, work, *person, *month),
@@ -54,6 +55,7 @@ pub fn next_entry<R: Reads>(reads: &R, work: &mut R::Work, caller: u8, stated: S
     requires caller { caller ≤ LAST_CALLER }
     requires suits { R.suits reads.now work.old }
     ensures entry { (h : History) → R.tells reads.now h → result ≡ next h caller stated }
+    ensures stated { IsStated stated }
     ensures suits { R.suits reads.now work.new }
 {
     let taken = moment(reads, stated.minute());

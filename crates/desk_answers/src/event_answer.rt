@@ -9,9 +9,17 @@ use desk_model::Reply;
 use duty_events::Event;
 
 // What an event gives at a moment, after the person's events.
-fn told_answer<R: Reads>(reads: &R, moment: Minute, person: PersonNo, event: &Event) -> Reply
-    ensures { (h : History) → R.tells reads.now h
+fn told_answer<R: Reads>(
+    reads: &R,
+    work: &mut R::Work,
+    moment: Minute,
+    person: PersonNo,
+    event: &Event,
+) -> Reply
+    requires { R.suits reads.now work.old }
+    ensures answer { (h : History) → R.tells reads.now h
         → result ≡ told_answer h.opening (events h person) moment event.now }
+    ensures suits { R.suits reads.now work.new }
 {
     if event.first_minute() < reads.opening().window().start() {
         return Reply::OutsideWindow;
@@ -19,7 +27,7 @@ fn told_answer<R: Reads>(reads: &R, moment: Minute, person: PersonNo, event: &Ev
     if moment < event.last_minute() {
         return Reply::EventAhead(moment);
     }
-    match reads.judge(person, event) {
+    match reads.judge(work, person, event) {
         Ok(_) => Reply::Done,
         Err(fault) => Reply::Event(fault),
     }
@@ -28,35 +36,43 @@ fn told_answer<R: Reads>(reads: &R, moment: Minute, person: PersonNo, event: &Ev
 /// The answer to `past` at a moment.
 pub(crate) fn past_answer<R: Reads>(
     reads: &R,
+    work: &mut R::Work,
     moment: Minute,
     person: PersonNo,
     event: &Event,
 ) -> Reply
-    ensures { (h : History) → R.tells reads.now h → result ≡ past_answer h moment person event.now }
+    requires { R.suits reads.now work.old }
+    ensures answer { (h : History) → R.tells reads.now h
+        → result ≡ past_answer h moment person event.now }
+    ensures suits { R.suits reads.now work.new }
 {
     if reads.person(person).is_none() {
         Reply::UnknownPerson
     } else if reads.is_closed(person) {
         Reply::PastClosed
     } else {
-        told_answer(reads, moment, person, event)
+        told_answer(reads, work, moment, person, event)
     }
 }
 
 /// The answer to `event` at a moment.
 pub(crate) fn event_answer<R: Reads>(
     reads: &R,
+    work: &mut R::Work,
     moment: Minute,
     person: PersonNo,
     event: &Event,
 ) -> Reply
-    ensures { (h : History) → R.tells reads.now h → result ≡ event_answer h moment person event.now }
+    requires { R.suits reads.now work.old }
+    ensures answer { (h : History) → R.tells reads.now h
+        → result ≡ event_answer h moment person event.now }
+    ensures suits { R.suits reads.now work.new }
 {
     if reads.person(person).is_none() {
         return Reply::UnknownPerson;
     }
     match reads.on_offer(person) {
         Some(vac) => Reply::Frozen(vac),
-        None => told_answer(reads, moment, person, event),
+        None => told_answer(reads, work, moment, person, event),
     }
 }

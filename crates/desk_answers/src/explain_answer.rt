@@ -25,7 +25,7 @@ fn person_answer<R: Reads>(
     if job.report() < moment {
         return Reply::Lapsed(job.report());
     }
-    let Some(link) = reads.place_in(&job.chain(), number) else {
+    let Some(link) = reads.place_in(work, &job.chain(), number) else {
         return Reply::NotListed;
     };
     match reads.bar(work, moment, job, number, &person) {

@@ -10,7 +10,6 @@ mod hours_answer;
 mod list_answer;
 mod moment;
 mod next_answer;
-
 mod reads;
 mod vacancy_answer;
 

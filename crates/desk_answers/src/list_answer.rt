@@ -7,8 +7,15 @@ use desk_base::{Code, PersonNo};
 use desk_model::{LIST_LIMIT, MEMBER_LIMIT, Reply};
 
 /// The answer to `list`.
-pub(crate) fn list_answer<R: Reads>(reads: &R, person: PersonNo, board: &Code) -> Reply
-    ensures { (h : History) → R.tells reads.now h → result ≡ list_answer h person board.now }
+pub(crate) fn list_answer<R: Reads>(
+    reads: &R,
+    work: &mut R::Work,
+    person: PersonNo,
+    board: &Code,
+) -> Reply
+    requires { R.suits reads.now work.old }
+    ensures answer { (h : History) → R.tells reads.now h → result ≡ list_answer h person board.now }
+    ensures suits { R.suits reads.now work.new }
 {
     if reads.person(person).is_none() {
         Reply::UnknownPerson
@@ -18,7 +25,7 @@ pub(crate) fn list_answer<R: Reads>(reads: &R, person: PersonNo, board: &Code) -
         Reply::Used
     } else if reads.list_count(person) >= LIST_LIMIT {
         Reply::ListsFull
-    } else if reads.member_count(board) >= MEMBER_LIMIT {
+    } else if reads.member_count(work, board) >= MEMBER_LIMIT {
         Reply::MembersFull
     } else {
         Reply::Done

@@ -22,7 +22,7 @@ fn vacant_answer<R: Reads>(reads: &R, work: &mut R::Work, moment: Minute, job: &
             position: link.position,
         },
         None => Reply::Unfilled {
-            listed: reads.listed(&job.chain()),
+            listed: reads.listed(work, &job.chain()),
         },
     }
 }

@@ -74,8 +74,10 @@ pub trait Reads {
         ensures { (h : History) → tells self.now h → result ≡ length (boards_of h person) };
 
     /// How many persons are on the board.
-    fn member_count(&self, board: &Code) -> usize
-        ensures { (h : History) → tells self.now h → result ≡ length (order h board.now) };
+    fn member_count(&self, work: &mut Self::Work, board: &Code) -> usize
+        requires { suits self.now work.old }
+        ensures answer { (h : History) → tells self.now h → result ≡ length (order h board.now) }
+        ensures suits { suits self.now work.new };
 
     /// Whether what the person did before they were listed can't be told any more.
     fn is_closed(&self, person: PersonNo) -> bool
@@ -86,9 +88,16 @@ pub trait Reads {
         ensures { (h : History) → tells self.now h → result ≡ on_offer h person };
 
     /// The stage that an event leads to after the person's events, or why it is not allowed.
-    fn judge(&self, person: PersonNo, event: &Event) -> Result<Stage, EventFault>
-        ensures { (h : History) → tells self.now h
-            → result ≡ judge (stage_of (events h person)) event.now (latest (events h person)) };
+    fn judge(
+        &self,
+        work: &mut Self::Work,
+        person: PersonNo,
+        event: &Event,
+    ) -> Result<Stage, EventFault>
+        requires { suits self.now work.old }
+        ensures answer { (h : History) → tells self.now h
+            → result ≡ judge (stage_of (events h person)) event.now (latest (events h person)) }
+        ensures suits { suits self.now work.new };
 
     /// How many minutes of the month the person worked.
     fn used(&self, work: &mut Self::Work, person: PersonNo, month: Month) -> u32
@@ -123,10 +132,15 @@ pub trait Reads {
         ensures suits { suits self.now work.new };
 
     /// The first place of the chain that is this person's; `None` where none is.
-    fn place_in(&self, boards: &Chain, person: PersonNo) -> Option<Link>
-        ensures { (h : History) → tells self.now h → result ≡ place_in (chain h boards.now) person };
+    fn place_in(&self, work: &mut Self::Work, boards: &Chain, person: PersonNo) -> Option<Link>
+        requires { suits self.now work.old }
+        ensures answer { (h : History) → tells self.now h
+            → result ≡ place_in (chain h boards.now) person }
+        ensures suits { suits self.now work.new };
 
     /// How many places the chain has.
-    fn listed(&self, boards: &Chain) -> u16
-        ensures { (h : History) → tells self.now h → result ≡ length (chain h boards.now) };
+    fn listed(&self, work: &mut Self::Work, boards: &Chain) -> u16
+        requires { suits self.now work.old }
+        ensures answer { (h : History) → tells self.now h → result ≡ length (chain h boards.now) }
+        ensures suits { suits self.now work.new };
 }

@@ -1,5 +1,5 @@
 -- What an entry does to the order of a board.
-use Rattle.std.proofs.Common.{◌≡◌, ℕ, Bool, true, false, not, cond, ◌||◌, nat_eq, Option, None, Some, List, [], ◌∷◌, ◌++◌, refl, sym, ap, ◌∙◌, append-nil}
+use Rattle.std.proofs.Common.{◌≡◌, ℕ, Bool, true, false, not, cond, ◌||◌, nat_eq, Option, None, Some, unwrap_or, List, [], ◌∷◌, ◌++◌, refl, sym, ap, ◌∙◌, append-nil}
 use Rattle.std.specs.Str.{bytes_eq}
 use Rattle.std.specs.List.{list_any}
 use Rattle.std.proofs.lemmas.Bool.{false≢true}
@@ -9,7 +9,7 @@ use Rattle.desk_model.specs.Entry.{EntryValue}
 use Rattle.desk_model.specs.History.{History, with_entry, said}
 use Rattle.desk_model.specs.Boards.{puts, is_on, sends, order}
 use Rattle.desk_model.proofs.SaidLemmas.{said-some}
-use Rattle.desk_model.proofs.OrderLemmas.{without, same_number, order-silent, order-sent, order-moved}
+use Rattle.desk_model.proofs.OrderLemmas.{without, same_number, nat_eq-same, order-silent, order-sent, order-moved}
 use Rattle.desk_model.proofs.RankLemmas.{any-order, said-puts-sends}
 
 -- who says that a person is on a board says that they are
@@ -51,7 +51,7 @@ pub order-unsent : (h : History) (e : EntryValue) (b : List ℕ) → said (sends
 order-unsent h e b unsent = order-silent h e b unsent (unsent-unput h e b unsent)
 
 -- one that puts a person there sets them last
-pub order-listed : (h : History) (e : EntryValue) (b : List ℕ) (p : ℕ) → said (puts b p) e ≡ Some true → order (with_entry h e) b ≡ without p (order h b) ++ p ∷ []
+order-listed : (h : History) (e : EntryValue) (b : List ℕ) (p : ℕ) → said (puts b p) e ≡ Some true → order (with_entry h e) b ≡ without p (order h b) ++ p ∷ []
 order-listed h e b p put = order-sent h e b p (said-puts-sends b p h e put) put (λ q other. said-puts-one b p q e put other)
 
 without-nobody : (p : ℕ) (ps : List ℕ) → list_any (nat_eq p) ps ≡ false → without p ps ≡ ps
@@ -63,7 +63,7 @@ without-nobody p (q ∷ ps) none = go (nat_eq p q) none (without-nobody p ps)
     go false none rest = ap (λ all. q ∷ all) (rest none)
 
 -- one that sends a person there and puts nobody on it sets them last, if they are on it
-pub order-released : (h : History) (e : EntryValue) (b : List ℕ) (p : ℕ) → said (sends b h) e ≡ Some p → ((q : ℕ) → said (puts b q) e ≡ None)
+order-released : (h : History) (e : EntryValue) (b : List ℕ) (p : ℕ) → said (sends b h) e ≡ Some p → ((q : ℕ) → said (puts b q) e ≡ None)
     → order (with_entry h e) b ≡ cond (list_any (nat_eq p) (order h b)) (without p (order h b) ++ p ∷ []) (order h b)
 order-released h e b p sent unput =
     order-moved h e b p sent unput ∙ go (is_on h p b) (any-order h b p)
@@ -72,3 +72,33 @@ order-released h e b p sent unput =
         → without p (order h b) ++ cond on (p ∷ []) [] ≡ cond (list_any (nat_eq p) (order h b)) (without p (order h b) ++ p ∷ []) (order h b)
     go true any = rw any refl
     go false any = rw any (append-nil (without p (order h b)) ∙ without-nobody p (order h b) any)
+
+-- whom an entry sends there and doesn't put there, it puts nobody there
+sent-unput : (h : History) (b : List ℕ) (p q : ℕ) (c : Cmd) → sends b h c ≡ Some p → puts b p c ≡ None → puts b q c ≡ None
+sent-unput h b p q (cmd.List person board) sent unput = go (bytes_eq board b) refl sent unput
+  where
+    go : (here : Bool) → bytes_eq board b ≡ here → cond here (Some person) None ≡ Some p → cond here (cond (nat_eq person p) (Some true) None) None ≡ None
+        → cond here (cond (nat_eq person q) (Some true) None) None ≡ None
+    go true is sent unput =
+        let same : person ≡ p = cc in
+        let put : cond (nat_eq person p) (Some true) None ≡ Some true = rw (same, nat_eq-same p) refl in cc
+    go false is sent unput = refl
+sent-unput h b p q other sent unput = refl
+
+-- an entry that sends a person there sets them last, if it puts them there or they are on the board
+pub order-sends : (h : History) (e : EntryValue) (b : List ℕ) (p : ℕ) → said (sends b h) e ≡ Some p
+    → order (with_entry h e) b ≡ cond (unwrap_or (said (puts b p) e) false || list_any (nat_eq p) (order h b)) (without p (order h b) ++ p ∷ []) (order h b)
+order-sends h e b p sent = go (said (puts b p) e) refl
+  where
+    none : said (puts b p) e ≡ None → (q : ℕ) → said (puts b q) e ≡ None
+    none unput q =
+        let parts = said-some (sends b h) e p sent in
+        let here : puts b p e.stated.cmd ≡ None = sym (ap (λ done. cond done (puts b p e.stated.cmd) None) parts.0) ∙ unput in
+        ap (λ done. cond done (puts b q e.stated.cmd) None) parts.0 ∙ sent-unput h b p q e.stated.cmd parts.1 here
+
+    go : (put : Option Bool) → said (puts b p) e ≡ put
+        → order (with_entry h e) b ≡ cond (unwrap_or put false || list_any (nat_eq p) (order h b)) (without p (order h b) ++ p ∷ []) (order h b)
+    go None unput = order-released h e b p sent (none unput)
+    go (Some on) put =
+        let is : on ≡ true = puts-true b p e.stated.cmd on (said-some (puts b p) e on put).1 in
+        rw is (order-listed h e b p (put ∙ ap Some is))

@@ -1,13 +1,37 @@
--- A person's events, gathered an entry at a time.
-use Rattle.std.proofs.Common.{◌≡◌, ℕ, ◌≤◌, List, [], length, drop, fold, sym, ap, ◌∙◌}
-use Rattle.std.proofs.lemmas.List.{drop_all}
+-- A person's events, an entry at a time.
+use Rattle.std.proofs.Common.{◌≡◌, ℕ, ◌+◌, ◌<◌, Bool, true, false, cond, Option, None, Some, List, [], ◌∷◌, ◌++◌, length, take, get_or, refl, sym, ap, ◌∙◌}
 use Rattle.duty_events.specs.declared.event.Event.{Event}
+use Rattle.duty_events.specs.declared.stage.Stage.{Stage}
+use Rattle.duty_events.specs.Lists.{stage_of, latest}
+use Rattle.desk_model.specs.Opening.{OpeningValue}
 use Rattle.desk_model.specs.Entry.{EntryValue}
-use Rattle.desk_model.specs.History.{said, all_of}
-use Rattle.desk_model.specs.Duty.{tells, keep, events}
+use Rattle.desk_model.specs.History.{history_of, opened, steps, said}
+use Rattle.desk_model.specs.Duty.{tells, may_follow, told, events}
+use Rattle.desk_model.proofs.EventLemmas.{kept, events-snoc}
+use Rattle.plain_core.proofs.PrefixLemmas.{one_more}
 
--- where no entry is left they are the person's events
-pub gathered : (h : List EntryValue) (p i : ℕ) (es : List Event) → length h ≤ i
-    → fold keep es (all_of (said (tells p)) (drop i h)) ≡ fold keep [] (all_of (said (tells p)) h) → es ≡ events h p
-unfolding events
-gathered h p i es end kept = ap (λ rest. fold keep es (all_of (said (tells p)) rest)) (sym (drop_all i h end)) ∙ kept
+-- the events up to the next place
+events-next : (o : OpeningValue) (es : List EntryValue) (i : ℕ) (e : EntryValue) (p : ℕ) → i < length es → e ≡ get_or es i e
+    → events (history_of o (take (i + 1) es)) p ≡ kept (events (history_of o (take i es)) p) (said (tells p) e)
+events-next o es i e p within is = ap (λ h. events h p) (sym (one_more o es i e within is)) ∙ events-snoc (history_of o (take i es)) e p
+
+pub events-opened : (o : OpeningValue) (p : ℕ) → events (opened o) p ≡ []
+unfolding events told steps
+events-opened o p = refl
+
+-- where nothing is told of the person
+pub gathered-none : (o : OpeningValue) (es : List EntryValue) (i : ℕ) (e : EntryValue) (p : ℕ) (was : List Event) → i < length es → e ≡ get_or es i e
+    → said (tells p) e ≡ None → was ≡ events (history_of o (take i es)) p → was ≡ events (history_of o (take (i + 1) es)) p
+gathered-none o es i e p was within is none before =
+    before ∙ sym (events-next o es i e p within is ∙ ap (kept (events (history_of o (take i es)) p)) none)
+
+-- where an event is told, by whether it may come
+pub gathered : (o : OpeningValue) (es : List EntryValue) (i : ℕ) (e : EntryValue) (p : ℕ) (was : List Event) (s : Stage) (last : Option ℕ) (t : Event) (may : Bool)
+    → i < length es → e ≡ get_or es i e → said (tells p) e ≡ Some t → s ≡ stage_of was → last ≡ latest was → may_follow s last t ≡ may
+    → was ≡ events (history_of o (take i es)) p → cond may (was ++ t ∷ []) was ≡ events (history_of o (take (i + 1) es)) p
+gathered o es i e p was s last t may within is told stage latest-is test before =
+    let now = events (history_of o (take i es)) p in
+    let same : may_follow (stage_of was) (latest was) t ≡ may = ap (λ x. may_follow x (latest was) t) (sym stage) ∙ ap (λ x. may_follow s x t) (sym latest-is) ∙ test in
+    ap (λ b. cond b (was ++ t ∷ []) was) (sym same)
+    ∙ ap (λ xs. kept xs (Some t)) before
+    ∙ sym (events-next o es i e p within is ∙ ap (kept now) told)

@@ -1,5 +1,5 @@
-pub mod FindLemmas
-pub mod OrderLemmas
-pub mod ChainLemmas
-pub mod StepLemmas
+pub mod PrefixLemmas
+pub mod MemberLemmas
 pub mod GatherLemmas
+pub mod ChainLemmas
+pub mod KeptLemmas

@@ -1,3 +1,2 @@
-pub mod Fits
 pub mod Kept
-pub mod Orders
+pub mod Room

@@ -1,13 +1,14 @@
-ghost use Rattle.std.specs.Prelude.{◌≡◌, ◌≤◌, ◌<◌, ◌+◌, nat_eq, length, Some, None, if◌then◌else◌};
+ghost use Rattle.std.specs.Prelude.{◌≡◌, ◌≤◌, ◌<◌, ◌+◌, ◌++◌, ◌∷◌, [], ℕ, Some, None, false, length, filter, unwrap_or, vec_len, vec_capacity, if◌then◌else◌};
 ghost use Rattle.std.specs.Str.{bytes_eq};
-ghost use Rattle.std.specs.List.{cons_option, list_any};
-ghost use Rattle.desk_model.specs.History.{said};
-ghost use Rattle.desk_model.specs.Boards.{puts, is_at, released, sends, is_on, boards_of, order, chain};
-ghost use Rattle.plain_core.specs.Fits.{BoardsFit};
-ghost use Rattle.plain_core.specs.Orders.{sent_from, order_from};
+ghost use Rattle.std.specs.List.{filter_map};
+ghost use Rattle.desk_model.specs.Opening.{OpeningValue};
+ghost use Rattle.desk_model.specs.History.{History, history_of, with_entry, said, last_of};
+ghost use Rattle.desk_model.specs.Register.{sets_up, sets_up_any, board_of};
+ghost use Rattle.desk_model.specs.Boards.{puts, is_on, boards_of, is_at, released, sends, order};
+ghost use Rattle.desk_model.proofs.OrderLemmas.{without};
 
-use crate::history::{accepted, is_same};
-use crate::register::{board_of, sets_up_any};
+use crate::history::accepted;
+use crate::register::{sets_up, sets_up_any};
 use desk_base::{Code, PersonNo};
 use desk_model::{BoardSetup, Cmd, Entry};
 use duty_events::Event;
@@ -24,19 +25,16 @@ fn puts(entry: &Entry, person: PersonNo, board: &Code) -> Option<bool>
     else {
         return None;
     };
-    if !is_same(code, board) {
+    if code != board {
         return None;
     }
-    if listed.number() == person.number() {
-        Some(true)
-    } else {
-        None
-    }
+    if *listed == person { Some(true) } else { None }
 }
 
-// Whom the entry behind these sends to the bottom of this board.
-fn sends(before: &[Entry], entry: &Entry, board: &Code) -> Option<PersonNo>
-    ensures { result ≡ said (sends board.now before.now) entry.now }
+// Whom the entry sends to the bottom of the board, which was set up so by those before it.
+fn sends(entry: &Entry, setup: &Option<BoardSetup>, board: &Code) -> Option<PersonNo>
+    ensures { (h : History) → board_of h board.now ≡ setup.now
+        → result ≡ said (sends board.now h) entry.now }
 {
     let cmd = accepted(entry)?;
     match cmd {
@@ -44,7 +42,7 @@ fn sends(before: &[Entry], entry: &Entry, board: &Code) -> Option<PersonNo>
             person,
             board: code,
         } => listed(*person, code, board),
-        Cmd::Happened { person, event } => released(&board_of(before, board), *person, event),
+        Cmd::Happened { person, event } => released(setup, *person, event),
         _ => None,
     }
 }
@@ -53,11 +51,7 @@ fn sends(before: &[Entry], entry: &Entry, board: &Code) -> Option<PersonNo>
 fn listed(person: PersonNo, code: &Code, board: &Code) -> Option<PersonNo>
     ensures { result ≡ (if bytes_eq code.now board.now then Some person else None) }
 {
-    if is_same(code, board) {
-        Some(person)
-    } else {
-        None
-    }
+    if code == board { Some(person) } else { None }
 }
 
 // Whom an event of a person sends to the bottom of a board that was set up so.
@@ -79,14 +73,14 @@ fn is_at(place: &Code, board: &Option<BoardSetup>) -> bool
     ensures { result ≡ is_at place.now board.now }
 {
     match board {
-        Some(board) => is_same(&board.place, place),
+        Some(board) => board.place == *place,
         None => false,
     }
 }
 
 /// Whether the person is on the board.
 pub(crate) fn is_on(entries: &[Entry], person: PersonNo, board: &Code) -> bool
-    ensures { result ≡ is_on entries.now person board.now }
+    ensures { result ≡ unwrap_or (last_of (said (puts board.now person)) entries.now) false }
 {
     let mut last = None;
     for entry in entries {
@@ -100,7 +94,9 @@ pub(crate) fn is_on(entries: &[Entry], person: PersonNo, board: &Code) -> bool
 
 /// How many boards the person is on.
 pub(crate) fn count_boards_of(entries: &[Entry], person: PersonNo) -> usize
-    ensures { result ≡ length (boards_of entries.now person) }
+    ensures { result ≡ length (filter
+        (λ b. unwrap_or (last_of (said (puts b person)) entries.now) false)
+        (filter_map (said sets_up_any) entries.now)) }
 {
     let mut count = 0;
     for entry in entries {
@@ -114,71 +110,45 @@ pub(crate) fn count_boards_of(entries: &[Entry], person: PersonNo) -> usize
     count
 }
 
-// Whom the entry at this place sends to the bottom of the board.
-fn sent_at(entries: &[Entry], place: usize, board: &Code) -> Option<PersonNo>
-    requires { place < length entries.now }
-    ensures { sent_from entries.now board.now place
-        ≡ cons_option result (sent_from entries.now board.now (place + 1)) }
+// Takes the person out of the list, where they stand in it, and sets them last.
+fn to_bottom(members: &mut Vec<PersonNo>, person: PersonNo)
+    requires { vec_len members.old < vec_capacity members.old }
+    ensures items { members.new.items ≡ without person members.old.items ++ person ∷ [] }
+    ensures len { vec_len members.new ≤ vec_len members.old + 1 }
+    ensures room { vec_capacity members.new ≡ vec_capacity members.old }
 {
-    sends(&entries[..place], &entries[place], board)
+    members.retain(|other| person != *other);
+    members.push_reserved(person);
 }
 
-// Whether an entry from this place on sends the person to the bottom of the board.
-fn is_sent_from(entries: &[Entry], place: usize, person: PersonNo, board: &Code) -> bool
-    requires { place ≤ length entries.now }
-    ensures { result ≡ list_any (nat_eq person) (sent_from entries.now board.now place) }
+// Turns the order of the board before an entry into that after it. The board was set up so by the entries before.
+fn follow(entry: &Entry, setup: &Option<BoardSetup>, board: &Code, members: &mut Vec<PersonNo>)
+    requires { vec_len members.old < vec_capacity members.old }
+    ensures order { (h : History) → board_of h board.now ≡ setup.now
+        → members.old.items ≡ order h board.now
+        → members.new.items ≡ order (with_entry h entry.now) board.now }
+    ensures len { vec_len members.new ≤ vec_len members.old + 1 }
+    ensures room { vec_capacity members.new ≡ vec_capacity members.old }
 {
-    for later in place..entries.len() {
-        let Some(other) = sent_at(entries, later, board) else {
-            continue;
-        };
-        if person.number() == other.number() {
-            return true;
-        }
-    }
-    false
-}
-
-/// Who stands on the board by the entry at this place: whom it sends there, if no later entry sends them again and
-/// they are on it.
-pub(crate) fn standing_at(entries: &[Entry], place: usize, board: &Code) -> Option<PersonNo>
-    requires { place < length entries.now }
-    ensures { order_from entries.now board.now place
-        ≡ cons_option result (order_from entries.now board.now (place + 1)) }
-{
-    let person = sent_at(entries, place, board)?;
-    if is_sent_from(entries, place + 1, person, board) {
-        return None;
-    }
-    if is_on(entries, person, board) {
-        Some(person)
-    } else {
-        None
+    let Some(person) = sends(entry, setup, board) else {
+        return;
+    };
+    let is_put = puts(entry, person, board).unwrap_or(false);
+    if is_put || members.contains(&person) {
+        to_bottom(members, person);
     }
 }
 
-/// How many are on the board.
-pub(crate) fn count_on(entries: &[Entry], board: &Code) -> usize
-    ensures { result ≡ length (order entries.now board.now) }
+/// Puts the persons on the board into a list that has room for them, in their order, and nothing else.
+pub(crate) fn fill(entries: &[Entry], board: &Code, members: &mut Vec<PersonNo>)
+    requires { length entries.now ≤ vec_capacity members.old }
+    ensures order { (o : OpeningValue) → members.new.items ≡ order (history_of o entries.now) board.now }
+    ensures room { vec_capacity members.new ≡ vec_capacity members.old }
 {
-    let mut count = 0;
-    for place in 0..entries.len() {
-        if standing_at(entries, place, board).is_some() {
-            count += 1;
-        }
+    members.clear();
+    let mut setup = None;
+    for entry in entries {
+        follow(entry, &setup, board, members);
+        setup = setup.or(sets_up(entry, board));
     }
-    count
-}
-
-/// How many links the chain of these boards has.
-pub(crate) fn count_listed(entries: &[Entry], codes: &[Code]) -> u16
-    requires fits { BoardsFit entries.now }
-    requires most { length codes.now ≤ 4 }
-    ensures { result ≡ length (chain entries.now codes.now) }
-{
-    let mut listed = 0;
-    for board in codes {
-        listed += count_on(entries, board) as u16;
-    }
-    listed
 }

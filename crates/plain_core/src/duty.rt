@@ -1,7 +1,8 @@
-ghost use Rattle.std.specs.Prelude.{◌≡◌, ◌≤◌, nat_eq, length, vec_capacity, is_some, Some, None, if◌then◌else◌};
+ghost use Rattle.std.specs.Prelude.{◌≡◌, ◌≤◌, Some, None, is_some, nat_eq, length, vec_capacity, if◌then◌else◌};
 ghost use Rattle.duty_events.specs.Lists.{latest};
-ghost use Rattle.desk_model.specs.History.{said};
-ghost use Rattle.desk_model.specs.Duty.{tells, may_follow, events, closes, is_closed};
+ghost use Rattle.desk_model.specs.Opening.{OpeningValue};
+ghost use Rattle.desk_model.specs.History.{history_of, said, first_of};
+ghost use Rattle.desk_model.specs.Duty.{tells, may_follow, events, closes};
 
 use crate::history::accepted;
 use desk_base::{Minute, PersonNo};
@@ -30,11 +31,7 @@ fn told(entry: &Entry, person: PersonNo) -> Option<Event>
 fn told_of(other: PersonNo, person: PersonNo, event: &Event) -> Option<Event>
     ensures { result ≡ (if nat_eq other person then Some event.now else None) }
 {
-    if other.number() == person.number() {
-        Some(*event)
-    } else {
-        None
-    }
+    if other == person { Some(*event) } else { None }
 }
 
 // The event may follow events that ended in the stage, with that latest minute.
@@ -50,7 +47,7 @@ fn may_follow(stage: &Stage, last: &Option<Minute>, event: &Event) -> bool
 /// Puts the person's events into a list that has room for them, and nothing else.
 pub(crate) fn gather(entries: &[Entry], person: PersonNo, list: &mut Vec<Event>)
     requires { length entries.now ≤ vec_capacity list.old }
-    ensures events { list.new.items ≡ events entries.now person }
+    ensures events { (o : OpeningValue) → list.new.items ≡ events (history_of o entries.now) person }
     ensures room { vec_capacity list.new ≡ vec_capacity list.old }
 {
     list.clear();
@@ -85,15 +82,15 @@ fn closes(entry: &Entry, person: PersonNo) -> bool
         return false;
     };
     match cmd {
-        Cmd::List { person: other, .. } => other.number() == person.number(),
-        Cmd::Happened { person: other, .. } => other.number() == person.number(),
+        Cmd::List { person: other, .. } => *other == person,
+        Cmd::Happened { person: other, .. } => *other == person,
         _ => false,
     }
 }
 
 /// Whether the person's past can't be told any more.
 pub(crate) fn is_closed(entries: &[Entry], person: PersonNo) -> bool
-    ensures { result ≡ is_closed entries.now person }
+    ensures { result ≡ is_some (first_of (said (closes person)) entries.now) }
 {
     for entry in entries {
         if closes(entry, person) {

@@ -1,7 +1,10 @@
-ghost use Rattle.std.specs.Prelude.{◌≡◌};
-ghost use Rattle.desk_model.specs.Offers.{asks_for, offer_in, is_of, offer_said, is_to, open_offer, on_offer, state_of};
+ghost use Rattle.std.specs.Prelude.{◌≡◌, None, unwrap_or};
+ghost use Rattle.desk_model.specs.declared.vac_state.VacState.TheVariants.{Vacant};
+ghost use Rattle.desk_model.specs.Opening.{OpeningValue};
+ghost use Rattle.desk_model.specs.History.{history_of, last_of};
+ghost use Rattle.desk_model.specs.Offers.{asks_for, offer_in, is_of, offer_said, offered_to, is_to, offered_state};
+ghost use Rattle.desk_model.proofs.OnOfferLemmas.{while_open};
 
-use crate::register::makes_any;
 use desk_base::{PersonNo, VacNo};
 use desk_model::{Cmd, Entry, Offer, Reply, VacState};
 
@@ -36,7 +39,7 @@ fn is_of(entry: &Entry, vac: VacNo) -> bool
     ensures { result ≡ is_of vac (asks_for entry.now.stated.cmd) }
 {
     match asks_for(entry) {
-        Some(other) => other.number() == vac.number(),
+        Some(other) => other == vac,
         None => false,
     }
 }
@@ -52,9 +55,9 @@ fn offer_said(entry: &Entry, vac: VacNo) -> Option<Option<Offer>>
     Some(Some(offer))
 }
 
-/// The open offer of a vacancy; `None` where none is.
-pub(crate) fn open_offer(entries: &[Entry], vac: VacNo) -> Option<Offer>
-    ensures { result ≡ open_offer entries.now vac }
+// The open offer of a vacancy; `None` where none is.
+fn open_offer(entries: &[Entry], vac: VacNo) -> Option<Offer>
+    ensures { result ≡ unwrap_or (last_of (offer_said vac) entries.now) None }
 {
     let mut open = None;
     for entry in entries {
@@ -66,34 +69,58 @@ pub(crate) fn open_offer(entries: &[Entry], vac: VacNo) -> Option<Offer>
     open
 }
 
-// The vacancy is on offer to this person.
-fn is_to(entries: &[Entry], vac: VacNo, person: PersonNo) -> bool
-    ensures { result ≡ is_to person (open_offer entries.now vac) }
+// The offer is open, and to this person.
+fn is_to(offer: &Option<Offer>, person: PersonNo) -> bool
+    ensures { result ≡ is_to person offer.now }
 {
-    match open_offer(entries, vac) {
-        Some(offer) => offer.person.number() == person.number(),
+    match offer {
+        Some(offer) => offer.person == person,
         None => false,
     }
 }
 
-/// The vacancy that is on offer to the person; `None` where none is.
-pub(crate) fn on_offer(entries: &[Entry], person: PersonNo) -> Option<VacNo>
-    ensures { result ≡ on_offer entries.now person }
+// The vacancy that the entry offers to the person.
+fn offered_to(entry: &Entry, person: PersonNo) -> Option<VacNo>
+    ensures { result ≡ offered_to person entry.now }
 {
+    if is_to(&offer_in(entry), person) {
+        asks_for(entry)
+    } else {
+        None
+    }
+}
+
+// The vacancy that was offered to the person last.
+fn last_offered(entries: &[Entry], person: PersonNo) -> Option<VacNo>
+    ensures { result ≡ last_of (offered_to person) entries.now }
+{
+    let mut last = None;
     for entry in entries {
-        let Some(vac) = makes_any(entry) else {
+        let Some(vac) = offered_to(entry, person) else {
             continue;
         };
-        if is_to(entries, vac, person) {
-            return Some(vac);
-        }
+        last = Some(vac);
     }
-    None
+    last
+}
+
+/// The vacancy that was offered to the person last, where that offer is open: the one that is on offer to them.
+pub(crate) fn on_offer(entries: &[Entry], person: PersonNo) -> Option<VacNo>
+    ensures { (o : OpeningValue) → result
+        ≡ while_open (history_of o entries.now) person (last_of (offered_to person) entries.now) }
+{
+    let vac = last_offered(entries, person)?;
+    if is_to(&open_offer(entries, vac), person) {
+        Some(vac)
+    } else {
+        None
+    }
 }
 
 /// How a vacancy stands.
 pub(crate) fn state_of(entries: &[Entry], vac: VacNo) -> VacState
-    ensures { result ≡ state_of entries.now vac }
+    ensures { result ≡ unwrap_or
+        (offered_state (unwrap_or (last_of (offer_said vac) entries.now) None)) Vacant }
 {
     match open_offer(entries, vac) {
         Some(offer) => VacState::OnOffer(offer.person),

@@ -1,9 +1,9 @@
 ghost use Rattle.std.specs.Prelude.{◌≡◌, length};
-ghost use Rattle.desk_model.specs.History.{said};
+ghost use Rattle.std.specs.List.{filter_map};
+ghost use Rattle.desk_model.specs.History.{said, first_of};
 ghost use Rattle.desk_model.specs.Register.{enrols, enrols_any, sets_up, sets_up_any, makes, makes_any};
-ghost use Rattle.desk_model.specs.Register.{person_of, board_of, vacancy_of, persons, boards, vacancies};
 
-use crate::history::{accepted, is_same};
+use crate::history::accepted;
 use desk_base::{Code, PersonNo, VacNo};
 use desk_model::{BoardSetup, Cmd, Entry, Job, Person};
 
@@ -21,7 +21,7 @@ fn enrols(entry: &Entry, person: PersonNo) -> Option<Person>
     else {
         return None;
     };
-    if enrolled.number() != person.number() {
+    if *enrolled != person {
         return None;
     }
     Some(Person {
@@ -43,7 +43,7 @@ fn enrols_any(entry: &Entry) -> Option<PersonNo>
 }
 
 // What the entry sets this board up as.
-fn sets_up(entry: &Entry, board: &Code) -> Option<BoardSetup>
+pub(crate) fn sets_up(entry: &Entry, board: &Code) -> Option<BoardSetup>
     ensures { result ≡ said (sets_up board.now) entry.now }
 {
     let cmd = accepted(entry)?;
@@ -55,7 +55,7 @@ fn sets_up(entry: &Entry, board: &Code) -> Option<BoardSetup>
     else {
         return None;
     };
-    if !is_same(code, board) {
+    if code != board {
         return None;
     }
     Some(BoardSetup {
@@ -83,7 +83,7 @@ fn makes(entry: &Entry, vac: VacNo) -> Option<Job>
     let Cmd::Vacancy(job) = cmd else {
         return None;
     };
-    if job.vac().number() != vac.number() {
+    if job.vac() != vac {
         return None;
     }
     Some(*job)
@@ -102,7 +102,7 @@ pub(crate) fn makes_any(entry: &Entry) -> Option<VacNo>
 
 /// The person as enrolled; `None` where nobody has the number.
 pub(crate) fn person_of(entries: &[Entry], person: PersonNo) -> Option<Person>
-    ensures { result ≡ person_of entries.now person }
+    ensures { result ≡ first_of (said (enrols person)) entries.now }
 {
     for entry in entries {
         if let Some(member) = enrols(entry, person) {
@@ -114,7 +114,7 @@ pub(crate) fn person_of(entries: &[Entry], person: PersonNo) -> Option<Person>
 
 /// The board as set up; `None` where the code is no board.
 pub(crate) fn board_of(entries: &[Entry], board: &Code) -> Option<BoardSetup>
-    ensures { result ≡ board_of entries.now board.now }
+    ensures { result ≡ first_of (said (sets_up board.now)) entries.now }
 {
     for entry in entries {
         if let Some(sort) = sets_up(entry, board) {
@@ -126,7 +126,7 @@ pub(crate) fn board_of(entries: &[Entry], board: &Code) -> Option<BoardSetup>
 
 /// The vacancy's job; `None` where it was never made.
 pub(crate) fn vacancy_of(entries: &[Entry], vac: VacNo) -> Option<Job>
-    ensures { result ≡ vacancy_of entries.now vac }
+    ensures { result ≡ first_of (said (makes vac)) entries.now }
 {
     for entry in entries {
         if let Some(job) = makes(entry, vac) {
@@ -138,7 +138,7 @@ pub(crate) fn vacancy_of(entries: &[Entry], vac: VacNo) -> Option<Job>
 
 /// How many persons are enrolled.
 pub(crate) fn count_persons(entries: &[Entry]) -> usize
-    ensures { result ≡ length (persons entries.now) }
+    ensures { result ≡ length (filter_map (said enrols_any) entries.now) }
 {
     let mut count = 0;
     for entry in entries {
@@ -151,7 +151,7 @@ pub(crate) fn count_persons(entries: &[Entry]) -> usize
 
 /// How many boards there are.
 pub(crate) fn count_boards(entries: &[Entry]) -> usize
-    ensures { result ≡ length (boards entries.now) }
+    ensures { result ≡ length (filter_map (said sets_up_any) entries.now) }
 {
     let mut count = 0;
     for entry in entries {
@@ -164,7 +164,7 @@ pub(crate) fn count_boards(entries: &[Entry]) -> usize
 
 /// How many vacancies were made.
 pub(crate) fn count_vacancies(entries: &[Entry]) -> usize
-    ensures { result ≡ length (vacancies entries.now) }
+    ensures { result ≡ length (filter_map (said makes_any) entries.now) }
 {
     let mut count = 0;
     for entry in entries {

@@ -7,4 +7,4 @@ pub returns-in-Board-clause-answer : goal.returns-in-Board-clause-answer
 returns-in-Board-clause-answer g c h tells = rw c.in-Board.is (c.board_answer.ensures h tells)
 
 pub returns-in-List-clause-answer : goal.returns-in-List-clause-answer
-returns-in-List-clause-answer g c h tells = rw c.in-List.is (c.list_answer.ensures h tells)
+returns-in-List-clause-answer g c h tells = rw c.in-List.is (c.list_answer.ensures.answer h tells)

@@ -1,12 +1,13 @@
-use Rattle.std.proofs.Common.{◌≡◌, ◌≤◌, [], drop, fold, vec_len, vec_capacity}
+use Rattle.std.proofs.Common.{◌≡◌, ◌≤◌, take, vec_len, vec_capacity}
 use Rattle.duty_events.specs.Lists.{stage_of, latest}
-use Rattle.desk_model.specs.History.{said, all_of}
-use Rattle.desk_model.specs.Duty.{tells, keep}
+use Rattle.desk_model.specs.Opening.{OpeningValue}
+use Rattle.desk_model.specs.History.{history_of}
+use Rattle.desk_model.specs.Duty.{events}
 use Rattle.plain_core.proofs.duty.gather.Given as goal
 
 abbrev pub invariant-loop-entry : goal.invariant-loop-entry
 invariant-loop-entry l = record {
-  kept : fold keep l.list.items (all_of (said (tells l.person)) (drop l.entry-index l.entries)) ≡ fold keep [] (all_of (said (tells l.person)) l.entries);
+  events : (o : OpeningValue) → l.list.items ≡ events (history_of o (take l.entry-index l.entries)) l.person;
   stage : l.stage ≡ stage_of l.list.items;
   last : l.last ≡ latest l.list.items;
   few : vec_len l.list ≤ l.entry-index;

@@ -1,6 +1,7 @@
-use Rattle.std.proofs.Common.{◌≡◌, drop}
-use Rattle.desk_model.specs.Duty.{is_closed}
+use Rattle.std.proofs.Common.{◌≡◌, is_some, drop}
+use Rattle.desk_model.specs.History.{said, first_of}
+use Rattle.desk_model.specs.Duty.{closes}
 use Rattle.plain_core.proofs.duty.is_closed.Given as goal
 
 abbrev pub invariant-loop-entry : goal.invariant-loop-entry
-invariant-loop-entry l = is_closed (drop l.entry-index l.entries) l.person ≡ is_closed l.entries l.person
+invariant-loop-entry l = is_some (first_of (said (closes l.person)) (drop l.entry-index l.entries)) ≡ is_some (first_of (said (closes l.person)) l.entries)

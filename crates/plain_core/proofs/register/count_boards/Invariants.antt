@@ -1,7 +1,9 @@
 use Rattle.std.proofs.Common.{◌≡◌, ◌≤◌, ◌+◌, length, drop}
-use Rattle.desk_model.specs.Register.{boards}
+use Rattle.std.specs.List.{filter_map}
+use Rattle.desk_model.specs.History.{said}
+use Rattle.desk_model.specs.Register.{sets_up_any}
 use Rattle.plain_core.proofs.register.count_boards.Given as goal
 
 abbrev pub invariant-loop-entry : goal.invariant-loop-entry
 invariant-loop-entry l =
-    (l.count ≤ l.entry-index) × (l.count + length (boards (drop l.entry-index l.entries)) ≡ length (boards l.entries))
+    (l.count ≤ l.entry-index) × (l.count + length (filter_map (said sets_up_any) (drop l.entry-index l.entries)) ≡ length (filter_map (said sets_up_any) l.entries))

@@ -1,7 +1,9 @@
 use Rattle.std.proofs.Common.{◌≡◌, ◌≤◌, ◌+◌, length, drop}
-use Rattle.desk_model.specs.Register.{vacancies}
+use Rattle.std.specs.List.{filter_map}
+use Rattle.desk_model.specs.History.{said}
+use Rattle.desk_model.specs.Register.{makes_any}
 use Rattle.plain_core.proofs.register.count_vacancies.Given as goal
 
 abbrev pub invariant-loop-entry : goal.invariant-loop-entry
 invariant-loop-entry l =
-    (l.count ≤ l.entry-index) × (l.count + length (vacancies (drop l.entry-index l.entries)) ≡ length (vacancies l.entries))
+    (l.count ≤ l.entry-index) × (l.count + length (filter_map (said makes_any) (drop l.entry-index l.entries)) ≡ length (filter_map (said makes_any) l.entries))

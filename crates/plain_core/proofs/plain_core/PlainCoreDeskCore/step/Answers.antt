@@ -1,33 +1,29 @@
-use Rattle.std.proofs.Common.{[], ◌∷◌, ◌++◌, sym, ap, subst, ◌∙◌}
-use Rattle.desk_model.specs.Legal.{next, IsLegal}
-use Rattle.desk_model.proofs.LegalLemmas.{legal-next}
-use Rattle.plain_core.specs.Fits.{BoardsFit, PlansFit}
-use Rattle.plain_core.proofs.StepLemmas.{fits-legal, plans-legal, known-next}
+use Rattle.std.proofs.Common.{[], ◌∷◌, ◌++◌, sym, subst, arith}
+use Rattle.desk_model.specs.History.{history_of, with_entry}
+use Rattle.desk_model.specs.Legal.{IsLegal, MayState}
+use Rattle.plain_core.specs.Kept.{IsKept}
+use Rattle.plain_core.specs.Room.{HasRoom}
+use Rattle.plain_core.proofs.KeptLemmas.{known-next, kept-next}
 use Rattle.plain_core.proofs.plain_core.PlainCoreDeskCore.step.Goals as goal
+use Rattle.plain_core.proofs.plain_core.PlainCoreDeskCore.step.Goals.{After-push_reserved}
 
-pub next_entry-entry-requires-clause-fits : goal.next_entry-entry-requires-clause-fits
-next_entry-entry-requires-clause-fits c =
-    subst BoardsFit (sym c.deref.ensures.value) (fits-legal c.args.self.now.opening c.args.self.now.entries.items c.args.self.now.legal)
+may : (c : After-push_reserved) → MayState c.args.caller c.args.stated
+may c = record { caller_in = c.requires.caller; stated = c.next_entry-entry.ensures.stated }
 
-pub next_entry-entry-requires-clause-plans : goal.next_entry-entry-requires-clause-plans
-next_entry-entry-requires-clause-plans c window =
-    subst PlansFit (sym c.deref.ensures.value) (plans-legal c.args.self.now.opening c.args.self.now.entries.items window c.args.self.now.legal)
+pub invariant_of-self : goal.invariant_of-self
+invariant_of-self c =
+    let kept = c.args.self.now.kept in
+    let legal = known-next kept.opening kept.entries.items c.next_entry-entry.result c.args.caller c.args.stated kept.legal (may (goal.at.invariant_of-self c).After-push_reserved) c.next_entry-entry.ensures.entry in
+    (subst (λ es. ∥ IsLegal (history_of kept.opening es) ∥₁) (sym c.push_reserved.ensures.items) legal, tt)
 
-pub invariant_of-self-clause-legal : goal.invariant_of-self-clause-legal
-invariant_of-self-clause-legal c =
-    let o = c.args.self.now.opening in
-    let h = c.args.self.now.entries.items in
-    let entry = c.next_entry-entry.ensures.entry ∙ ap (λ x. next o x c.args.caller c.args.stated) c.deref.ensures.value in
-    subst (λ x. ∥ IsLegal o x ∥₁) (sym (c.push_reserved.ensures.items ∙ ap (λ e. h ++ e ∷ []) entry)) (known-next o h c.args.caller c.args.stated c.args.self.now.legal)
-
-pub returns-clause-answer : goal.returns-clause-answer
-returns-clause-answer c h stands =
-    c.next_entry-entry.ensures.entry ∙ ap (λ x. next c.args.self.now.opening x c.args.caller c.args.stated) (c.deref.ensures.value ∙ sym stands.0)
+pub invariant_of-self-2 : goal.invariant_of-self-2
+invariant_of-self-2 c = record {
+  room = omega (arith, c.args.self.now.room, c.requires.room, c.push_reserved.ensures.len, c.push_reserved.ensures.capacity);
+  working = subst (λ n. HasRoom n c.next_entry-entry.new.work) (sym c.push_reserved.ensures.capacity) c.next_entry-entry.ensures.suits;
+}
 
 pub returns-clause-stands : goal.returns-clause-stands
-returns-clause-stands c h stands =
-    let o = c.args.self.now.opening in
-    let entry = c.next_entry-entry.ensures.entry ∙ ap (λ x. next o x c.args.caller c.args.stated) (c.deref.ensures.value ∙ sym stands.0) in (
-      ap (λ x. x ++ c.next_entry-entry.result ∷ []) stands.0 ∙ sym c.push_reserved.ensures.items,
-      subst (λ e. IsLegal o (h ++ e ∷ [])) (sym entry) (legal-next o h c.args.caller c.args.stated stands.1),
-    )
+returns-clause-stands c h kept =
+    let core = c.args.self.now.kept in
+    subst (λ es. IsKept core.opening es (with_entry h c.next_entry-entry.result)) (sym c.push_reserved.ensures.items)
+    (kept-next core.opening core.entries.items h c.next_entry-entry.result c.args.caller c.args.stated kept (may (goal.at.returns-clause-stands c).After-push_reserved) (c.next_entry-entry.ensures.entry h kept))

@@ -1,0 +1,37 @@
+-- What is kept of a legal history, and the entry that a step adds.
+use Rattle.std.proofs.Common.{◌≡◌, ℕ, ◌≤◌, List, [], ◌∷◌, ◌++◌, length, refl, sym, ap, subst, ◌∙◌}
+use Rattle.std.specs.Coded.{le_prop}
+use Rattle.std.proofs.Math.Logic.{∥∥₁_elim}
+use Rattle.desk_model.specs.declared.limits.TheConstants.{MEMBER_LIMIT}
+use Rattle.desk_model.specs.Opening.{OpeningValue, IsOpening}
+use Rattle.desk_model.specs.Statement.{StatedValue}
+use Rattle.desk_model.specs.Entry.{EntryValue}
+use Rattle.desk_model.specs.History.{History, history_of, opened, with_entry}
+use Rattle.desk_model.specs.Boards.{order}
+use Rattle.desk_model.specs.Legal.{next, MayState, IsNext, IsLegal}
+use Rattle.desk_model.proofs.LegalLemmas.{legal-opened, legal-with, IsNext-next}
+use Rattle.desk_model.proofs.BoundLemmas.{length-order}
+use Rattle.plain_core.specs.Kept.{IsKept}
+
+pub kept-opened : (o : OpeningValue) → IsOpening o → IsKept o [] (opened o)
+kept-opened o valid = record { is = refl; legal = legal-opened o valid }
+
+pub length-kept : (o : OpeningValue) (es : List EntryValue) (b : List ℕ) → ∥ IsLegal (history_of o es) ∥₁ → length (order (history_of o es) b) ≤ MEMBER_LIMIT
+length-kept o es b legal = ∥∥₁_elim legal le_prop (λ fine. length-order (history_of o es) b fine)
+
+-- the entry that the rules give comes next
+comes : (h : History) (e : EntryValue) (caller : ℕ) (s : StatedValue) → MayState caller s → e ≡ next h caller s → IsNext h e
+comes h e caller s may is = subst (IsNext h) (sym is) (IsNext-next h caller s may)
+
+pub known-next : (o : OpeningValue) (es : List EntryValue) (e : EntryValue) (caller : ℕ) (s : StatedValue) → ∥ IsLegal (history_of o es) ∥₁ → MayState caller s
+    → ((h : History) → IsKept o es h → e ≡ next h caller s) → ∥ IsLegal (history_of o (es ++ e ∷ [])) ∥₁
+known-next o es e caller s legal may answers =
+    ∥∥₁_elim legal squash₁ (λ fine.
+    ∣ legal-with (history_of o es) e fine (comes (history_of o es) e caller s may (answers (history_of o es) (record { is = refl; legal = fine }))) ∣₁)
+
+pub kept-next : (o : OpeningValue) (es : List EntryValue) (h : History) (e : EntryValue) (caller : ℕ) (s : StatedValue) → IsKept o es h → MayState caller s
+    → e ≡ next h caller s → IsKept o (es ++ e ∷ []) (with_entry h e)
+kept-next o es h e caller s kept may answer = record {
+  is = ap (λ past. with_entry past e) kept.is;
+  legal = legal-with h e kept.legal (comes h e caller s may answer);
+}
