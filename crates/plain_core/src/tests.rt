@@ -55,7 +55,7 @@ fn next(number: u32) -> Option<Cmd> {
 }
 
 // The moment and the answer of the entry; `None` where no step is left.
-fn take(core: &mut PlainCore, minute: &[u8], cmd: Option<Cmd>) -> Option<(Minute, Reply)> {
+fn take<C: DeskCore>(core: &mut C, minute: &[u8], cmd: Option<Cmd>) -> Option<(Minute, Reply)> {
     let stated = Stated::new(Minute::read(minute)?, cmd?)?;
     if core.left() == 0 {
         return None;
