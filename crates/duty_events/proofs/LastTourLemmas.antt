@@ -1,5 +1,5 @@
 -- A minute of the last tour that has ended belongs to it by the marks too.
-use Rattle.std.proofs.Common.{◌≡◌, ℕ, zero, suc, ◌+◌, ◌<◌, ◌≤◌, inl, inr, Bool, true, false, cond, ◌&&◌, nat_le, if◌then◌else◌, Option, None, Some, List, [], ◌∷◌, ◌++◌, reverse, take, length, get_or, refl, sym, subst, ap, ◌∙◌, arith}
+use Rattle.std.proofs.Common.{◌≡◌, ℕ, zero, suc, ◌+◌, ◌<◌, ◌≤◌, inl, inr, Bool, true, false, cond, ◌&&◌, nat_le, if◌then◌else◌, Option, None, Some, IfSome, List, [], ◌∷◌, ◌++◌, reverse, take, length, get_or, refl, sym, subst, ap, ◌∙◌, arith}
 use Rattle.std.specs.Option.{option_or, option_map}
 use Rattle.std.specs.List.{find}
 use Rattle.std.proofs.lemmas.Bool.{le-leb}
@@ -156,8 +156,14 @@ kept-take es lawful (suc i) within =
       | inr past ↦ absurd (omega (arith, past.0, within))
     ]
 
+owns-whole : (es : List Event) (tour : Tour) → IsLawful es → last_tour es ≡ Some tour → Owns (tour_start es) (reached (last_event es)) (Some tour)
+owns-whole es tour lawful is =
+    let kept = subst Kept (take_all (length es) es (omega arith)) (kept-take es lawful (length es) (omega arith)) in subst (Owns (tour_start es) (reached (last_event es))) is kept.owns
+
 pub last_tour-minutes : (es : List Event) (tour : Tour) → IsLawful es → last_tour es ≡ Some tour → (t : ℕ) → tour.start ≤ t → t < tour.end → tour_start es t ≡ tour.start
-last_tour-minutes es tour lawful is t from to =
-    let kept = subst Kept (take_all (length es) es (omega arith)) (kept-take es lawful (length es) (omega arith)) in
-    let owns : Owns (tour_start es) (reached (last_event es)) (Some tour) = subst (Owns (tour_start es) (reached (last_event es))) is kept.owns in
-    owns.1 t from to
+last_tour-minutes es tour lawful is t from to = (owns-whole es tour lawful is).1 t from to
+
+-- it ends by the latest minute
+pub last_tour-ends : (es : List Event) (o : Option Tour) → IsLawful es → o ≡ last_tour es → IfSome o (λ tour. tour.end ≤ reached (last_event es))
+last_tour-ends es None lawful is = tt
+last_tour-ends es (Some tour) lawful is = (owns-whole es tour lawful (sym is)).0

@@ -1,6 +1,7 @@
 //! What train employees do and when, as events after 49 CFR 228.11, and what each minute counts as.
 #![tactic(auto)]
 
+mod asked;
 mod end;
 mod ended_tours;
 mod event;
@@ -16,6 +17,7 @@ mod spell;
 mod stage;
 mod tour;
 
+pub use asked::Asked;
 pub use ended_tours::last_tour;
 pub use event::Event;
 pub use event_fault::EventFault;

@@ -9,10 +9,6 @@ use Rattle.duty_events.specs.Minutes.{shared}
 use Rattle.duty_events.specs.Tours.{tour_minutes_between}
 use Rattle.month_hours.specs.Capped.{is_limbo}
 
--- how many are the event's own, as those of other service are
-abbrev pub own_minutes : Event → ℕ → ℕ → ℕ
-own_minutes e first many = shared (first_minute e) (last_minute e) first many
-
 -- how many limbo minutes between two events come when their tour, which has summed so many up to the first event, has
 -- summed 720
 abbrev pub capped_between : Option Event → Event → ℕ → ℕ → ℕ → ℕ
