@@ -13,7 +13,7 @@ use Rattle.duty_events.specs.Between.{kind_until, kind_behind}
 use Rattle.duty_events.specs.Places.{end_by, place_of, place_by}
 use Rattle.duty_events.proofs.ListLemmas.{take-push, lawful-take, lawful-here, last_event-next}
 use Rattle.duty_events.proofs.EventLemmas.{follows-reached, kind_of-stays, kind_of-until, kind_of-within, kind_of-behind}
-use Rattle.duty_events.proofs.PlaceLemmas.{IsSince, place_of-next}
+use Rattle.duty_events.proofs.PlaceLemmas.{IsSince, since_of, place_of-next}
 use Rattle.consecutive_days.specs.Days.{is_off_at_home}
 use Rattle.consecutive_days.specs.Steps.{place_until, place_behind}
 
@@ -56,28 +56,28 @@ pub latest-next : (es : List Event) (i : ℕ) (e : Event) → i < length es → 
 latest-next es i e within is = ap reached (last_event-next es i e within is)
 
 -- off and at home with one event more: before the latest minute
-pub at_home-stays : (es : List Event) (i : ℕ) (e : Event) (home : List ℕ) → IsLawful es → i < length es → e ≡ get_or es i e → IsSince (stage_of (take i es)) (latest_of (take i es))
+pub at_home-stays : (es : List Event) (i : ℕ) (e : Event) (home : List ℕ) → IsLawful es → i < length es → e ≡ get_or es i e
     → (t : ℕ) → t < latest_of (take i es) → is_off_at_home (take (i + 1) es) home t ≡ is_off_at_home (take i es) home t
 unfolding is_off_at_home
-at_home-stays es i e home lawful within is since t early =
+at_home-stays es i e home lawful within is t early =
     let next = lawful-here es i e lawful within is in
     let kind : kind_of (take (i + 1) es) t ≡ kind_of (take i es) t = ap (λ xs. kind_of xs t) (take-push es i e within is) ∙ kind_of-stays (take i es) e (lawful-take es i lawful) next t early in
     let place : place_of (take (i + 1) es) home t ≡ place_of (take i es) home t =
     place_of-next es i e home t within is
-    ∙ place-stays (stage_of (take i es)) e (latest_of (take i es)) t (place_of (take i es) home t) since (order-next es i e lawful within is) next.whole early in
+    ∙ place-stays (stage_of (take i es)) e (latest_of (take i es)) t (place_of (take i es) home t) (since_of (take i es) (lawful-take es i lawful)) (order-next es i e lawful within is) next.whole early in
     rw (kind, place) refl
 
 -- from there to the event
-pub at_home-until : (es : List Event) (i : ℕ) (e : Event) (home place : List ℕ) → IsLawful es → i < length es → e ≡ get_or es i e → IsSince (stage_of (take i es)) (latest_of (take i es))
+pub at_home-until : (es : List Event) (i : ℕ) (e : Event) (home place : List ℕ) → IsLawful es → i < length es → e ≡ get_or es i e
     → ((t : ℕ) → latest_of (take i es) ≤ t → place_of (take i es) home t ≡ place) → (t : ℕ) → latest_of (take i es) ≤ t → t < first_minute e
     → is_off_at_home (take (i + 1) es) home t ≡ (is_off_duty (kind_until (last_event (take i es)) e) && bytes_eq (place_until (stage_of (take i es)) e place) home)
 unfolding is_off_at_home
-at_home-until es i e home place lawful within is since at t from to =
+at_home-until es i e home place lawful within is at t from to =
     let next = lawful-here es i e lawful within is in
     let kind : kind_of (take (i + 1) es) t ≡ kind_until (last_event (take i es)) e = ap (λ xs. kind_of xs t) (take-push es i e within is) ∙ kind_of-until (take i es) e (lawful-take es i lawful) next t from to in
     let there : place_of (take (i + 1) es) home t ≡ place_until (stage_of (take i es)) e place =
     place_of-next es i e home t within is
-    ∙ place-until (stage_of (take i es)) e (latest_of (take i es)) t (place_of (take i es) home t) since next.whole from to
+    ∙ place-until (stage_of (take i es)) e (latest_of (take i es)) t (place_of (take i es) home t) (since_of (take i es) (lawful-take es i lawful)) next.whole from to
     ∙ ap (place_until (stage_of (take i es)) e) (at t from) in
     rw (kind, there) refl
 
@@ -90,14 +90,14 @@ at_home-own es i e home lawful within is t from to =
     rw kind refl
 
 -- and where someone is behind it
-pub place-next : (es : List Event) (i : ℕ) (e : Event) (home place : List ℕ) → IsLawful es → i < length es → e ≡ get_or es i e → IsSince (stage_of (take i es)) (latest_of (take i es))
+pub place-next : (es : List Event) (i : ℕ) (e : Event) (home place : List ℕ) → IsLawful es → i < length es → e ≡ get_or es i e
     → ((t : ℕ) → latest_of (take i es) ≤ t → place_of (take i es) home t ≡ place) → (t : ℕ) → latest_of (take (i + 1) es) ≤ t → place_of (take (i + 1) es) home t ≡ place_behind e place
-place-next es i e home place lawful within is since at t late =
+place-next es i e home place lawful within is at t late =
     let next = lawful-here es i e lawful within is in
     let order = order-next es i e lawful within is in
     let behind : last_minute e ≤ t = subst (λ m. m ≤ t) (latest-next es i e within is) late in
     place_of-next es i e home t within is
-    ∙ place-behind (stage_of (take i es)) e (latest_of (take i es)) t (place_of (take i es) home t) since order behind
+    ∙ place-behind (stage_of (take i es)) e (latest_of (take i es)) t (place_of (take i es) home t) (since_of (take i es) (lawful-take es i lawful)) order behind
     ∙ ap (place_behind e) (at t (omega (arith, order, next.whole, behind)))
 
 -- with no event more

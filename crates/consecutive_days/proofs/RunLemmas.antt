@@ -14,9 +14,8 @@ use Rattle.duty_events.specs.declared.event.Event.{Event}
 use Rattle.duty_events.specs.declared.event.Event.TheVariants as event
 use Rattle.duty_events.specs.declared.stage.Stage.{Stage}
 use Rattle.duty_events.specs.Allowed.{first_minute, last_minute}
-use Rattle.duty_events.specs.Between.{begins}
 use Rattle.duty_events.specs.Lists.{IsNext, IsLawful, stage_of, last_event, reached}
-use Rattle.duty_events.specs.MinuteKind.{mark_of, ToRiding, ToDuty, marks, marks_of, is_off}
+use Rattle.duty_events.specs.MinuteKind.{mark_of, last_leads, marks, marks_of, begins}
 use Rattle.duty_events.proofs.ListLemmas.{take-push, last_event-push, lawful-here}
 use Rattle.duty_events.proofs.EventLemmas.{follows-reached, marks-push}
 use Rattle.consecutive_days.specs.Run.{starts, starts_on, last_start, run_before, run_from, run_days, IsRunTo, IsRun}
@@ -176,22 +175,12 @@ counts-first p q last day none is = record {
 
 -- the starts of a list, one event more
 begun : (s : Stage) (e : Event) → map (λ m. m.at) (filter (λ m. m.begins) (marks_of s e)) ≡ (if begins s e then first_minute e ∷ [] else [])
-begun s (event.Ride t) = go (is_off s)
-  where
-    go : (b : Bool) → map (λ m. m.at) (if b then mark_of t ToRiding b ∷ [] else []) ≡ (if b then t ∷ [] else [])
-    go true = refl
-    go false = refl
-begun s (event.Duty t) = go (is_off s)
-  where
-    go : (b : Bool) → map (λ m. m.at) (if b then mark_of t ToDuty b ∷ [] else []) ≡ (if b then t ∷ [] else [])
-    go true = refl
-    go false = refl
-begun s (event.Interim t k place) = refl
-begun s (event.Resume t) = refl
-begun s (event.Relieve t) = refl
-begun s (event.RideHome t) = refl
-begun s (event.Final t place) = refl
 begun s (event.Other span place) = refl
+begun s e = go (begins s e)
+  where
+    go : (b : Bool) → map (λ m. m.at) (filter (λ m. m.begins) (mark_of (last_minute e) (last_leads e) b ∷ [])) ≡ (if b then last_minute e ∷ [] else [])
+    go true = refl
+    go false = refl
 
 starts-push : (es : List Event) (e : Event) → starts (es ++ e ∷ []) ≡ starts es ++ (if begins (stage_of es) e then first_minute e ∷ [] else [])
 unfolding starts

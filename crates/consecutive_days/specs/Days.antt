@@ -1,6 +1,7 @@
 -- Who has had the time off that days in a row need (21103(a)(4)(A)).
 use Rattle.std.specs.Prelude.{◌≡◌, ◌≢◌, ℕ, ◌+◌, ◌⊎◌, ◌==◌, Bool, false, ◌&&◌, ◌||◌, not, Option, None, Some, List}
 use Rattle.std.specs.Str.{bytes_eq}
+use Rattle.consecutive_days.specs.declared.run.TheConstants.{SIX_DAYS}
 use Rattle.desk_base.specs.Day.{day_of}
 use Rattle.duty_events.specs.declared.event.Event.{Event}
 use Rattle.duty_events.specs.declared.tour.Tour.{Tour}
@@ -30,7 +31,7 @@ is_day_after (Some start) t = day_of t == day_of start + 1
 
 -- six days in a row of which the last ended away from home, and a report on the very next day
 abbrev pub is_seventh_from_away : List Event → List ℕ → ℕ → Bool
-is_seventh_from_away es home report = (run_days es == 6) && is_away (last_tour es) home && is_day_after (last_start es) report
+is_seventh_from_away es home report = (run_days es == SIX_DAYS) && is_away (last_tour es) home && is_day_after (last_start es) report
 
 -- no time off is needed, or it was had at home, or it isn't yet needed away from home
 unfoldable pub days_ok : List Event → List ℕ → ℕ → Bool
@@ -47,7 +48,7 @@ IsDayAfter None t = ⊥
 IsDayAfter (Some start) t = day_of t ≡ day_of start + 1
 
 pub record IsSeventhFromAway (es : List Event) (home : List ℕ) (report : ℕ) : Type 0 where
-  pub six : run_days es ≡ 6
+  pub six : run_days es ≡ SIX_DAYS
   pub away : IsAway (last_tour es) home
   pub next_day : IsDayAfter (last_start es) report
 

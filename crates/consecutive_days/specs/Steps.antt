@@ -6,7 +6,7 @@ use Rattle.duty_events.specs.declared.event.Event.TheVariants as event
 use Rattle.duty_events.specs.declared.stage.Stage.{Stage}
 use Rattle.duty_events.specs.declared.stage.Stage.TheVariants as stage
 use Rattle.duty_events.specs.Allowed.{first_minute}
-use Rattle.duty_events.specs.Between.{begins}
+use Rattle.duty_events.specs.MinuteKind.{begins}
 
 -- the day of the last start, 0 if there is none
 abbrev pub last_day : Option ℕ → ℕ

@@ -6,7 +6,7 @@ ghost use Rattle.duty_events.specs.EndedTours.{end_of};
 ghost use Rattle.consecutive_days.specs.Days.{days_ok, DaysOk, is_away};
 
 use crate::home::{is_home, longest_at_home};
-use crate::run::{Run, last_run, need};
+use crate::run::{Run, SIX_DAYS, last_run, need};
 use desk_base::{Code, Day, Minute};
 use duty_events::{Event, Tour, last_tour};
 
@@ -57,9 +57,9 @@ fn is_day_after(run: &Run, minute: Minute) -> bool
 
 // So many days in a row are six of which the last ended away, and the report is on the next.
 fn is_seventh_from_away(days: u32, away: bool, next_day: bool) -> bool
-    ensures { result ≡ ((days == 6) && away && next_day) }
+    ensures { result ≡ ((days == SIX_DAYS) && away && next_day) }
 {
-    days == 6 && away && next_day
+    days == SIX_DAYS && away && next_day
 }
 
 // No minutes are needed, or the longest stretch has as many, or it is the seventh day from away.

@@ -6,7 +6,7 @@ mod home;
 mod run;
 
 pub use days::days_ok;
-pub use run::{need, run_days};
+pub use run::{OFF_AFTER_SEVEN_DAYS, OFF_AFTER_SIX_DAYS, SIX_DAYS, need, run_days};
 
 #[cfg(test)]
 mod tests;

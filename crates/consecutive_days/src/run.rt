@@ -6,6 +6,15 @@ ghost use Rattle.consecutive_days.specs.Steps.{last_day, start_day, next_run};
 use desk_base::Day;
 use duty_events::{Event, Stage};
 
+/// So many days in a row on which tours begin need time off, 49 USC 21103(a)(4)(A).
+pub const SIX_DAYS: u32 = 6;
+
+/// The minutes off at home that six days in a row need: 48 hours.
+pub const OFF_AFTER_SIX_DAYS: u32 = 2_880;
+
+/// The minutes off at home that seven days in a row need, or more: 72 hours.
+pub const OFF_AFTER_SEVEN_DAYS: u32 = 4_320;
+
 // Days in a row that have a tour's start.
 #[derive(Clone, Copy)]
 pub(crate) struct Run {
@@ -78,9 +87,11 @@ fn next_run(days: u32, last: u32, day: u32) -> u32
 pub fn need(run: u32) -> u32
     ensures { result ≡ need run }
 {
-    match run {
-        0..=5 => 0,
-        6 => 2_880,
-        _ => 4_320,
+    if run < SIX_DAYS {
+        0
+    } else if run == SIX_DAYS {
+        OFF_AFTER_SIX_DAYS
+    } else {
+        OFF_AFTER_SEVEN_DAYS
     }
 }

@@ -1,7 +1,7 @@
 -- Lists of events, one event more.
 use Rattle.std.proofs.Common.{◌≡◌, ℕ, zero, suc, ◌+◌, ◌<◌, ◌≤◌, ◌⊎◌, inl, inr, Option, None, Some, List, [], ◌∷◌, ◌++◌, take, length, get_or, refl, sym, subst, ap, ◌∙◌, arith}
 use Rattle.std.specs.List.{slice_get}
-use Rattle.std.proofs.lemmas.Option.{slice_get-get_or, none-some, same_Some}
+use Rattle.std.proofs.lemmas.Option.{slice_get_cases, slice_get-get_or, none-some, same_Some}
 use Rattle.std.proofs.lemmas.List.{take_at, take_all, take_more, take-take, take-append-le}
 use Rattle.std.proofs.lemmas.List.Sums.{fold_push}
 use Rattle.duty_events.specs.declared.event.Event.{Event}
@@ -49,8 +49,26 @@ lawful-here es i e lawful within is = lawful.each i e (slice_get-get_or es i e w
 pub take-push : {X : Type 0} (xs : List X) (i : ℕ) (x : X) → i < length xs → x ≡ get_or xs i x → take (i + 1) xs ≡ take i xs ++ x ∷ []
 take-push xs i x within is = take_more xs i x within ∙ ap (λ y. take i xs ++ y ∷ []) (sym is)
 
+-- what holds of no events, and of one event more that may follow, holds of each lawful list
+pub lawful-induction : (P : List Event → Type 0) → P [] → ((es : List Event) (e : Event) → IsLawful es → IsNext es e → P es → P (es ++ e ∷ [])) → (es : List Event) → IsLawful es → P es
+lawful-induction P none more es lawful = subst P (take_all (length es) es (omega arith)) (go (length es) (omega arith))
+  where
+    go : (i : ℕ) → i ≤ length es → P (take i es)
+    go zero within = none
+    go (suc i) within = elim (slice_get_cases es i).1 [
+      | inl here ↦
+          let is = sym here.3 in
+          let next : suc i ≡ i + 1 = omega arith in
+          let more_is : take (suc i) es ≡ take i es ++ here.0 ∷ [] = ap (λ n. take n es) next ∙ take-push es i here.0 here.1 is in
+          subst P (sym more_is) (more (take i es) here.0 (lawful-take es i lawful) (lawful-here es i here.0 lawful here.1 is) (go i (omega (arith, within))))
+      | inr past ↦ absurd (omega (arith, past.0, within))
+    ]
+
+pub stage_of-push : (es : List Event) (e : Event) → stage_of (es ++ e ∷ []) ≡ stage_after (stage_of es) e
+stage_of-push es e = fold_push stage_after stage.Off es e
+
 pub stage_of-next : (es : List Event) (i : ℕ) (e : Event) → i < length es → e ≡ get_or es i e → stage_of (take (i + 1) es) ≡ stage_after (stage_of (take i es)) e
-stage_of-next es i e within is = ap stage_of (take-push es i e within is) ∙ fold_push stage_after stage.Off (take i es) e
+stage_of-next es i e within is = ap stage_of (take-push es i e within is) ∙ stage_of-push (take i es) e
 
 pub last_event-push : (es : List Event) (e : Event) → last_event (es ++ e ∷ []) ≡ Some e
 last_event-push es e = fold_push (λ o x. Some x) None es e

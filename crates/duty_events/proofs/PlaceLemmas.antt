@@ -12,7 +12,7 @@ use Rattle.duty_events.specs.declared.event.Event.TheVariants as event
 use Rattle.duty_events.specs.Allowed.{last_minute, judge}
 use Rattle.duty_events.specs.Lists.{IsLawful, stage_after, stage_of, last_event, latest, reached}
 use Rattle.duty_events.specs.Places.{end_by, ends_from, place_of, place_by}
-use Rattle.duty_events.proofs.ListLemmas.{take-push, lawful-here, stage_of-next, last_event-next}
+use Rattle.duty_events.proofs.ListLemmas.{take-push, stage_of-push, last_event-push, lawful-induction}
 
 ends_from-push : (s : Stage) (es : List Event) (e : Event) → ends_from s (es ++ e ∷ []) ≡ ends_from s es ++ option_to_list (end_by (fold stage_after s es) e)
 ends_from-push s [] e = append-nil (option_to_list (end_by s e))
@@ -33,7 +33,7 @@ placed-push xs (Some x) home t =
     go true = refl
     go false = refl
 
-place_of-push : (es : List Event) (e : Event) (home : List ℕ) (t : ℕ) → place_of (es ++ e ∷ []) home t ≡ place_by (end_by (stage_of es) e) (place_of es home t) t
+pub place_of-push : (es : List Event) (e : Event) (home : List ℕ) (t : ℕ) → place_of (es ++ e ∷ []) home t ≡ place_by (end_by (stage_of es) e) (place_of es home t) t
 unfolding place_of
 place_of-push es e home t = ap (λ xs. placed xs home t) (ends_from-push stage.Off es e) ∙ placed-push (ends_from stage.Off es) (end_by (stage_of es) e) home t
 
@@ -54,7 +54,7 @@ IsSince (stage.Interim k since at) t = since ≡ t
 IsSince s t = Unit {0}
 
 -- so it is after an event that is allowed
-pub since-after : (e : Event) (s : Stage) (last : Option ℕ) → IsOk (judge s e last) → IsSince (stage_after s e) (last_minute e)
+since-after : (e : Event) (s : Stage) (last : Option ℕ) → IsOk (judge s e last) → IsSince (stage_after s e) (last_minute e)
 since-after (event.Interim t k place) stage.Duty last ok = refl
 since-after (event.Interim t j place) (stage.Interim k since at) last ok = absurd (false≢true ok)
 since-after (event.Ride t) (stage.Interim k since at) last ok = absurd (false≢true ok)
@@ -66,6 +66,8 @@ since-after (event.Resume t) (stage.Interim k since at) last ok = tt
 since-after (event.Final t place) (stage.Interim k since at) last ok = tt
 since-after e s last ok = tt
 
-pub since-next : (es : List Event) (i : ℕ) (e : Event) → IsLawful es → i < length es → e ≡ get_or es i e → IsSince (stage_of (take (i + 1) es)) (reached (last_event (take (i + 1) es)))
-since-next es i e lawful within is =
-    rw (stage_of-next es i e within is, last_event-next es i e within is) (since-after e (stage_of (take i es)) (latest (take i es)) (lawful-here es i e lawful within is).allowed)
+pub since_of : (es : List Event) → IsLawful es → IsSince (stage_of es) (reached (last_event es))
+since_of es lawful =
+    lawful-induction (λ xs. IsSince (stage_of xs) (reached (last_event xs))) tt
+    (λ old e before next was. rw (stage_of-push old e, last_event-push old e) (since-after e (stage_of old) (latest old) next.allowed))
+    es lawful

@@ -7,8 +7,8 @@ use Rattle.duty_events.specs.declared.minute_kind.MinuteKind.{MinuteKind}
 use Rattle.duty_events.specs.declared.minute_kind.MinuteKind.TheVariants as minute
 use Rattle.duty_events.specs.Allowed.{first_minute, last_minute}
 use Rattle.duty_events.specs.Lists.{IsNext, IsLawful, stage_of, last_event, reached}
-use Rattle.duty_events.specs.MinuteKind.{Mark, Leads, ToOff, ToOther, ToRiding, ToDuty, ToResumed, ToInterim, ToWaiting, ToRidingHome, marks, unended, kind_of}
-use Rattle.duty_events.specs.Between.{last_leads, between, minutes_between}
+use Rattle.duty_events.specs.MinuteKind.{Mark, Leads, ToOff, ToOther, ToRiding, ToDuty, ToResumed, ToInterim, ToWaiting, ToRidingHome, marks, unended, kind_of, last_leads}
+use Rattle.duty_events.specs.Between.{between, minutes_between}
 use Rattle.duty_events.specs.Minutes.{minutes_where, is_within, shared}
 use Rattle.duty_events.proofs.CountLemmas.{is_within-before, is_within-in, is_within-behind, minutes_where-or, minutes_where-never, minutes_where-within_if}
 use Rattle.duty_events.proofs.MarkLemmas.{kind_by, kind_by-late, are_by-later}

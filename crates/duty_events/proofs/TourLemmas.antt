@@ -8,8 +8,8 @@ use Rattle.duty_events.specs.declared.event.Event.TheVariants as event
 use Rattle.duty_events.specs.declared.stage.Stage.{Stage}
 use Rattle.duty_events.specs.Allowed.{first_minute, last_minute}
 use Rattle.duty_events.specs.Lists.{IsNext, IsLawful, stage_of, last_event, reached}
-use Rattle.duty_events.specs.MinuteKind.{Mark, mark_of, ToOther, ToOff, marks_of, marks, kind_of}
-use Rattle.duty_events.specs.Between.{between, begins, minutes_between}
+use Rattle.duty_events.specs.MinuteKind.{Mark, mark_of, ToOther, ToOff, marks_of, marks, kind_of, begins}
+use Rattle.duty_events.specs.Between.{between, minutes_between}
 use Rattle.duty_events.specs.Minutes.{minutes_where, shared}
 use Rattle.duty_events.specs.Tours.{is_in_tour, tour_mark, start_at, tour_start, tour_minutes, tour_minutes_between}
 use Rattle.duty_events.proofs.CountLemmas.{minutes_where-none, minutes_where-same, minutes_where-never, minutes_where-add, minutes_where-most}

@@ -8,7 +8,7 @@ use Rattle.duty_events.specs.declared.stage.Stage.TheVariants as stage
 use Rattle.duty_events.specs.declared.tour.Tour.{Tour}
 use Rattle.duty_events.specs.Allowed.{first_minute}
 use Rattle.duty_events.specs.Lists.{stage_after}
-use Rattle.duty_events.specs.Between.{begins}
+use Rattle.duty_events.specs.MinuteKind.{begins}
 use Rattle.duty_events.specs.Places.{tour_end}
 
 -- where the last tour began, after an event that comes at a stage: at the event where one begins there

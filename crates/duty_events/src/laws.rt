@@ -1,13 +1,13 @@
-ghost use Rattle.std.specs.Prelude.{◌≡◌, ℕ, ◌<◌, ◌≤◌, None, Some, List, [], ◌∷◌, ◌++◌};
+ghost use Rattle.std.specs.Prelude.{◌≡◌, ◌≢◌, ℕ, ◌<◌, ◌≤◌, None, Some, List, [], ◌∷◌, ◌++◌};
 ghost use Rattle.duty_events.specs.declared.event.Event.{Event};
-ghost use Rattle.duty_events.specs.declared.minute_kind.MinuteKind.TheVariants.{Off, Other};
+ghost use Rattle.duty_events.specs.declared.minute_kind.MinuteKind.TheVariants.{Off, Open, Other};
 ghost use Rattle.duty_events.specs.declared.tour.Tour.{Tour};
 ghost use Rattle.duty_events.specs.Tours.{tour_start};
 ghost use Rattle.duty_events.specs.EndedTours.{last_tour};
 ghost use Rattle.duty_events.specs.Allowed.{first_minute, last_minute};
-ghost use Rattle.duty_events.specs.Lists.{IsNext, IsLawful, last_event};
-ghost use Rattle.duty_events.specs.MinuteKind.{unended, kind_of};
-ghost use Rattle.duty_events.specs.Between.{last_leads, between};
+ghost use Rattle.duty_events.specs.Lists.{IsNext, IsLawful, last_event, reached};
+ghost use Rattle.duty_events.specs.MinuteKind.{unended, kind_of, last_leads};
+ghost use Rattle.duty_events.specs.Between.{between};
 
 /// A lawful list and an event that may follow it are a lawful list. It does nothing: its clause is the law.
 pub fn a_next_event_is_lawful()
@@ -30,6 +30,13 @@ pub fn kinds_when_an_event_comes()
         → (t : ℕ) → first_minute e ≤ t → t < last_minute e → kind_of (es ++ e ∷ []) t ≡ Other }
     ensures behind { (es : List Event) (e : Event) → IsLawful es → IsNext es e
         → (t : ℕ) → last_minute e ≤ t → kind_of (es ++ e ∷ []) t ≡ unended (last_leads e) }
+{}
+
+/// Each minute before the latest of a lawful list has a kind: an interim that has not ended began at the latest. It does
+/// nothing: its clause is the law.
+pub fn each_minute_before_the_latest_has_a_kind()
+    ensures { (es : List Event) → IsLawful es
+        → (t : ℕ) → t < reached (last_event es) → kind_of es t ≢ Open }
 {}
 
 /// Each minute of the last tour that has ended belongs to it by the marks too: the tour of the minute began where that tour

@@ -9,6 +9,7 @@ mod event_fault;
 mod kind;
 mod lawful;
 mod laws;
+mod limits;
 mod minute_kind;
 mod minutes;
 mod places;
@@ -22,10 +23,12 @@ pub use ended_tours::last_tour;
 pub use event::Event;
 pub use event_fault::EventFault;
 pub use kind::Kind;
-pub use lawful::is_lawful;
+pub use lawful::{is_lawful, may_follow};
 pub use laws::{
-    a_next_event_is_lawful, a_tour_is_one_by_events_and_by_marks, kinds_when_an_event_comes,
+    a_next_event_is_lawful, a_tour_is_one_by_events_and_by_marks,
+    each_minute_before_the_latest_has_a_kind, kinds_when_an_event_comes,
 };
+pub use limits::{DUTY_LIMIT, INTERIM_LIMIT, OFF_DUTY_INTERIM};
 pub use minute_kind::MinuteKind;
 pub use minutes::shared;
 pub use places::place;

@@ -3,6 +3,8 @@ use Rattle.std.proofs.Common.{◌≡◌, ℕ, ◌+◌, ◌<◌, ◌≤◌, ◌�
 use Rattle.std.specs.Option.{option_or, option_map}
 use Rattle.std.proofs.lemmas.Bool.{false≢true, cases_lt}
 use Rattle.std.proofs.lemmas.Bool.Decides.{Decides-eqb}
+use Rattle.rest_rules.specs.declared.rest.TheConstants.{REST}
+use Rattle.consecutive_days.specs.declared.run.TheConstants.{OFF_AFTER_SEVEN_DAYS, OFF_AFTER_SIX_DAYS, SIX_DAYS}
 use Rattle.desk_base.specs.Minute.{IsInYears}
 use Rattle.desk_base.specs.Month.{IsMonthInYears, first_minute}
 use Rattle.desk_base.proofs.MonthLemmas.{first_day_mono, first_day-2000, first_day-2100}
@@ -68,7 +70,7 @@ kept-none false held = (λ is. cc, λ is. absurd (false≢true is))
 
 -- a row doesn't hold just where its section is kept
 rest_row-none : (es : List Event) (report : ℕ) → (rest_row es report ≡ None → rest_ok es report 0 ≡ true) × (rest_ok es report 0 ≡ true → rest_row es report ≡ None)
-rest_row-none es report = kept-none (rest_ok es report 0) (bar.Rest (off_from es + 600))
+rest_row-none es report = kept-none (rest_ok es report 0) (bar.Rest (off_from es + REST))
 
 more_rest_row-none : (es : List Event) (report : ℕ) → (more_rest_row es report ≡ None → rest_ok es report (excess es) ≡ true) × (rest_ok es report (excess es) ≡ true → more_rest_row es report ≡ None)
 more_rest_row-none es report = kept-none (rest_ok es report (excess es)) (bar.MoreRest (rest_end es))
@@ -77,11 +79,11 @@ undisturbed_row-none : (es : List Event) (moment : ℕ) → (undisturbed_row es 
 undisturbed_row-none es moment = kept-none (rest_ok es moment (excess es)) (bar.Undisturbed (rest_end es))
 
 -- where the time off is wanting, six days need it or seven
-need-six_or_seven : (run : ℕ) → ((need run == 0) ≡ true) ⊎ (((need run == 2_880) ≡ true) ⊎ ((need run == 4_320) ≡ true))
-need-six_or_seven run = go (nat_lt run 6) (run == 6)
+need-six_or_seven : (run : ℕ) → ((need run == 0) ≡ true) ⊎ (((need run == OFF_AFTER_SIX_DAYS) ≡ true) ⊎ ((need run == OFF_AFTER_SEVEN_DAYS) ≡ true))
+need-six_or_seven run = go (nat_lt run SIX_DAYS) (run == SIX_DAYS)
   where
-    go : (few six : Bool) → (((if few then 0 else (if six then 2_880 else 4_320)) == 0) ≡ true)
-        ⊎ ((((if few then 0 else (if six then 2_880 else 4_320)) == 2_880) ≡ true) ⊎ (((if few then 0 else (if six then 2_880 else 4_320)) == 4_320) ≡ true))
+    go : (few six : Bool) → (((if few then 0 else (if six then OFF_AFTER_SIX_DAYS else OFF_AFTER_SEVEN_DAYS)) == 0) ≡ true)
+        ⊎ ((((if few then 0 else (if six then OFF_AFTER_SIX_DAYS else OFF_AFTER_SEVEN_DAYS)) == OFF_AFTER_SIX_DAYS) ≡ true) ⊎ (((if few then 0 else (if six then OFF_AFTER_SIX_DAYS else OFF_AFTER_SEVEN_DAYS)) == OFF_AFTER_SEVEN_DAYS) ≡ true))
     go true six = inl refl
     go false true = inr (inl refl)
     go false false = inr (inr refl)
@@ -93,13 +95,13 @@ days-none es home report six seven = go (days_ok es home report) (need-six_or_se
     wanting true is held none = cc
     wanting false is held none = is
 
-    go : (ok : Bool) → ((need (run_days es) == 0) ≡ true) ⊎ (((need (run_days es) == 2_880) ≡ true) ⊎ ((need (run_days es) == 4_320) ≡ true)) → days_ok es home report ≡ ok
-        → (if not ok && (need (run_days es) == 2_880) then Some (bar.SixDays (run_days es) (need (run_days es))) else None) ≡ None
-        → (if not ok && (need (run_days es) == 4_320) then Some (bar.SevenDays (run_days es) (need (run_days es))) else None) ≡ None → ok ≡ true
+    go : (ok : Bool) → ((need (run_days es) == 0) ≡ true) ⊎ (((need (run_days es) == OFF_AFTER_SIX_DAYS) ≡ true) ⊎ ((need (run_days es) == OFF_AFTER_SEVEN_DAYS) ≡ true)) → days_ok es home report ≡ ok
+        → (if not ok && (need (run_days es) == OFF_AFTER_SIX_DAYS) then Some (bar.SixDays (run_days es) (need (run_days es))) else None) ≡ None
+        → (if not ok && (need (run_days es) == OFF_AFTER_SEVEN_DAYS) then Some (bar.SevenDays (run_days es) (need (run_days es))) else None) ≡ None → ok ≡ true
     go true which is six seven = refl
     go false (inl zero) is six seven = sym is ∙ (days_ok-decides es home report).1 (inl ((Decides-eqb (need (run_days es)) 0).0 zero))
-    go false (inr (inl need_six)) is six seven = wanting (need (run_days es) == 2_880) need_six _ six
-    go false (inr (inr need_seven)) is six seven = wanting (need (run_days es) == 4_320) need_seven _ seven
+    go false (inr (inl need_six)) is six seven = wanting (need (run_days es) == OFF_AFTER_SIX_DAYS) need_six _ six
+    go false (inr (inr need_seven)) is six seven = wanting (need (run_days es) == OFF_AFTER_SEVEN_DAYS) need_seven _ seven
 
 days-kept : (es : List Event) (home : List ℕ) (report : ℕ) → days_ok es home report ≡ true → (six_days_row es home report ≡ None) × (seven_days_row es home report ≡ None)
 days-kept es home report ok = (rw ok refl, rw ok refl)

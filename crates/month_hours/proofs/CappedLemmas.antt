@@ -2,6 +2,7 @@
 use Rattle.std.proofs.Common.{◌≡◌, ℕ, ◌+◌, ◌-◌, ◌<◌, ◌≤◌, ◌^◌, inl, inr, Bool, true, false, cond, ◌&&◌, ◌||◌, nat_le, min, Option, None, Some, List, [], ◌∷◌, ◌++◌, take, length, get_or, refl, sym, subst, ap, ◌∙◌, arith}
 use Rattle.std.proofs.Math.Bool.{or-false}
 use Rattle.std.proofs.lemmas.Bool.{cases_lt, and_left, and_right, le-leb, lt-leb}
+use Rattle.duty_events.specs.declared.limits.TheConstants.{DUTY_LIMIT}
 use Rattle.duty_events.specs.declared.event.Event.{Event}
 use Rattle.duty_events.specs.declared.minute_kind.MinuteKind.{MinuteKind}
 use Rattle.duty_events.specs.declared.minute_kind.MinuteKind.TheVariants as minute
@@ -22,15 +23,15 @@ use Rattle.month_hours.specs.Steps.{capped_between, sum_after}
 -- the capped minutes between the last event and one more
 abbrev capped_from : Option Event → Event → ℕ → ℕ → Bool
 capped_from None e sum t = false
-capped_from (Some p) e sum t = is_within (last_minute p + (720 - sum)) (first_minute e) t && is_limbo (between p e)
+capped_from (Some p) e sum t = is_within (last_minute p + (DUTY_LIMIT - sum)) (first_minute e) t && is_limbo (between p e)
 
 capped_from-before : (o : Option Event) (e : Event) (sum t : ℕ) → t < reached o → capped_from o e sum t ≡ false
 capped_from-before None e sum t before = refl
-capped_from-before (Some p) e sum t before = and_left _ _ (is_within-before (last_minute p + (720 - sum)) (first_minute e) t (omega (arith, before)))
+capped_from-before (Some p) e sum t before = and_left _ _ (is_within-before (last_minute p + (DUTY_LIMIT - sum)) (first_minute e) t (omega (arith, before)))
 
 capped_from-behind : (o : Option Event) (e : Event) (sum t : ℕ) → first_minute e ≤ t → capped_from o e sum t ≡ false
 capped_from-behind None e sum t behind = refl
-capped_from-behind (Some p) e sum t behind = and_left _ _ (is_within-behind (last_minute p + (720 - sum)) (first_minute e) t behind)
+capped_from-behind (Some p) e sum t behind = and_left _ _ (is_within-behind (last_minute p + (DUTY_LIMIT - sum)) (first_minute e) t behind)
 
 -- from a list's latest minute on none is capped
 capped-late : (es : List Event) → IsLawful es → (t : ℕ) → reached (last_event es) ≤ t → is_capped es t ≡ false
@@ -46,23 +47,23 @@ unfolding is_capped
 capped-behind es e lawful next t behind = and_left _ _ (asks-behind is_limbo (refl, refl) refl es e lawful next t behind)
 
 -- a minute between two events of a limbo that starts with so many minutes summed
-passes_720 : (sum from to t : ℕ) → from ≤ t → t < to → nat_le 720 (sum + (min to t - from)) ≡ is_within (from + (720 - sum)) to t
-passes_720 sum from to t low high = elim (cases_lt t (from + (720 - sum))) [
-  | inl early ↦ lt-leb 720 (sum + (min to t - from)) (omega (arith, low, high, early)) ∙ sym (is_within-before (from + (720 - sum)) to t early)
-  | inr late ↦ le-leb 720 (sum + (min to t - from)) (omega (arith, low, high, late)) ∙ sym (is_within-in (from + (720 - sum)) to t late high)
+passes_720 : (sum from to t : ℕ) → from ≤ t → t < to → nat_le DUTY_LIMIT (sum + (min to t - from)) ≡ is_within (from + (DUTY_LIMIT - sum)) to t
+passes_720 sum from to t low high = elim (cases_lt t (from + (DUTY_LIMIT - sum))) [
+  | inl early ↦ lt-leb DUTY_LIMIT (sum + (min to t - from)) (omega (arith, low, high, early)) ∙ sym (is_within-before (from + (DUTY_LIMIT - sum)) to t early)
+  | inr late ↦ le-leb DUTY_LIMIT (sum + (min to t - from)) (omega (arith, low, high, late)) ∙ sym (is_within-in (from + (DUTY_LIMIT - sum)) to t late high)
 ]
 
 capped_kind : (k : MinuteKind) (sum from to t : ℕ) → from ≤ t → t < to
-    → (is_limbo k && nat_le 720 (sum + cond (is_in_tour k) (min to t - from) 0)) ≡ (is_within (from + (720 - sum)) to t && is_limbo k)
-capped_kind minute.Limbo sum from to t low high = passes_720 sum from to t low high ∙ sym (and-true (is_within (from + (720 - sum)) to t))
+    → (is_limbo k && nat_le DUTY_LIMIT (sum + cond (is_in_tour k) (min to t - from) 0)) ≡ (is_within (from + (DUTY_LIMIT - sum)) to t && is_limbo k)
+capped_kind minute.Limbo sum from to t low high = passes_720 sum from to t low high ∙ sym (and-true (is_within (from + (DUTY_LIMIT - sum)) to t))
   where
     and-true : (b : Bool) → (b && true) ≡ b
     and-true true = refl
     and-true false = refl
-capped_kind minute.OnDuty sum from to t low high = sym (and_right (is_within (from + (720 - sum)) to t) false refl)
-capped_kind minute.Other sum from to t low high = sym (and_right (is_within (from + (720 - sum)) to t) false refl)
-capped_kind minute.Off sum from to t low high = sym (and_right (is_within (from + (720 - sum)) to t) false refl)
-capped_kind minute.Open sum from to t low high = sym (and_right (is_within (from + (720 - sum)) to t) false refl)
+capped_kind minute.OnDuty sum from to t low high = sym (and_right (is_within (from + (DUTY_LIMIT - sum)) to t) false refl)
+capped_kind minute.Other sum from to t low high = sym (and_right (is_within (from + (DUTY_LIMIT - sum)) to t) false refl)
+capped_kind minute.Off sum from to t low high = sym (and_right (is_within (from + (DUTY_LIMIT - sum)) to t) false refl)
+capped_kind minute.Open sum from to t low high = sym (and_right (is_within (from + (DUTY_LIMIT - sum)) to t) false refl)
 
 capped-middle : (es : List Event) (e : Event) → IsLawful es → IsNext es e → (o : Option Event) → last_event es ≡ o → (t : ℕ) → reached o ≤ t → t < first_minute e
     → is_capped (es ++ e ∷ []) t ≡ capped_from o e (tour_sum es) t
@@ -95,7 +96,7 @@ apart es e lawful t = elim (cases_lt t (reached (last_event es))) [
 
 count-from : (o : Option Event) (e : Event) (sum x n : ℕ) → minutes_where (capped_from o e sum) x n ≡ capped_between o e sum x n
 count-from None e sum x n = minutes_where-never x n
-count-from (Some p) e sum x n = minutes_where-within_if (is_limbo (between p e)) (last_minute p + (720 - sum)) (first_minute e) x n
+count-from (Some p) e sum x n = minutes_where-within_if (is_limbo (between p e)) (last_minute p + (DUTY_LIMIT - sum)) (first_minute e) x n
 
 pub capped_minutes-push : (es : List Event) (e : Event) → IsLawful es → IsNext es e → (x n : ℕ)
     → capped_minutes (es ++ e ∷ []) x n ≡ capped_minutes es x n + capped_between (last_event es) e (tour_sum es) x n

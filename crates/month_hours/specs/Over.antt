@@ -2,6 +2,7 @@
 use Rattle.std.specs.Prelude.{◌≡◌, ℕ, ◌+◌, ◌-◌, ◌<◌, ◌≤◌, Bool, ◌&&◌, nat_lt, Option, None, Some, List}
 use Rattle.std.specs.Option.{option_map}
 use Rattle.std.specs.List.{find, range_with_len}
+use Rattle.month_hours.specs.declared.limit.TheConstants.{LIMBO_LIMIT, MONTH_LIMIT}
 use Rattle.desk_base.specs.Month as month
 use Rattle.desk_base.specs.Minute.{month_of}
 use Rattle.duty_events.specs.declared.event.Event.{Event}
@@ -13,10 +14,10 @@ use Rattle.month_hours.specs.Capped.{capped}
 use Rattle.month_hours.specs.Plan.{end_of, planned, planned_capped}
 use Rattle.month_hours.specs.Used.{used}
 
--- 276 hours of worked minutes (21103(a)(1)), and 30 hours of limbo behind 720 minutes of a tour (21103(c)(1))
+-- 276 hours of worked minutes (21103(a)(1)), and 30 hours of limbo behind twelve hours of a tour (21103(c)(1))
 abbrev pub most : Limit → ℕ
-most limit.Hours = 16_560
-most limit.Limbo = 1_800
+most limit.Hours = MONTH_LIMIT
+most limit.Limbo = LIMBO_LIMIT
 
 -- what the month would have with the plan
 abbrev pub total : Limit → List Event → Plan → ℕ → ℕ

@@ -10,6 +10,7 @@ mod plan;
 mod work;
 
 pub use limbo::capped;
+pub use limit::{LIMBO_LIMIT, MONTH_LIMIT};
 pub use over::Over;
 pub use passed::{over_limbo, over_month};
 pub use work::used;

@@ -10,12 +10,18 @@ use crate::work::used;
 use desk_base::{Minute, Month};
 use duty_events::Event;
 
+/// The minutes that a month may have on duty, in limbo and in other service: 276 hours, 49 USC 21103(a)(1).
+pub const MONTH_LIMIT: u32 = 16_560;
+
+/// The minutes of limbo behind twelve hours of a tour that a month may have: 30 hours, 49 USC 21103(c)(1).
+pub const LIMBO_LIMIT: u32 = 1_800;
+
 // A limit on the minutes of a month.
 #[derive(Clone, Copy)]
 pub(crate) enum Limit {
     // Of worked minutes, 49 USC 21103(a)(1).
     Hours,
-    // Of limbo behind 720 minutes of a tour, 21103(c)(1).
+    // Of limbo behind twelve hours of a tour, 21103(c)(1).
     Limbo,
 }
 
@@ -25,8 +31,8 @@ impl Limit {
         ensures { result ≡ most self.now }
     {
         match self {
-            Limit::Hours => 16_560,
-            Limit::Limbo => 1_800,
+            Limit::Hours => MONTH_LIMIT,
+            Limit::Limbo => LIMBO_LIMIT,
         }
     }
 

@@ -1,5 +1,6 @@
 -- Rest: ten hours off, longer by the excess of the last tour (21103(a)(3), (c)(4) and (e)).
 use Rattle.std.specs.Prelude.{◌≡◌, ℕ, ◌+◌, ◌<◌, ◌≤◌, ◌⊎◌, Bool, false, ◌&&◌, ◌||◌, nat_eq, nat_le, if◌then◌else◌, List}
+use Rattle.rest_rules.specs.declared.rest.TheConstants.{REST}
 use Rattle.stretches.specs.Stretch.{Stretch, has_stretch}
 use Rattle.duty_events.specs.declared.event.Event.{Event}
 use Rattle.duty_events.specs.MinuteKind.{kind_of, is_off_duty}
@@ -18,20 +19,20 @@ was_off es many to = has_stretch (is_off es) many (end_of (last_tour es)) to
 -- whether someone has rested at a minute, ten hours and so many minutes more: no minute is worked; or the last worked one
 -- is ten hours ago at least, and they were off for as long as is asked since the last tour ended
 abbrev pub rest_ok : List Event → ℕ → ℕ → Bool
-rest_ok es at more = nat_eq (off_from es) 0 || (nat_le (off_from es + 600) at && was_off es (600 + more) at)
+rest_ok es at more = nat_eq (off_from es) 0 || (nat_le (off_from es + REST) at && was_off es (REST + more) at)
 
 -- the minute at which rest ends: ten hours after the last worked minute, where the excess of the last tour was taken
 -- before; else as much later as the excess is
 abbrev pub rest_end : List Event → ℕ
 rest_end es =
     if nat_eq (off_from es) 0 then 0
-    else if was_off es (600 + excess es) (off_from es) then off_from es + 600
-    else off_from es + 600 + excess es
+    else if was_off es (REST + excess es) (off_from es) then off_from es + REST
+    else off_from es + REST + excess es
 
 -- the two cases of rest in other words
 pub record HasRested (es : List Event) (at more : ℕ) : Type 0 where
-  pub ten_hours : off_from es + 600 ≤ at
-  pub stretch : Stretch (is_off es) (600 + more) (end_of (last_tour es)) at
+  pub ten_hours : off_from es + REST ≤ at
+  pub stretch : Stretch (is_off es) (REST + more) (end_of (last_tour es)) at
 
 abbrev pub RestOk : List Event → ℕ → ℕ → Type 0
 RestOk es at more = ((t : ℕ) → works es t ≡ false) ⊎ HasRested es at more

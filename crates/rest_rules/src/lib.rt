@@ -7,7 +7,7 @@ mod rest;
 mod tour_excess;
 
 pub use off_since::off_from;
-pub use rest::{rest_end, rest_ok};
+pub use rest::{REST, rest_end, rest_ok};
 pub use tour_excess::excess;
 
 #[cfg(test)]

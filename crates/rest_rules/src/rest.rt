@@ -11,6 +11,9 @@ use desk_base::Minute;
 use duty_events::{Event, kind_behind, kind_until, last_tour};
 use stretches::Gauge;
 
+/// The minutes off that are a rest: ten hours, 49 USC 21103(a)(3).
+pub const REST: u64 = 600;
+
 /// Whether someone has rested at a minute, by a lawful list of events: no minute is worked; or the last worked one is ten
 /// hours ago at least, and they were off for ten hours and so many minutes `more` in one stretch since their last tour
 /// ended (since ever, if none has). With no minutes more it is 49 USC 21103(a)(3), with the excess (c)(4) and (e).
@@ -23,15 +26,15 @@ pub fn rest_ok(events: &[Event], at: Minute, more: u32) -> bool
     if off_from == 0 {
         return true;
     }
-    are_ten_hours(off_from, at.number()) && was_off(events, 600 + u64::from(more), at)
+    are_ten_hours(off_from, at.number()) && was_off(events, REST + u64::from(more), at)
 }
 
 // Ten hours at least lie between a minute and another.
 fn are_ten_hours(from: u64, to: u64) -> bool
     requires { from < 2 ^ 28 }
-    ensures { result ≡ nat_le (from + 600) to }
+    ensures { result ≡ nat_le (from + REST) to }
 {
-    from + 600 <= to
+    from + REST <= to
 }
 
 /// The minute at which rest ends, by a lawful list of events after which no tour runs: 0 where no minute is worked; ten
@@ -49,10 +52,10 @@ pub fn rest_end(events: &[Event]) -> Minute
         return off_from;
     }
     let excess = u64::from(excess(events));
-    if was_off(events, 600 + excess, off_from) {
-        off_from.after(600)
+    if was_off(events, REST + excess, off_from) {
+        off_from.after(REST)
     } else {
-        off_from.after(600 + excess)
+        off_from.after(REST + excess)
     }
 }
 

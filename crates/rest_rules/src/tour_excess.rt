@@ -2,7 +2,7 @@ ghost use Rattle.std.specs.Prelude.{◌≡◌, ◌≤◌};
 ghost use Rattle.duty_events.specs.Lists.{IsLawful, last_event, reached};
 ghost use Rattle.rest_rules.specs.Excess.{tour_sum, excess};
 
-use duty_events::{Asked, Event, Tour, last_tour};
+use duty_events::{Asked, DUTY_LIMIT, Event, Tour, last_tour};
 
 /// How many on-duty and limbo minutes the last tour has, of those that have ended, over twelve hours, 0 if it has no more
 /// or there is none, 49 USC 21103(c)(4). The events are a lawful list.
@@ -13,7 +13,7 @@ pub fn excess(events: &[Event]) -> u32
     ensures most { result ≤ reached (last_event events.now) }
 {
     match last_tour(events) {
-        Some(tour) => tour_sum(events, &tour).saturating_sub(720),
+        Some(tour) => tour_sum(events, &tour).saturating_sub(DUTY_LIMIT),
         None => 0,
     }
 }

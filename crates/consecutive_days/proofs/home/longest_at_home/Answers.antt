@@ -3,7 +3,7 @@ use Rattle.std.proofs.lemmas.List.{take_all}
 use Rattle.duty_events.specs.Allowed.{first_minute, last_minute}
 use Rattle.duty_events.specs.Lists.{stage_after}
 use Rattle.duty_events.proofs.ListLemmas.{stage_of-next, last_event-next, lawful-here, lawful-take}
-use Rattle.duty_events.proofs.PlaceLemmas.{place_of-nil, since-next}
+use Rattle.duty_events.proofs.PlaceLemmas.{place_of-nil}
 use Rattle.stretches.specs.Stretch.{has_stretch}
 use Rattle.stretches.specs.Gauge.{Tells}
 use Rattle.consecutive_days.specs.Days.{is_off_at_home}
@@ -15,7 +15,6 @@ loop-event-init c = record {
   tells = c.new-gauge.ensures.tells _;
   until = omega (arith, c.new-gauge.ensures.until);
   place = λ t low. place_of-nil c.args.home t;
-  since = tt;
   stage = refl;
   before = refl;
 }
@@ -37,8 +36,8 @@ loop-event-preserved c =
     let last : c.number-last.result ≡ last_minute e = c.number-last.ensures.value ∙ c.last_minute.ensures.value in
     let one : Tells (is_off_at_home (take (i + 1) es) home) c.args.from c.pass-gauge.result =
     c.pass-gauge.ensures.tells (is_off_at_home (take i es) home) (is_off_at_home (take (i + 1) es) home) c.args.from kept.tells
-    (λ t low. at_home-stays es i e home lawful within is kept.since t (omega (arith, low, kept.until)))
-    (λ t low high. at_home-until es i e home c.loop-event.place lawful within is kept.since kept.place t (omega (arith, low, high, kept.until, c.min.ensures)) (omega (arith, high, c.min.ensures, first))
+    (λ t low. at_home-stays es i e home lawful within is t (omega (arith, low, kept.until)))
+    (λ t low high. at_home-until es i e home c.loop-event.place lawful within is kept.place t (omega (arith, low, high, kept.until, c.min.ensures)) (omega (arith, high, c.min.ensures, first))
     ∙ rw (c.is_at_home.ensures, c.kind_until-kind.ensures, c.place_until-here.ensures, kept.stage, kept.before) refl) in
     let two : Tells (is_off_at_home (take (i + 1) es) home) c.args.from c.pass-gauge-in-loop-event.result =
     c.pass-gauge-in-loop-event.ensures.tells (is_off_at_home (take (i + 1) es) home) (is_off_at_home (take (i + 1) es) home) c.args.from one
@@ -46,8 +45,7 @@ loop-event-preserved c =
     (λ t low high. at_home-own es i e home lawful within is t (omega (arith, low, high, c.pass-gauge.ensures.until, c.min.ensures, c.min-in-loop-event.ensures, first)) (omega (arith, high, c.min-in-loop-event.ensures, last))) in record {
       tells = two;
       until = omega (arith, c.pass-gauge-in-loop-event.ensures.until, c.pass-gauge.ensures.until, kept.until, c.min.ensures, c.min-in-loop-event.ensures, first, last, latest, order, whole);
-      place = λ t late. place-next es i e home c.loop-event.place lawful within is kept.since kept.place t late ∙ sym c.place_behind-place.ensures;
-      since = since-next es i e lawful within is;
+      place = λ t late. place-next es i e home c.loop-event.place lawful within is kept.place t late ∙ sym c.place_behind-place.ensures;
       stage = c.after-stage.ensures ∙ ap (λ s. stage_after s e) kept.stage ∙ sym (stage_of-next es i e within is);
       before = sym (last_event-next es i e within is);
     }

@@ -15,13 +15,13 @@ loop-event-preserved c =
     let kept = c.loop-event.invariant in record {
       stage = c.after-stage.ensures ∙ ap (λ s. stage_after s e) kept.stage ∙ sym (stage_of-next es i e c.loop-event-test.true c.event-item.is);
       last = ap Some c.last_minute.ensures.value ∙ sym (ap (option_map last_minute) (last_event-next es i e c.loop-event-test.true c.event-item.is));
-      lawful = lawful-next es i e c.loop-event.stage c.loop-event.last c.loop-event-test.true c.event-item.is kept.stage kept.last kept.lawful (c.follows.ensures.0 c.if-not-follows.false);
+      lawful = lawful-next es i e c.loop-event.stage c.loop-event.last c.loop-event-test.true c.event-item.is kept.stage kept.last kept.lawful (c.may_follow.ensures.decides.0 c.if-not-may_follow.false);
     }
 
-pub returns-then-not-follows : goal.returns-then-not-follows
-returns-then-not-follows c =
+pub returns-then-not-may_follow : goal.returns-then-not-may_follow
+returns-then-not-may_follow c =
     let kept = c.loop-event.invariant in
-    let not_next = not_from_Decides c.follows.result c.follows.ensures c.if-not-follows.true in (
+    let not_next = not_from_Decides c.may_follow.result c.may_follow.ensures.decides c.if-not-may_follow.true in (
       λ no. absurd (false≢true no),
       λ lawful. absurd (lawful-not c.args.events.now c.loop-event.event-index c.event-item.result c.loop-event.stage c.loop-event.last c.loop-event-test.true c.event-item.is kept.stage kept.last not_next lawful),
     )

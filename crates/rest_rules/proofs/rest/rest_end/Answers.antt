@@ -1,5 +1,6 @@
 use Rattle.std.proofs.Common.{◌≡◌, ◌+◌, ◌<◌, sym, subst, ◌∙◌, arith}
 use Rattle.std.proofs.lemmas.Bool.Decides.{nat_tests}
+use Rattle.rest_rules.specs.declared.rest.TheConstants.{REST}
 use Rattle.duty_events.proofs.EventLemmas.{reached-years}
 use Rattle.rest_rules.specs.OffFrom.{off_from}
 use Rattle.rest_rules.specs.Excess.{excess}
@@ -30,6 +31,6 @@ returns-else-was_off-clause-law c =
     let value = c.off_from-off_from.ensures.value in
     let some : 0 < off_from es = grind (arith, nat_tests, c.if-eq.false, c.eq.ensures, value) in
     let owed = rw (c.from-excess.ensures, c.excess.ensures.value, value, c.if-was_off.false) at c.was_off.ensures in
-    let sum : off_from es + (600 + excess es) ≡ off_from es + 600 + excess es = omega arith in
+    let sum : off_from es + (REST + excess es) ≡ off_from es + REST + excess es = omega arith in
     let end : c.after-else-was_off.result ≡ rest_end es = rw (c.after-else-was_off.ensures, c.from-excess.ensures, c.excess.ensures.value, value) (sum ∙ sym (end-owed es some (sym owed))) in
     subst (EndsRest es) (sym end) (rest_end-law es c.requires.lawful c.requires.off)
