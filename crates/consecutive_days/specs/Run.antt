@@ -1,14 +1,10 @@
 -- Days in a row on which tours begin, and the time off that they need.
-use Rattle.std.specs.Prelude.{◌≡◌, ℕ, zero, suc, ◌+◌, ◌-◌, ◌<◌, ◌≤◌, ◌==◌, Bool, true, false, nat_lt, Option, None, Some, List, map, fold, if◌then◌else◌}
-use Rattle.std.specs.List.{filter, list_any}
+use Rattle.std.specs.Prelude.{◌≡◌, ℕ, zero, suc, ◌+◌, ◌-◌, ◌<◌, ◌≤◌, ◌==◌, Bool, true, false, nat_lt, Option, None, Some, List, fold, if◌then◌else◌}
+use Rattle.std.specs.List.{list_any}
 use Rattle.consecutive_days.specs.declared.run.TheConstants.{OFF_AFTER_SEVEN_DAYS, OFF_AFTER_SIX_DAYS, SIX_DAYS}
 use Rattle.desk_base.specs.Day.{day_of}
 use Rattle.duty_events.specs.declared.event.Event.{Event}
-use Rattle.duty_events.specs.MinuteKind.{marks}
-
--- the minutes at which tours begin, in order
-unfoldable pub starts : List Event → List ℕ
-starts es = map (λ m. m.at) (filter (λ m. m.begins) (marks es))
+use Rattle.duty_events.specs.Tours.{starts}
 
 -- a tour begins on the day
 unfoldable pub starts_on : List Event → ℕ → Bool

@@ -15,12 +15,12 @@ pub const OFF_AFTER_SIX_DAYS: u32 = 2_880;
 /// The minutes off at home that seven days in a row need, or more: 72 hours.
 pub const OFF_AFTER_SEVEN_DAYS: u32 = 4_320;
 
-// Days in a row that have a tour's start.
-#[derive(Clone, Copy)]
-pub(crate) struct Run {
-    // How many they are.
+/// Days in a row that have a tour's start.
+#[derive(Clone, Copy, Debug, PartialEq, Eq)]
+pub struct Run {
+    /// How many they are.
     pub days: u32,
-    // The number of the last of them, 0 if there is none.
+    /// The number of the last of them, 0 if there is none.
     pub last: u32,
 }
 
@@ -34,8 +34,8 @@ pub fn run_days(events: &[Event]) -> u32
     last_run(events).days
 }
 
-// The days in a row, to that on which the last tour began.
-pub(crate) fn last_run(events: &[Event]) -> Run
+/// The days in a row, to that on which the last tour began.
+pub fn last_run(events: &[Event]) -> Run
     requires { IsLawful events.now }
     ensures days { result.days ≡ run_days events.now }
     ensures run { IsRun (starts_on events.now) (last_start events.now) result.days }
@@ -54,8 +54,8 @@ pub(crate) fn last_run(events: &[Event]) -> Run
     Run { days, last }
 }
 
-// The day on which a tour begins with an event that comes at a stage.
-fn start_day(stage: &Stage, event: &Event) -> Option<u32>
+/// The day on which a tour begins with an event that comes at a stage.
+pub fn start_day(stage: &Stage, event: &Event) -> Option<u32>
     ensures day { result ≡ start_day stage.now event.now }
     ensures range { IfSome result (λ day. day < 186_414) }
 {
@@ -66,8 +66,8 @@ fn start_day(stage: &Stage, event: &Event) -> Option<u32>
     }
 }
 
-// How many days in a row there are where a tour begins on a day, after so many up to a last day.
-fn next_run(days: u32, last: u32, day: u32) -> u32
+/// How many days in a row there are where a tour begins on a day, after so many up to a last day.
+pub fn next_run(days: u32, last: u32, day: u32) -> u32
     requires days { days ≤ last + 1 }
     requires day { day < 186_414 }
     requires order { last ≤ day }

@@ -16,12 +16,12 @@ use Rattle.duty_events.specs.Lists.{IsNext, IsLawful, stage_after, stage_of, las
 use Rattle.duty_events.specs.MinuteKind.{Mark, mark_of, begins, last_leads, marks_of, marks_from, marks}
 use Rattle.duty_events.specs.Places.{tour_end}
 use Rattle.duty_events.specs.Tours.{tour_mark, start_at, tour_start}
-use Rattle.duty_events.specs.EndedTours.{begun, ended, last_tour}
+use Rattle.duty_events.specs.EndedTours.{begun, ended, last_tour, begun_from, last_begun}
 use Rattle.duty_events.proofs.ListLemmas.{last_event-push, lawful-induction}
-use Rattle.duty_events.proofs.EventLemmas.{follows-reached}
+use Rattle.duty_events.proofs.EventLemmas.{follows-reached, reached-years}
 use Rattle.duty_events.proofs.TourLemmas.{tour_start-early}
 use Rattle.duty_events.proofs.PlaceLemmas.{IsSince, since_of}
-use Rattle.duty_events.proofs.EndedTourLemmas.{start_from, last_begun, last_tour-nil, last_tour-push}
+use Rattle.duty_events.proofs.EndedTourLemmas.{last_tour-nil, last_tour-push}
 
 -- the last mark at which a tour begins
 abbrev last_begins : List Mark → Option Mark
@@ -43,7 +43,7 @@ minute_of-or : (a b : Option Mark) (start : Option ℕ) → option_or (minute_of
 minute_of-or None b start = refl
 minute_of-or (Some m) b start = refl
 
-marks-begun : (s : Stage) (start : Option ℕ) (es : List Event) → option_or (minute_of (last_begins (marks_from s es))) start ≡ start_from s start es
+marks-begun : (s : Stage) (start : Option ℕ) (es : List Event) → option_or (minute_of (last_begins (marks_from s es))) start ≡ begun_from s start es
 marks-begun s start [] = refl
 marks-begun s start (e ∷ es) =
     let later = marks_from (stage_after s e) es in
@@ -138,3 +138,7 @@ last_tour-minutes es tour lawful is t from to = (owns-whole es tour lawful is).1
 pub last_tour-ends : (es : List Event) (o : Option Tour) → IsLawful es → o ≡ last_tour es → IfSome o (λ tour. tour.end ≤ reached (last_event es))
 last_tour-ends es None lawful is = tt
 last_tour-ends es (Some tour) lawful is = (owns-whole es tour lawful (sym is)).0
+
+pub last_tour-range : (es : List Event) (o : Option Tour) → IsLawful es → o ≡ last_tour es → IfSome o (λ tour. tour.end < 68_374_080)
+last_tour-range es None lawful is = tt
+last_tour-range es (Some tour) lawful is = omega (arith, (owns-whole es tour lawful (sym is)).0, reached-years es lawful)

@@ -1,17 +1,18 @@
 -- Where someone is after one event more.
-use Rattle.std.proofs.Common.{◌≡◌, ℕ, ◌+◌, ◌<◌, ◌≤◌, Bool, true, false, nat_le, if◌then◌else◌, Option, None, Some, unwrap_or, IsOk, List, [], ◌∷◌, ◌++◌, reverse, fold, take, length, get_or, refl, sym, ap, ◌∙◌, append_assoc}
+use Rattle.std.proofs.Common.{◌≡◌, ℕ, ◌+◌, ◌<◌, ◌≤◌, Bool, true, false, nat_le, if◌then◌else◌, Option, None, Some, unwrap_or, IsOk, List, [], ◌∷◌, ◌++◌, reverse, fold, take, length, get_or, refl, sym, ap, ◌∙◌, arith, append_assoc}
 use Rattle.std.specs.Option.{option_map, option_to_list}
 use Rattle.std.specs.List.{find}
-use Rattle.std.proofs.lemmas.Bool.{false≢true}
+use Rattle.std.proofs.lemmas.Bool.{false≢true, le-leb, lt-leb}
 use Rattle.std.proofs.lemmas.List.{append-nil, reverse-append, take_all}
 use Rattle.duty_events.specs.declared.event.Event.{Event}
 use Rattle.duty_events.specs.declared.stage.Stage.{Stage}
 use Rattle.duty_events.specs.declared.stage.Stage.TheVariants as stage
 use Rattle.duty_events.specs.declared.end.End.{End}
 use Rattle.duty_events.specs.declared.event.Event.TheVariants as event
-use Rattle.duty_events.specs.Allowed.{last_minute, judge}
-use Rattle.duty_events.specs.Lists.{IsLawful, stage_after, stage_of, last_event, latest, reached}
-use Rattle.duty_events.specs.Places.{end_by, ends_from, place_of, place_by}
+use Rattle.duty_events.specs.Allowed.{first_minute, last_minute, judge}
+use Rattle.duty_events.specs.Lists.{IsNext, IsLawful, stage_after, stage_of, last_event, latest, reached}
+use Rattle.duty_events.specs.Places.{end_by, ends_from, place_of, place_by, place_until, place_behind}
+use Rattle.duty_events.proofs.EventLemmas.{follows-reached}
 use Rattle.duty_events.proofs.ListLemmas.{take-push, stage_of-push, last_event-push, lawful-induction}
 
 ends_from-push : (s : Stage) (es : List Event) (e : Event) → ends_from s (es ++ e ∷ []) ≡ ends_from s es ++ option_to_list (end_by (fold stage_after s es) e)
@@ -33,7 +34,7 @@ placed-push xs (Some x) home t =
     go true = refl
     go false = refl
 
-pub place_of-push : (es : List Event) (e : Event) (home : List ℕ) (t : ℕ) → place_of (es ++ e ∷ []) home t ≡ place_by (end_by (stage_of es) e) (place_of es home t) t
+place_of-push : (es : List Event) (e : Event) (home : List ℕ) (t : ℕ) → place_of (es ++ e ∷ []) home t ≡ place_by (end_by (stage_of es) e) (place_of es home t) t
 unfolding place_of
 place_of-push es e home t = ap (λ xs. placed xs home t) (ends_from-push stage.Off es e) ∙ placed-push (ends_from stage.Off es) (end_by (stage_of es) e) home t
 
@@ -71,3 +72,47 @@ since_of es lawful =
     lawful-induction (λ xs. IsSince (stage_of xs) (reached (last_event xs))) tt
     (λ old e before next was. rw (stage_of-push old e, last_event-push old e) (since-after e (stage_of old) (latest old) next.allowed))
     es lawful
+
+-- the place of an end that comes by the minute, and of one that comes later
+by-later : (at t : ℕ) (place other : List ℕ) → t < at → (if nat_le at t then place else other) ≡ other
+by-later at t place other early = rw (lt-leb at t early) refl
+
+by-then : (at t : ℕ) (place other : List ℕ) → at ≤ t → (if nat_le at t then place else other) ≡ place
+by-then at t place other late = rw (le-leb at t late) refl
+
+-- what an event makes of the place: before the latest minute it stays
+place-stays : (s : Stage) (e : Event) (m t : ℕ) (other : List ℕ) → IsSince s m → m ≤ first_minute e → first_minute e ≤ last_minute e → t < m → place_by (end_by s e) other t ≡ other
+place-stays (stage.Interim k since at) (event.Final u named) m t other is order whole early = by-later since t named other (omega (arith, is, early))
+place-stays s (event.Final u named) m t other is order whole early = by-later u t named other (omega (arith, order, early))
+place-stays s (event.Other span named) m t other is order whole early = by-later span.to t named other (omega (arith, order, whole, early))
+place-stays s e m t other is order whole early = refl
+
+-- from there to the event
+place-until : (s : Stage) (e : Event) (m t : ℕ) (other : List ℕ) → IsSince s m → first_minute e ≤ last_minute e → m ≤ t → t < first_minute e → place_by (end_by s e) other t ≡ place_until s e other
+place-until (stage.Interim k since at) (event.Final u named) m t other is whole from to = by-then since t named other (omega (arith, is, from))
+place-until s (event.Final u named) m t other is whole from to = by-later u t named other to
+place-until s (event.Other span named) m t other is whole from to = by-later span.to t named other (omega (arith, whole, to))
+place-until s e m t other is whole from to = refl
+
+-- and behind it
+place-behind : (s : Stage) (e : Event) (m t : ℕ) (other : List ℕ) → IsSince s m → m ≤ first_minute e → last_minute e ≤ t → place_by (end_by s e) other t ≡ place_behind e other
+place-behind (stage.Interim k since at) (event.Final u named) m t other is order late = by-then since t named other (omega (arith, is, order, late))
+place-behind s (event.Final u named) m t other is order late = by-then u t named other late
+place-behind s (event.Other span named) m t other is order late = by-then span.to t named other late
+place-behind s e m t other is order late = refl
+
+-- one event more, before the latest minute, from there to the event, and behind it
+pub place_of-stays : (es : List Event) (e : Event) → IsLawful es → IsNext es e → (home : List ℕ) (t : ℕ) → t < reached (last_event es) → place_of (es ++ e ∷ []) home t ≡ place_of es home t
+place_of-stays es e lawful next home t early =
+    place_of-push es e home t
+    ∙ place-stays (stage_of es) e (reached (last_event es)) t (place_of es home t) (since_of es lawful) (follows-reached (last_event es) (stage_of es) e next) next.whole early
+
+pub place_of-until : (es : List Event) (e : Event) → IsLawful es → IsNext es e → (home : List ℕ) (t : ℕ) → reached (last_event es) ≤ t → t < first_minute e
+    → place_of (es ++ e ∷ []) home t ≡ place_until (stage_of es) e (place_of es home t)
+place_of-until es e lawful next home t from to =
+    place_of-push es e home t ∙ place-until (stage_of es) e (reached (last_event es)) t (place_of es home t) (since_of es lawful) next.whole from to
+
+pub place_of-behind : (es : List Event) (e : Event) → IsLawful es → IsNext es e → (home : List ℕ) (t : ℕ) → last_minute e ≤ t → place_of (es ++ e ∷ []) home t ≡ place_behind e (place_of es home t)
+place_of-behind es e lawful next home t late =
+    place_of-push es e home t
+    ∙ place-behind (stage_of es) e (reached (last_event es)) t (place_of es home t) (since_of es lawful) (follows-reached (last_event es) (stage_of es) e next) late

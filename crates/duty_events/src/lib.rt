@@ -25,13 +25,16 @@ pub use event_fault::EventFault;
 pub use kind::Kind;
 pub use lawful::{is_lawful, may_follow};
 pub use laws::{
-    a_next_event_is_lawful, a_tour_is_one_by_events_and_by_marks,
-    each_minute_before_the_latest_has_a_kind, kinds_when_an_event_comes,
+    a_minute_that_is_not_worked_is_off, a_next_event_is_lawful,
+    a_tour_is_one_by_events_and_by_marks, counts_when_an_event_comes,
+    kinds_about_the_latest_minute, kinds_when_an_event_comes, places_when_an_event_comes,
+    sums_when_an_event_comes, the_first_events_are_lawful, tours_when_an_event_comes,
+    where_an_event_leads,
 };
 pub use limits::{DUTY_LIMIT, INTERIM_LIMIT, OFF_DUTY_INTERIM};
 pub use minute_kind::MinuteKind;
 pub use minutes::shared;
-pub use places::place;
+pub use places::{place, place_behind, place_until};
 pub use sequence::{allowed, stage_of};
 pub use spell::{between, kind_behind, kind_until};
 pub use stage::Stage;

@@ -5,6 +5,7 @@ use Rattle.std.specs.Option.{option_map}
 use Rattle.rest_rules.specs.declared.rest.TheConstants.{REST}
 use Rattle.consecutive_days.specs.declared.run.TheConstants.{OFF_AFTER_SEVEN_DAYS, OFF_AFTER_SIX_DAYS}
 use Rattle.duty_events.specs.declared.event.Event.{Event}
+use Rattle.duty_events.specs.Lists.{IsLawful}
 use Rattle.denial_rules.specs.declared.bar.Bar.{Bar}
 use Rattle.denial_rules.specs.declared.bar.Bar.TheVariants as bar
 use Rattle.denial_rules.specs.Table.{first_some}
@@ -72,6 +73,12 @@ pub record KeepsLaw (es : List Event) (home : List ℕ) (moment report duty limb
   pub days : DaysOk es home report
   pub month : KeepsHours es (plan_of report duty limbo)
   pub waiting : KeepsLimbo es (plan_of report duty limbo)
+
+-- there is no bar just where the law is kept
+abbrev pub LawInWords : Type 0
+LawInWords = (es : List Event) (home : List ℕ) (moment report duty limbo : ℕ) → IsLawful es
+    → (law_bar es home moment report duty limbo ≡ None → KeepsLaw es home moment report duty limbo)
+    × (KeepsLaw es home moment report duty limbo → law_bar es home moment report duty limbo ≡ None)
 
 -- each of the ten hours before a minute is off
 abbrev pub WasOffTenHours : List Event → ℕ → Type 0

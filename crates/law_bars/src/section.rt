@@ -7,6 +7,7 @@ ghost use Rattle.law_bars.specs.Law.{law_bar, KeepsLaw};
 
 use crate::days::days_bar;
 use crate::hours::hours_bar;
+use crate::laws::no_bar_where_the_law_is_kept;
 use crate::rest::rest_bar;
 use denial_rules::Bar;
 use desk_base::{Code, Minute};
@@ -31,6 +32,7 @@ pub fn law_bar(
     ensures free { IsNone result ↔ KeepsLaw events.now home moment report duty limbo }
     ensures range { IsInYears report → report + duty + limbo ≤ 68_374_080 → IfSome result HasItsValues }
 {
+    no_bar_where_the_law_is_kept();
     if let Some(bar) = rest_bar(events, moment, report) {
         return Some(bar);
     }

@@ -65,6 +65,13 @@ KeepsHours es p = TellsFirst limit.Hours es p None
 abbrev pub KeepsLimbo : List Event → Plan → Type 0
 KeepsLimbo es p = TellsFirst limit.Limbo es p None
 
+-- there is no first month over the limit just where none is
+abbrev pub HoursInWords : Type 0
+HoursInWords = (es : List Event) (p : Plan) → (over_month es p ≡ None → KeepsHours es p) × (KeepsHours es p → over_month es p ≡ None)
+
+abbrev pub LimboInWords : Type 0
+LimboInWords = (es : List Event) (p : Plan) → (over_limbo es p ≡ None → KeepsLimbo es p) × (KeepsLimbo es p → over_limbo es p ≡ None)
+
 -- the month is none before the report's, and none after that of the plan's last minute
 pub record IsMonthOfPlan (p : Plan) (m : ℕ) : Type 0 where
   pub from : p.report < month.first_minute (m + 1)

@@ -1,5 +1,5 @@
 -- Since when someone is off, one event more.
-use Rattle.std.proofs.Common.{◌≡◌, ℕ, zero, suc, ◌+◌, ◌-◌, ◌<◌, ◌≤◌, ◌⊎◌, Bool, true, false, cond, ◌&&◌, nat_lt, inl, inr, Option, List, [], ◌∷◌, ◌++◌, take, length, get_or, refl, sym, subst, ap, ◌∙◌, arith}
+use Rattle.std.proofs.Common.{◌≡◌, ℕ, zero, suc, ◌+◌, ◌-◌, ◌<◌, ◌≤◌, ◌⊎◌, Bool, true, false, cond, ◌&&◌, nat_lt, inl, inr, List, [], ◌∷◌, ◌++◌, take, length, get_or, refl, sym, subst, ap, ◌∙◌, arith}
 use Rattle.std.proofs.lemmas.Bool.{cases_lt, cases_eq, lt-ltb, le-ltb}
 use Rattle.std.proofs.lemmas.List.{take_all}
 use Rattle.desk_base.specs.Minute.{IsInYears}
@@ -11,7 +11,7 @@ use Rattle.duty_events.specs.Between.{kind_until}
 use Rattle.duty_events.proofs.ListLemmas.{take-push, lawful-take, lawful-here, last_event-push}
 use Rattle.duty_events.proofs.EventLemmas.{follows-reached, kind_of-stays, kind_of-until, kind_of-within}
 use Rattle.duty_events.proofs.PointLemmas.{asks-late}
-use Rattle.rest_rules.specs.OffFrom.{works, past_last, off_from, IsOffFrom, end_after}
+use Rattle.rest_rules.specs.OffFrom.{works, past_last, off_from, IsOffFrom, end_after, off_after}
 
 past_last-zero : (holds : ℕ → Bool) → past_last holds 0 ≡ 0
 unfolding past_last
@@ -120,10 +120,7 @@ pub off_from-nil : off_from [] ≡ 0
 unfolding off_from
 off_from-nil = past_last-zero (works [])
 
--- one event more: the minutes up to it count as the two events make them, and its own are other service
-abbrev pub off_after : ℕ → Option Event → Event → ℕ
-off_after end before e = end_after (end_after end (is_worked (kind_until before e)) (reached before) (first_minute e)) true (first_minute e) (last_minute e)
-
+-- one event more
 off_from-last : (es : List Event) (e : Event) → off_from (es ++ e ∷ []) ≡ past_last (works (es ++ e ∷ [])) (last_minute e)
 unfolding off_from
 off_from-last es e = ap (λ o. past_last (works (es ++ e ∷ [])) (reached o)) (last_event-push es e)

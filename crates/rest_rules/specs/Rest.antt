@@ -1,8 +1,10 @@
 -- Rest: ten hours off, longer by the excess of the last tour (21103(a)(3), (c)(4) and (e)).
 use Rattle.std.specs.Prelude.{◌≡◌, ℕ, ◌+◌, ◌<◌, ◌≤◌, ◌⊎◌, Bool, false, ◌&&◌, ◌||◌, nat_eq, nat_le, if◌then◌else◌, List}
 use Rattle.rest_rules.specs.declared.rest.TheConstants.{REST}
+use Rattle.std.specs.Bool.{Decides}
 use Rattle.stretches.specs.Stretch.{Stretch, has_stretch}
 use Rattle.duty_events.specs.declared.event.Event.{Event}
+use Rattle.duty_events.specs.Lists.{IsLawful}
 use Rattle.duty_events.specs.MinuteKind.{kind_of, is_off_duty}
 use Rattle.duty_events.specs.EndedTours.{last_tour, end_of}
 use Rattle.rest_rules.specs.OffFrom.{works, off_from}
@@ -42,3 +44,7 @@ RestOk es at more = ((t : ℕ) → works es t ≡ false) ⊎ HasRested es at mor
 pub record EndsRest (es : List Event) (end : ℕ) : Type 0 where
   pub before : (t : ℕ) → t < end → RestOk es t (excess es) → ⊥
   pub from : end_of (last_tour es) ≤ off_from es → (t : ℕ) → end ≤ t → RestOk es t (excess es)
+
+-- the test of rest tells its cases
+abbrev pub RestInWords : Type 0
+RestInWords = (es : List Event) (at more : ℕ) → IsLawful es → Decides (rest_ok es at more) (RestOk es at more)

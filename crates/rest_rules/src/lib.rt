@@ -2,10 +2,12 @@
 //! twelve hours, and whether they have rested by a minute.
 #![tactic(auto)]
 
+mod laws;
 mod off_since;
 mod rest;
 mod tour_excess;
 
+pub use laws::{off_when_an_event_comes, rest_in_words};
 pub use off_since::off_from;
 pub use rest::{REST, rest_end, rest_ok};
 pub use tour_excess::excess;

@@ -1,4 +1,4 @@
-ghost use Rattle.std.specs.Prelude.{◌≡◌, ℕ, ◌+◌, ◌<◌, ◌≤◌, ◌^◌, ◌⊎◌, nat_le};
+ghost use Rattle.std.specs.Prelude.{◌≡◌, ℕ, ◌+◌, false, ◌<◌, ◌≤◌, ◌^◌, ◌⊎◌, nat_le};
 ghost use Rattle.std.specs.Bool.{Decides};
 ghost use Rattle.stretches.specs.Stretch.{has_stretch};
 ghost use Rattle.duty_events.specs.declared.stage.Stage.TheVariants as stage;
@@ -39,13 +39,14 @@ fn are_ten_hours(from: u64, to: u64) -> bool
 
 /// The minute at which rest ends, by a lawful list of events after which no tour runs: 0 where no minute is worked; ten
 /// hours after the last worked minute, where before it ten hours and the excess were taken in one stretch since the last
-/// tour ended; else ten hours and the excess after it.
+/// tour ended; else ten hours and the excess after it. Where someone has not rested at some minute it is not 0.
 pub fn rest_end(events: &[Event]) -> Minute
     requires lawful { IsLawful events.now }
     requires off { stage_of events.now ≡ stage.Off }
     ensures value { result ≡ rest_end events.now }
     ensures law { EndsRest events.now result }
     ensures range { (result ≡ 0) ⊎ (15_778_680 ≤ result) }
+    ensures some { (at more : ℕ) → rest_ok events.now at more ≡ false → 0 < result }
 {
     let off_from = off_from(events);
     if off_from == Minute::FIRST {

@@ -1,4 +1,4 @@
-ghost use Rattle.std.specs.Prelude.{◌≡◌, ◌≤◌};
+ghost use Rattle.std.specs.Prelude.{◌≡◌, ◌<◌, ◌≤◌};
 ghost use Rattle.duty_events.specs.Lists.{IsLawful, last_event, reached};
 ghost use Rattle.rest_rules.specs.Excess.{tour_sum, excess};
 
@@ -11,6 +11,7 @@ pub fn excess(events: &[Event]) -> u32
     requires { IsLawful events.now }
     ensures value { result ≡ excess events.now }
     ensures most { result ≤ reached (last_event events.now) }
+    ensures range { result < 68_374_080 }
 {
     match last_tour(events) {
         Some(tour) => tour_sum(events, &tour).saturating_sub(DUTY_LIMIT),

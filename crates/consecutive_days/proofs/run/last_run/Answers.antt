@@ -2,7 +2,7 @@ use Rattle.std.proofs.Common.{◌≡◌, ◌+◌, Some, None, refl, sym, ap, ◌
 use Rattle.duty_events.specs.Lists.{stage_of, stage_after}
 use Rattle.duty_events.proofs.ListLemmas.{stage_of-next}
 use Rattle.consecutive_days.specs.Steps.{start_day}
-use Rattle.consecutive_days.proofs.RunLemmas.{Stands, stands-nil, stands-run, stands-order, stands-next_start, stands-next_other, stands-whole, stands-counts, stands-day, stands-is_run}
+use Rattle.consecutive_days.proofs.StartLemmas.{Stands, stands-nil, stands-run, stands-order, stands-next_start, stands-next_other, stands-whole, stands-counts, stands-day, stands-is_run}
 use Rattle.consecutive_days.proofs.run.last_run.Goals as goal
 use Rattle.consecutive_days.proofs.run.last_run.Goals.{in-Some, in_default}
 

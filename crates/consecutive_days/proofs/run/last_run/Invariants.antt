@@ -1,6 +1,6 @@
 use Rattle.std.proofs.Common.{◌≡◌, take}
 use Rattle.duty_events.specs.Lists.{stage_of}
-use Rattle.consecutive_days.proofs.RunLemmas.{Stands}
+use Rattle.consecutive_days.proofs.StartLemmas.{Stands}
 use Rattle.consecutive_days.proofs.run.last_run.Given as goal
 
 abbrev pub invariant-loop-event : goal.invariant-loop-event

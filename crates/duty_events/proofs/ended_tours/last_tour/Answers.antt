@@ -2,7 +2,7 @@ use Rattle.std.proofs.Common.{refl, sym, ap, ◌∙◌}
 use Rattle.duty_events.specs.Lists.{stage_after}
 use Rattle.duty_events.proofs.ListLemmas.{stage_of-next}
 use Rattle.duty_events.proofs.EndedTourLemmas.{last_tour-nil, last_tour-next, last_begun-next, last_tour-whole}
-use Rattle.duty_events.proofs.LastTourLemmas.{last_tour-ends}
+use Rattle.duty_events.proofs.LastTourLemmas.{last_tour-ends, last_tour-range}
 use Rattle.duty_events.proofs.ended_tours.last_tour.Goals as goal
 
 pub loop-event-init : goal.loop-event-init
@@ -24,4 +24,4 @@ loop-event-preserved c =
 pub returns : goal.returns
 returns c =
     let value = c.loop-event.invariant.last ∙ last_tour-whole c.args.events.now c.loop-event.event-index c.loop-event-test.false in
-    record { value = value; ends = λ lawful. last_tour-ends c.args.events.now c.loop-event.last lawful value }
+    record { value = value; ends = λ lawful. last_tour-ends c.args.events.now c.loop-event.last lawful value; range = λ lawful. last_tour-range c.args.events.now c.loop-event.last lawful value }
