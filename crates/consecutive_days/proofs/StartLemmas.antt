@@ -1,23 +1,21 @@
 -- The starts of tours, one event more, and the days in a row that have one.
-use Rattle.std.proofs.Common.{◌≡◌, ℕ, suc, ◌+◌, ◌<◌, ◌≤◌, ◌==◌, Bool, true, false, ◌||◌, Option, None, Some, List, [], ◌∷◌, ◌++◌, fold, take, length, get_or, refl, sym, subst, ap, ◌∙◌, arith}
+use Rattle.std.proofs.Common.{◌≡◌, ℕ, suc, ◌+◌, ◌≤◌, ◌==◌, Bool, true, false, ◌||◌, Option, None, Some, List, [], ◌∷◌, ◌++◌, fold, refl, sym, subst, ap, ◌∙◌, arith, if◌then◌else◌}
 use Rattle.std.specs.List.{list_any}
 use Rattle.std.proofs.Math.Bool.{or-false}
-use Rattle.std.proofs.lemmas.Option.{same_Some}
-use Rattle.std.proofs.lemmas.List.{append-nil, take_all}
+use Rattle.std.proofs.lemmas.List.{append-nil}
 use Rattle.std.proofs.lemmas.List.Folds.{list_any-append}
 use Rattle.std.proofs.lemmas.List.Sums.{fold_push}
 use Rattle.desk_base.specs.Day.{day_of}
 use Rattle.duty_events.specs.declared.event.Event.{Event}
-use Rattle.duty_events.specs.declared.stage.Stage.{Stage}
 use Rattle.duty_events.specs.Allowed.{first_minute, last_minute}
 use Rattle.duty_events.specs.Lists.{IsNext, IsLawful, stage_of, last_event, reached}
 use Rattle.duty_events.specs.MinuteKind.{begins}
-use Rattle.duty_events.proofs.ListLemmas.{take-push, last_event-push, lawful-here}
+use Rattle.duty_events.proofs.ListLemmas.{last_event-push, lawful-induction}
 use Rattle.duty_events.proofs.EventLemmas.{follows-reached}
 use Rattle.duty_events.specs.Tours.{starts}
 use Rattle.duty_events.proofs.TourLemmas.{starts-push}
 use Rattle.consecutive_days.specs.Run.{starts_on, last_start, run_before, run_from, run_days, IsRun}
-use Rattle.consecutive_days.specs.Steps.{last_day, start_day, next_run}
+use Rattle.consecutive_days.specs.Steps.{last_day, next_run}
 use Rattle.consecutive_days.proofs.RunLemmas.{run_before-same, run_before-most, is_run_to, Counts, also, counts-also, counts-first}
 
 -- the starts of a list, one event more
@@ -61,10 +59,10 @@ abbrev CountsTo : List Event → Option ℕ → ℕ → ℕ → Type 0
 CountsTo es None run last = CountsNone es run last
 CountsTo es (Some t) run last = CountsFrom es t run last
 
-pub record Stands (es : List Event) (run last : ℕ) : Type 0 where
+record Stands (es : List Event) (run last : ℕ) : Type 0 where
   is : CountsTo es (last_start es) run last
 
-pub stands-nil : Stands [] 0 0
+stands-nil : Stands [] 0 0
 unfolding last_start starts starts_on
 stands-nil = record { is = record { none = refl; behind = refl; each = λ d. refl } }
 
@@ -76,14 +74,6 @@ last-by es (Some t) run last first counts order = omega (arith, counts.day, coun
 run-by : (es : List Event) (o : Option ℕ) (run last : ℕ) → CountsTo es o run last → run ≤ last + 1
 run-by es None run last counts = omega (arith, counts.none)
 run-by es (Some t) run last counts = omega (arith, counts.counts.counts, run_before-most (starts_on es) (suc last))
-
-pub stands-run : (es : List Event) (run last : ℕ) → Stands es run last → run ≤ last + 1
-stands-run es run last stands = run-by es (last_start es) run last stands.is
-
-stands-last : (es : List Event) (i : ℕ) (e : Event) (run last : ℕ) → IsLawful es → i < length es → e ≡ get_or es i e → Stands (take i es) run last → last ≤ day_of (first_minute e)
-stands-last es i e run last lawful within is stands =
-    last-by (take i es) (last_start (take i es)) run last (first_minute e) stands.is
-    (follows-reached (last_event (take i es)) (stage_of (take i es)) e (lawful-here es i e lawful within is))
 
 begins-counts : (es : List Event) (e : Event) (o : Option ℕ) (run last : ℕ) → IsNext es e → begins (stage_of es) e ≡ true → CountsTo es o run last
     → Counts (starts_on (es ++ e ∷ [])) (next_run run last (day_of (first_minute e))) (day_of (first_minute e))
@@ -126,37 +116,6 @@ stands-other es e run last next is stands = record {
   is = rw (last_start-other es e is) (other-counts es e (last_start es) run last next is stands.is);
 }
 
--- the same in a loop, by whether the event gives a day
-begins-day : (s : Stage) (e : Event) (day : ℕ) → Some day ≡ start_day s e → (begins s e ≡ true) × (day ≡ day_of (first_minute e))
-begins-day s e day is = go (begins s e) refl
-  where
-    go : (b : Bool) → begins s e ≡ b → (begins s e ≡ true) × (day ≡ day_of (first_minute e))
-    go true begins = let same : Some day ≡ Some (day_of (first_minute e)) = rw begins at is in (begins, same_Some day (day_of (first_minute e)) same)
-    go false begins = let none : Some day ≡ None = rw begins at is in absurd (cc)
-
-begins-none : (s : Stage) (e : Event) → None ≡ start_day s e → begins s e ≡ false
-begins-none s e is = go (begins s e) refl
-  where
-    go : (b : Bool) → begins s e ≡ b → begins s e ≡ false
-    go true begins = let some : None ≡ Some (day_of (first_minute e)) = rw begins at is in absurd (cc)
-    go false begins = begins
-
-pub stands-order : (es : List Event) (i : ℕ) (e : Event) (run last day : ℕ) → IsLawful es → i < length es → e ≡ get_or es i e → Some day ≡ start_day (stage_of (take i es)) e
-    → Stands (take i es) run last → last ≤ day
-stands-order es i e run last day lawful within is start stands =
-    rw (begins-day (stage_of (take i es)) e day start).1 (stands-last es i e run last lawful within is stands)
-
-pub stands-next_start : (es : List Event) (i : ℕ) (e : Event) (run last day : ℕ) → IsLawful es → i < length es → e ≡ get_or es i e → Some day ≡ start_day (stage_of (take i es)) e
-    → Stands (take i es) run last → Stands (take (i + 1) es) (next_run run last day) day
-stands-next_start es i e run last day lawful within is start stands =
-    let begun = begins-day (stage_of (take i es)) e day start in
-    rw (take-push es i e within is, begun.1) (stands-begins (take i es) e run last (lawful-here es i e lawful within is) begun.0 stands)
-
-pub stands-next_other : (es : List Event) (i : ℕ) (e : Event) (run last : ℕ) → IsLawful es → i < length es → e ≡ get_or es i e → None ≡ start_day (stage_of (take i es)) e
-    → Stands (take i es) run last → Stands (take (i + 1) es) run last
-stands-next_other es i e run last lawful within is none stands =
-    rw (take-push es i e within is) (stands-other (take i es) e run last (lawful-here es i e lawful within is) (begins-none (stage_of (take i es)) e none) stands)
-
 -- in the end
 counted : (es : List Event) (o : Option ℕ) (run last : ℕ) → CountsTo es o run last → run ≡ run_from (starts_on es) o
 counted es None run last counts = counts.none
@@ -166,21 +125,64 @@ is_run : (es : List Event) (o : Option ℕ) (run last : ℕ) → CountsTo es o r
 is_run es None run last counts = refl
 is_run es (Some t) run last counts = is_run_to (starts_on es) (day_of t) (subst (λ d. starts_on es d ≡ true) counts.day counts.counts.here)
 
-pub stands-whole : (es : List Event) (i run last : ℕ) → length es ≤ i → Stands (take i es) run last → Stands es run last
-stands-whole es i run last past stands = subst (λ xs. Stands xs run last) (take_all i es past) stands
-
-pub stands-counts : (es : List Event) (run last : ℕ) → Stands es run last → run ≡ run_days es
+stands-counts : (es : List Event) (run last : ℕ) → Stands es run last → run ≡ run_days es
 unfolding run_days
 stands-counts es run last stands = counted es (last_start es) run last stands.is
-
-pub stands-is_run : (es : List Event) (run last : ℕ) → Stands es run last → IsRun (starts_on es) (last_start es) run
-stands-is_run es run last stands =
-    subst (IsRun (starts_on es) (last_start es)) (sym (counted es (last_start es) run last stands.is)) (is_run es (last_start es) run last stands.is)
 
 -- the day of the last start
 day_is : (es : List Event) (o : Option ℕ) (run last : ℕ) → CountsTo es o run last → last ≡ last_day o
 day_is es None run last counts = counts.behind
 day_is es (Some t) run last counts = counts.day
 
-pub stands-day : (es : List Event) (run last : ℕ) → Stands es run last → last ≡ last_day (last_start es)
+stands-day : (es : List Event) (run last : ℕ) → Stands es run last → last ≡ last_day (last_start es)
 stands-day es run last stands = day_is es (last_start es) run last stands.is
+
+-- a lawful list's days in a row stand so
+stands_of : (es : List Event) → IsLawful es → Stands es (run_days es) (last_day (last_start es))
+stands_of es lawful =
+    lawful-induction (λ xs. Stands xs (run_days xs) (last_day (last_start xs))) (told [] 0 0 stands-nil)
+    (λ old e before next stands. more old e next stands (begins (stage_of old) e) refl)
+    es lawful
+  where
+    told : (xs : List Event) (run last : ℕ) → Stands xs run last → Stands xs (run_days xs) (last_day (last_start xs))
+    told xs run last stands = rw (sym (stands-counts xs run last stands), sym (stands-day xs run last stands)) stands
+
+    more : (xs : List Event) (e : Event) → IsNext xs e → Stands xs (run_days xs) (last_day (last_start xs)) → (b : Bool) → begins (stage_of xs) e ≡ b
+        → Stands (xs ++ e ∷ []) (run_days (xs ++ e ∷ [])) (last_day (last_start (xs ++ e ∷ [])))
+    more xs e next stands true is = told _ _ _ (stands-begins xs e _ _ next is stands)
+    more xs e next stands false is = told _ _ _ (stands-other xs e _ _ next is stands)
+
+pub last_start-push : (es : List Event) (e : Event) → last_start (es ++ e ∷ []) ≡ (if begins (stage_of es) e then Some (first_minute e) else last_start es)
+last_start-push es e = go (begins (stage_of es) e) refl
+  where
+    go : (b : Bool) → begins (stage_of es) e ≡ b → last_start (es ++ e ∷ []) ≡ (if b then Some (first_minute e) else last_start es)
+    go true is = last_start-begins es e is
+    go false is = last_start-other es e is
+
+pub run_days-push : (es : List Event) (e : Event) → IsLawful es → IsNext es e
+    → run_days (es ++ e ∷ []) ≡ (if begins (stage_of es) e then next_run (run_days es) (last_day (last_start es)) (day_of (first_minute e)) else run_days es)
+run_days-push es e lawful next = go (begins (stage_of es) e) refl
+  where
+    go : (b : Bool) → begins (stage_of es) e ≡ b
+        → run_days (es ++ e ∷ []) ≡ (if b then next_run (run_days es) (last_day (last_start es)) (day_of (first_minute e)) else run_days es)
+    go true is = sym (stands-counts _ _ _ (stands-begins es e _ _ next is (stands_of es lawful)))
+    go false is = sym (stands-counts _ _ _ (stands-other es e _ _ next is (stands_of es lawful)))
+
+pub last_day-order : (es : List Event) (e : Event) → IsLawful es → IsNext es e → last_day (last_start es) ≤ day_of (first_minute e)
+last_day-order es e lawful next =
+    last-by es (last_start es) (run_days es) (last_day (last_start es)) (first_minute e) (stands_of es lawful).is (follows-reached (last_event es) (stage_of es) e next)
+
+pub run_days-most : (es : List Event) → IsLawful es → run_days es ≤ last_day (last_start es) + 1
+run_days-most es lawful = run-by es (last_start es) (run_days es) (last_day (last_start es)) (stands_of es lawful).is
+
+pub run_days-is : (es : List Event) → IsLawful es → IsRun (starts_on es) (last_start es) (run_days es)
+unfolding run_days
+run_days-is es lawful = is_run es (last_start es) (run_days es) (last_day (last_start es)) (stands_of es lawful).is
+
+pub last_start-nil : last_start [] ≡ None
+unfolding last_start starts
+last_start-nil = refl
+
+pub run_days-nil : run_days [] ≡ 0
+unfolding run_days
+run_days-nil = rw last_start-nil refl

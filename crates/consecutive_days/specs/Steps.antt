@@ -2,9 +2,6 @@
 use Rattle.std.specs.Prelude.{◌≡◌, ℕ, ◌+◌, ◌==◌, ◌&&◌, nat_lt, Option, None, Some, List, if◌then◌else◌}
 use Rattle.desk_base.specs.Day.{day_of}
 use Rattle.duty_events.specs.declared.event.Event.{Event}
-use Rattle.duty_events.specs.declared.stage.Stage.{Stage}
-use Rattle.duty_events.specs.Allowed.{first_minute}
-use Rattle.duty_events.specs.MinuteKind.{begins}
 use Rattle.consecutive_days.specs.declared.run.Run.{Run}
 use Rattle.consecutive_days.specs.Run.{run_days, last_start}
 
@@ -12,10 +9,6 @@ use Rattle.consecutive_days.specs.Run.{run_days, last_start}
 abbrev pub last_day : Option ℕ → ℕ
 last_day None = 0
 last_day (Some t) = day_of t
-
--- the day on which a tour begins with an event that comes at a stage
-abbrev pub start_day : Stage → Event → Option ℕ
-start_day s e = if begins s e then Some (day_of (first_minute e)) else None
 
 -- so many days in a row up to a last one, and a start on a day from then on
 abbrev pub next_run : ℕ → ℕ → ℕ → ℕ

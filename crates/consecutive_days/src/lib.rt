@@ -7,10 +7,9 @@ mod laws;
 mod run;
 
 pub use days::{are_days_ok, days_ok};
-pub use laws::days_in_words;
+pub use laws::{days_in_words, days_when_an_event_comes};
 pub use run::{
     OFF_AFTER_SEVEN_DAYS, OFF_AFTER_SIX_DAYS, Run, SIX_DAYS, last_run, need, next_run, run_days,
-    start_day,
 };
 
 #[cfg(test)]

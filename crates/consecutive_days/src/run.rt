@@ -1,7 +1,7 @@
-ghost use Rattle.std.specs.Prelude.{◌≡◌, ◌+◌, ◌<◌, ◌≤◌, IfSome};
+ghost use Rattle.std.specs.Prelude.{◌≡◌, ◌+◌, ◌<◌, ◌≤◌};
 ghost use Rattle.duty_events.specs.Lists.{IsLawful};
 ghost use Rattle.consecutive_days.specs.Run.{run_days, starts_on, last_start, IsRun, need};
-ghost use Rattle.consecutive_days.specs.Steps.{last_day, start_day, next_run};
+ghost use Rattle.consecutive_days.specs.Steps.{last_day, next_run};
 
 use desk_base::Day;
 use duty_events::{Event, Stage};
@@ -45,25 +45,14 @@ pub fn last_run(events: &[Event]) -> Run
     let mut last = 0;
     let mut stage = Stage::Off;
     for event in events {
-        if let Some(day) = start_day(&stage, event) {
+        if stage.begins(event) {
+            let day = Day::of(event.first_minute()).number();
             days = next_run(days, last, day);
             last = day;
         }
         stage = stage.after(event);
     }
     Run { days, last }
-}
-
-/// The day on which a tour begins with an event that comes at a stage.
-pub fn start_day(stage: &Stage, event: &Event) -> Option<u32>
-    ensures day { result ≡ start_day stage.now event.now }
-    ensures range { IfSome result (λ day. day < 186_414) }
-{
-    if stage.begins(event) {
-        Some(Day::of(event.first_minute()).number())
-    } else {
-        None
-    }
 }
 
 /// How many days in a row there are where a tour begins on a day, after so many up to a last day.

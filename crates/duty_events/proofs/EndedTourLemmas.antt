@@ -1,8 +1,8 @@
 -- The tours that have ended, one event more.
-use Rattle.std.proofs.Common.{◌≡◌, ℕ, ◌+◌, ◌<◌, ◌≤◌, Option, None, Some, List, [], ◌∷◌, ◌++◌, fold, take, length, get_or, refl, ap, ◌∙◌}
+use Rattle.std.proofs.Common.{◌≡◌, ℕ, Option, None, Some, List, [], ◌∷◌, ◌++◌, fold, refl, ap, ◌∙◌}
 use Rattle.std.specs.Option.{option_or}
 use Rattle.std.specs.List.{cons_option}
-use Rattle.std.proofs.lemmas.List.{append-nil, take_all}
+use Rattle.std.proofs.lemmas.List.{append-nil}
 use Rattle.std.proofs.lemmas.List.Sums.{fold_push}
 use Rattle.duty_events.specs.declared.event.Event.{Event}
 use Rattle.duty_events.specs.declared.stage.Stage.{Stage}
@@ -10,7 +10,6 @@ use Rattle.duty_events.specs.declared.stage.Stage.TheVariants as stage
 use Rattle.duty_events.specs.declared.tour.Tour.{Tour}
 use Rattle.duty_events.specs.Lists.{stage_after, stage_of}
 use Rattle.duty_events.specs.EndedTours.{begun, ended, tours_from, tours, last_of, last_tour, begun_from, last_begun}
-use Rattle.duty_events.proofs.ListLemmas.{take-push}
 
 begun_from-push : (s : Stage) (start : Option ℕ) (es : List Event) (e : Event) → begun_from s start (es ++ e ∷ []) ≡ begun (fold stage_after s es) (begun_from s start es) e
 begun_from-push s start [] e = refl
@@ -41,14 +40,3 @@ last_begun-push es e = begun_from-push stage.Off None es e
 pub last_tour-nil : last_tour [] ≡ None
 unfolding last_tour
 last_tour-nil = refl
-
-pub last_tour-next : (es : List Event) (i : ℕ) (e : Event) → i < length es → e ≡ get_or es i e
-    → last_tour (take (i + 1) es) ≡ option_or (ended (stage_of (take i es)) (last_begun (take i es)) e) (last_tour (take i es))
-last_tour-next es i e within is = ap last_tour (take-push es i e within is) ∙ last_tour-push (take i es) e
-
-pub last_begun-next : (es : List Event) (i : ℕ) (e : Event) → i < length es → e ≡ get_or es i e
-    → last_begun (take (i + 1) es) ≡ begun (stage_of (take i es)) (last_begun (take i es)) e
-last_begun-next es i e within is = ap last_begun (take-push es i e within is) ∙ last_begun-push (take i es) e
-
-pub last_tour-whole : (es : List Event) (i : ℕ) → length es ≤ i → last_tour (take i es) ≡ last_tour es
-last_tour-whole es i past = ap last_tour (take_all i es past)

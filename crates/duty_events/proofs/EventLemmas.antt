@@ -149,7 +149,7 @@ kind_of-stays es e lawful next t early =
     kind_of-push es e t ∙ stays (last_event es) (marks es) (stage_of es) e t (shape_of es lawful) (follows-reached (last_event es) (stage_of es) e next) next.whole early
 
 -- those between the list's last event and one more are what the two make of them
-pub kind_of-between : (es : List Event) (p e : Event) → IsLawful es → IsNext es e → last_event es ≡ Some p → (t : ℕ) → last_minute p ≤ t → t < first_minute e
+kind_of-between : (es : List Event) (p e : Event) → IsLawful es → IsNext es e → last_event es ≡ Some p → (t : ℕ) → last_minute p ≤ t → t < first_minute e
     → kind_of (es ++ e ∷ []) t ≡ between p e
 kind_of-between es p e lawful next last t from to =
     let shape : IsLast p (marks es) = subst (λ o. Shape o (marks es)) last (shape_of es lawful) in
@@ -158,7 +158,7 @@ kind_of-between es p e lawful next last t from to =
     ∙ kinds-between shape.earlier (last_mark shape.from p) (stage_of es) e t (are_by-later (last_minute p) t from shape.earlier shape.by) next.whole from to
 
 -- those before the first event are off
-pub kind_of-first : (es : List Event) (e : Event) → IsLawful es → IsNext es e → last_event es ≡ None → (t : ℕ) → t < first_minute e
+kind_of-first : (es : List Event) (e : Event) → IsLawful es → IsNext es e → last_event es ≡ None → (t : ℕ) → t < first_minute e
     → kind_of (es ++ e ∷ []) t ≡ minute.Off
 kind_of-first es e lawful next none t early =
     let empty : marks es ≡ [] = subst (λ o. Shape o (marks es)) none (shape_of es lawful) in

@@ -1,9 +1,9 @@
 -- Where someone is after one event more.
-use Rattle.std.proofs.Common.{◌≡◌, ℕ, ◌+◌, ◌<◌, ◌≤◌, Bool, true, false, nat_le, if◌then◌else◌, Option, None, Some, unwrap_or, IsOk, List, [], ◌∷◌, ◌++◌, reverse, fold, take, length, get_or, refl, sym, ap, ◌∙◌, arith, append_assoc}
+use Rattle.std.proofs.Common.{◌≡◌, ℕ, ◌<◌, ◌≤◌, Bool, true, false, nat_le, if◌then◌else◌, Option, None, Some, unwrap_or, IsOk, List, [], ◌∷◌, ◌++◌, reverse, fold, refl, sym, ap, ◌∙◌, arith, append_assoc}
 use Rattle.std.specs.Option.{option_map, option_to_list}
 use Rattle.std.specs.List.{find}
 use Rattle.std.proofs.lemmas.Bool.{false≢true, le-leb, lt-leb}
-use Rattle.std.proofs.lemmas.List.{append-nil, reverse-append, take_all}
+use Rattle.std.proofs.lemmas.List.{append-nil, reverse-append}
 use Rattle.duty_events.specs.declared.event.Event.{Event}
 use Rattle.duty_events.specs.declared.stage.Stage.{Stage}
 use Rattle.duty_events.specs.declared.stage.Stage.TheVariants as stage
@@ -13,7 +13,7 @@ use Rattle.duty_events.specs.Allowed.{first_minute, last_minute, judge}
 use Rattle.duty_events.specs.Lists.{IsNext, IsLawful, stage_after, stage_of, last_event, latest, reached}
 use Rattle.duty_events.specs.Places.{end_by, ends_from, place_of, place_by, place_until, place_behind}
 use Rattle.duty_events.proofs.EventLemmas.{follows-reached}
-use Rattle.duty_events.proofs.ListLemmas.{take-push, stage_of-push, last_event-push, lawful-induction}
+use Rattle.duty_events.proofs.ListLemmas.{stage_of-push, last_event-push, lawful-induction}
 
 ends_from-push : (s : Stage) (es : List Event) (e : Event) → ends_from s (es ++ e ∷ []) ≡ ends_from s es ++ option_to_list (end_by (fold stage_after s es) e)
 ends_from-push s [] e = append-nil (option_to_list (end_by s e))
@@ -34,20 +34,13 @@ placed-push xs (Some x) home t =
     go true = refl
     go false = refl
 
-place_of-push : (es : List Event) (e : Event) (home : List ℕ) (t : ℕ) → place_of (es ++ e ∷ []) home t ≡ place_by (end_by (stage_of es) e) (place_of es home t) t
+pub place_of-push : (es : List Event) (e : Event) (home : List ℕ) (t : ℕ) → place_of (es ++ e ∷ []) home t ≡ place_by (end_by (stage_of es) e) (place_of es home t) t
 unfolding place_of
 place_of-push es e home t = ap (λ xs. placed xs home t) (ends_from-push stage.Off es e) ∙ placed-push (ends_from stage.Off es) (end_by (stage_of es) e) home t
 
 pub place_of-nil : (home : List ℕ) (t : ℕ) → place_of [] home t ≡ home
 unfolding place_of
 place_of-nil home t = refl
-
-pub place_of-next : (es : List Event) (i : ℕ) (e : Event) (home : List ℕ) (t : ℕ) → i < length es → e ≡ get_or es i e
-    → place_of (take (i + 1) es) home t ≡ place_by (end_by (stage_of (take i es)) e) (place_of (take i es) home t) t
-place_of-next es i e home t within is = ap (λ xs. place_of xs home t) (take-push es i e within is) ∙ place_of-push (take i es) e home t
-
-pub place_of-whole : (es : List Event) (i : ℕ) (home : List ℕ) (t : ℕ) → length es ≤ i → place_of (take i es) home t ≡ place_of es home t
-place_of-whole es i home t past = ap (λ xs. place_of xs home t) (take_all i es past)
 
 -- an interim that has not ended began at that minute
 abbrev pub IsSince : Stage → ℕ → Type 0

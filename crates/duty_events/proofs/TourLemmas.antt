@@ -16,7 +16,7 @@ use Rattle.duty_events.specs.Tours.{is_in_tour, tour_mark, start_at, tour_start,
 use Rattle.duty_events.proofs.CountLemmas.{minutes_where-none, minutes_where-same, minutes_where-never, minutes_where-add, minutes_where-most}
 use Rattle.duty_events.proofs.MarkLemmas.{AreBy, are_by-push}
 use Rattle.duty_events.proofs.ListLemmas.{last_event-push}
-use Rattle.duty_events.proofs.EventLemmas.{last_mark, shape-by, shape_of, follows-reached, marks-push, kind_of-stays}
+use Rattle.duty_events.proofs.EventLemmas.{reached-years, last_mark, shape-by, shape_of, follows-reached, marks-push, kind_of-stays}
 use Rattle.duty_events.proofs.PointLemmas.{asks-late, count-push}
 
 are_by-reverse : (t : ℕ) (ms : List Mark) → AreBy t ms → AreBy t (reverse ms)
@@ -84,10 +84,13 @@ begun_at-next es e = ap begun_at (marks-push es e) ∙ begun_at-marks (marks es)
 pub start-reached : (es : List Event) → IsLawful es → begun_at (marks es) ≤ reached (last_event es)
 start-reached es lawful = begun_at-by (reached (last_event es)) (marks es) (shape-by (last_event es) (marks es) (reached (last_event es)) (shape_of es lawful) (omega arith))
 
-pub sum_so_far-most : (es : List Event) → sum_so_far es ≤ reached (last_event es)
+sum_so_far-most : (es : List Event) → sum_so_far es ≤ reached (last_event es)
 unfolding sum_so_far
 sum_so_far-most es =
     omega (arith, minutes_where-most (λ u. is_in_tour (kind_of es u)) (begun_at (marks es)) (reached (last_event es) - begun_at (marks es)))
+
+pub sum_so_far-range : (es : List Event) → IsLawful es → sum_so_far es < 68_374_080
+sum_so_far-range es lawful = omega (arith, sum_so_far-most es, reached-years es lawful)
 
 -- none come behind the latest minute
 none-late : (es : List Event) → IsLawful es → (x n : ℕ) → reached (last_event es) ≤ x → minutes_where (λ u. is_in_tour (kind_of es u)) x n ≡ 0

@@ -102,6 +102,7 @@ pub fn tours_when_an_event_comes()
 pub fn sums_when_an_event_comes()
     ensures sum { (es : List Event) (e : Event) → IsLawful es → IsNext es e → sum_so_far (es ++ e ∷ [])
         ≡ (if begins (stage_of es) e then 0 else sum_so_far es + tour_minutes_between (last_event es) e) }
+    ensures range { (es : List Event) → IsLawful es → sum_so_far es < 68_374_080 }
     ensures stay { (es : List Event) (e : Event) → IsLawful es → IsNext es e
         → (t : ℕ) → t < reached (last_event es) → tour_minutes (es ++ e ∷ []) t ≡ tour_minutes es t }
     ensures until { (es : List Event) (e : Event) → IsLawful es → IsNext es e

@@ -1,3 +1,2 @@
-pub mod LongestOffLemmas
 pub mod OffFromLemmas
 pub mod RestLemmas

@@ -1,4 +1,4 @@
-use Rattle.std.proofs.Common.{◌≡◌, ◌<◌, ◌^◌, take}
+use Rattle.std.proofs.Common.{◌≡◌, take}
 use Rattle.duty_events.specs.Lists.{stage_of, last_event}
 use Rattle.duty_events.specs.Tours.{sum_so_far}
 use Rattle.month_hours.specs.Capped.{capped_minutes}
@@ -8,7 +8,6 @@ abbrev pub invariant-loop-event : goal.invariant-loop-event
 invariant-loop-event l = record {
   total : l.total ≡ capped_minutes (take l.event-index l.events) l.first l.many;
   sum : l.sum ≡ sum_so_far (take l.event-index l.events);
-  small : l.sum < 2 ^ 28;
   stage : l.stage ≡ stage_of (take l.event-index l.events);
   before : l.before ≡ last_event (take l.event-index l.events);
 }
