@@ -21,7 +21,7 @@ pub fn days_when_an_event_comes()
         ≡ (if begins (stage_of es) e then Some (first_minute e) else last_start es) }
     ensures days { (es : List Event) (e : Event) → IsLawful es → IsNext es e → run_days (es ++ e ∷ [])
         ≡ (if begins (stage_of es) e
-            then next_run (run_days es) (last_day (last_start es)) (day_of (first_minute e)) else run_days es) }
+        then next_run (run_days es) (last_day (last_start es)) (day_of (first_minute e)) else run_days es) }
     ensures order { (es : List Event) (e : Event) → IsLawful es → IsNext es e
         → last_day (last_start es) ≤ day_of (first_minute e) }
     ensures most { (es : List Event) → IsLawful es → run_days es ≤ last_day (last_start es) + 1 }

@@ -1,5 +1,5 @@
 -- The month that would be over a limit with a plan, by whichever of its minutes.
-use Rattle.std.specs.Prelude.{◌≡◌, ℕ, ◌+◌, ◌-◌, ◌<◌, ◌≤◌, Bool, ◌&&◌, nat_lt, Option, None, Some, List}
+use Rattle.std.specs.Prelude.{◌≡◌, ℕ, ◌+◌, ◌-◌, ◌<◌, ◌≤◌, Bool, ◌&&◌, nat_lt, Option, None, Some, if◌then◌else◌, List}
 use Rattle.std.specs.Option.{option_map}
 use Rattle.std.specs.List.{find, range_with_len}
 use Rattle.month_hours.specs.declared.limit.TheConstants.{LIMBO_LIMIT, MONTH_LIMIT}
@@ -19,10 +19,23 @@ abbrev pub most : Limit → ℕ
 most limit.Hours = MONTH_LIMIT
 most limit.Limbo = LIMBO_LIMIT
 
+-- what counts against the limit of a month so far, and what a plan adds to it
+abbrev pub so_far : Limit → List Event → ℕ → ℕ
+so_far limit.Hours es m = used es m
+so_far limit.Limbo es m = capped es m
+
+abbrev pub added : Limit → Plan → ℕ → ℕ
+added limit.Hours p m = planned p m
+added limit.Limbo p m = planned_capped p m
+
 -- what the month would have with the plan
 abbrev pub total : Limit → List Event → Plan → ℕ → ℕ
-total limit.Hours es p m = used es m + planned p m
-total limit.Limbo es p m = capped es m + planned_capped p m
+total l es p m = so_far l es m + added l p m
+
+-- the month with that total, where it holds a minute of the plan and has passed the limit, having so many so far
+abbrev pub over_with : Limit → ℕ → Plan → ℕ → Option Over
+over_with l sum p m =
+    if nat_lt 0 (planned p m) && nat_lt (most l) (sum + added l p m) then Some (record { month = m; total = sum + added l p m }) else None
 
 -- the month holds a minute of the plan, and would be over the limit with all of them
 abbrev pub is_over : Limit → List Event → Plan → ℕ → Bool

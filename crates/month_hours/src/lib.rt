@@ -12,9 +12,10 @@ mod work;
 
 pub use laws::{hours_in_words, limbo_when_an_event_comes};
 pub use limbo::capped;
-pub use limit::{LIMBO_LIMIT, MONTH_LIMIT};
+pub use limit::{LIMBO_LIMIT, Limit, MONTH_LIMIT};
 pub use over::Over;
 pub use passed::{over_limbo, over_month};
+pub use plan::Plan;
 pub use work::used;
 
 #[cfg(test)]
