@@ -1,5 +1,5 @@
 -- A minute of the last tour that has ended belongs to it by the marks too.
-use Rattle.std.proofs.Common.{◌≡◌, ℕ, ◌<◌, ◌≤◌, Bool, true, false, cond, ◌&&◌, nat_le, if◌then◌else◌, Option, None, Some, IfSome, List, [], ◌∷◌, ◌++◌, reverse, refl, sym, subst, ap, ◌∙◌, arith}
+use Rattle.std.proofs.Common.{◌+◌, ◌-◌, ◌≡◌, ℕ, ◌<◌, ◌≤◌, Bool, true, false, cond, ◌&&◌, nat_le, if◌then◌else◌, Option, None, Some, IfSome, List, [], ◌∷◌, ◌++◌, reverse, refl, sym, subst, ap, ◌∙◌, arith}
 use Rattle.std.specs.Option.{option_or, option_map}
 use Rattle.std.specs.List.{find}
 use Rattle.std.proofs.lemmas.Bool.{le-leb}
@@ -15,12 +15,14 @@ use Rattle.duty_events.specs.Allowed.{first_minute, last_minute}
 use Rattle.duty_events.specs.Lists.{IsNext, IsLawful, stage_after, stage_of, last_event, latest, reached}
 use Rattle.duty_events.specs.MinuteKind.{Mark, mark_of, begins, last_leads, marks_of, marks_from, marks}
 use Rattle.duty_events.specs.Places.{tour_end}
-use Rattle.duty_events.specs.Tours.{tour_mark, start_at, tour_start}
+use Rattle.duty_events.specs.Tours.{tour_mark, start_at, tour_start, begun_at, sum_so_far, more_until, tour_minutes_between}
+use Rattle.duty_events.specs.declared.asked.Asked.TheVariants as asked
+use Rattle.duty_events.specs.Asked.{asked_minutes}
 use Rattle.duty_events.specs.EndedTours.{begun, ended, last_tour, begun_from, last_begun}
 use Rattle.duty_events.proofs.ListLemmas.{last_event-push, lawful-induction}
 use Rattle.duty_events.proofs.EventLemmas.{follows-reached, reached-years}
-use Rattle.duty_events.proofs.TourLemmas.{tour_start-early}
-use Rattle.duty_events.proofs.PlaceLemmas.{IsSince, since_of}
+use Rattle.duty_events.proofs.TourLemmas.{tour_start-early, sum-until, more_until-last, sum_so_far-push}
+use Rattle.duty_events.proofs.PlaceLemmas.{IsSince, since_of, BeganLast, began_last}
 use Rattle.duty_events.proofs.EndedTourLemmas.{last_tour-nil, last_tour-push}
 
 -- the last mark at which a tour begins
@@ -128,7 +130,7 @@ owns_of es lawful =
     (λ old e before next owns. rw (last_tour-push old e, last_event-push old e) (owns-push old e before next owns))
     es lawful
 
-owns-whole : (es : List Event) (tour : Tour) → IsLawful es → last_tour es ≡ Some tour → Owns (tour_start es) (reached (last_event es)) (Some tour)
+pub owns-whole : (es : List Event) (tour : Tour) → IsLawful es → last_tour es ≡ Some tour → Owns (tour_start es) (reached (last_event es)) (Some tour)
 owns-whole es tour lawful is = subst (Owns (tour_start es) (reached (last_event es))) is (owns_of es lawful)
 
 pub last_tour-minutes : (es : List Event) (tour : Tour) → IsLawful es → last_tour es ≡ Some tour → (t : ℕ) → tour.start ≤ t → t < tour.end → tour_start es t ≡ tour.start
@@ -142,3 +144,41 @@ last_tour-ends es (Some tour) lawful is = (owns-whole es tour lawful (sym is)).0
 pub last_tour-range : (es : List Event) (o : Option Tour) → IsLawful es → o ≡ last_tour es → IfSome o (λ tour. tour.end < 68_374_080)
 last_tour-range es None lawful is = tt
 last_tour-range es (Some tour) lawful is = omega (arith, (owns-whole es tour lawful (sym is)).0, reached-years es lawful)
+
+-- the tour that an event ends is the last that has begun, and what it sums up is the sum so far
+begun_at-is : (es : List Event) (start : ℕ) → last_begun es ≡ Some start → begun_at (marks es) ≡ start
+begun_at-is es start is = at (last_begins (marks es)) (marks-begun stage.Off None es ∙ is)
+  where
+    at : (o : Option Mark) → option_or (minute_of o) None ≡ Some start → start_at o ≡ start
+    at None same = cc
+    at (Some m) same = same_Some m.at start same
+
+more_until-ended : (s : Stage) (o : Option Event) (t : ℕ) (place : List ℕ) → BeganLast s o
+    → more_until o (event.Final t place) (tour_end s t) ≡ tour_minutes_between o (event.Final t place)
+more_until-ended (stage.Interim k since at) o t place is = rw is refl
+more_until-ended s o t place is = more_until-last o (event.Final t place) (omega arith)
+
+reached-end : (s : Stage) (o : Option Event) (t : ℕ) → IsSince s (reached o) → reached o ≤ t → reached o ≤ tour_end s t
+reached-end (stage.Interim k since at) o t is order = omega (arith, is)
+reached-end s o t is order = order
+
+pub ended-sum : (es : List Event) (e : Event) → IsLawful es → IsNext es e → (tour : Tour) → ended (stage_of es) (last_begun es) e ≡ Some tour
+    → asked_minutes asked.InTour (es ++ e ∷ []) tour.start (tour.end - tour.start) ≡ sum_so_far (es ++ e ∷ [])
+ended-sum es e lawful next tour is = go (last_begun es) refl e next is
+  where
+    go : (o : Option ℕ) → last_begun es ≡ o → (e : Event) → IsNext es e → ended (stage_of es) o e ≡ Some tour
+        → asked_minutes asked.InTour (es ++ e ∷ []) tour.start (tour.end - tour.start) ≡ sum_so_far (es ++ e ∷ [])
+    go None begun e next is = cc
+    go (Some start) begun (event.Final t place) next is =
+        let e = event.Final t place in
+        let o = last_event es in
+        let end = tour_end (stage_of es) t in
+        let by = reached-end (stage_of es) o t (since_of es lawful) (follows-reached o (stage_of es) e next) in
+        let here : asked_minutes asked.InTour (es ++ e ∷ []) start (end - start) ≡ sum_so_far (es ++ e ∷ []) =
+        ap (λ x. asked_minutes asked.InTour (es ++ e ∷ []) x (end - x)) (sym (begun_at-is es start begun))
+        ∙ sum-until es e lawful next end by
+        ∙ ap (λ n. sum_so_far es + n) (more_until-ended (stage_of es) o t place (began_last es lawful))
+        ∙ sym (sum_so_far-push es e lawful next) in
+        let same : record { start = start; end = end; place = place } ≡ tour = same_Some _ tour is in
+        subst (λ x. asked_minutes asked.InTour (es ++ e ∷ []) x.start (x.end - x.start) ≡ sum_so_far (es ++ e ∷ [])) same here
+    go (Some start) begun e next is = cc

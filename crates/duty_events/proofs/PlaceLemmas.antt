@@ -47,24 +47,36 @@ abbrev pub IsSince : Stage → ℕ → Type 0
 IsSince (stage.Interim k since at) t = since ≡ t
 IsSince s t = Unit {0}
 
+-- an interim that runs began with the last event
+abbrev pub BeganLast : Stage → Option Event → Type 0
+BeganLast (stage.Interim k since at) o = o ≡ Some (event.Interim since k at)
+BeganLast s o = Unit {0}
+
 -- so it is after an event that is allowed
-since-after : (e : Event) (s : Stage) (last : Option ℕ) → IsOk (judge s e last) → IsSince (stage_after s e) (last_minute e)
-since-after (event.Interim t k place) stage.Duty last ok = refl
-since-after (event.Interim t j place) (stage.Interim k since at) last ok = absurd (false≢true ok)
-since-after (event.Ride t) (stage.Interim k since at) last ok = absurd (false≢true ok)
-since-after (event.Duty t) (stage.Interim k since at) last ok = absurd (false≢true ok)
-since-after (event.Relieve t) (stage.Interim k since at) last ok = absurd (false≢true ok)
-since-after (event.RideHome t) (stage.Interim k since at) last ok = absurd (false≢true ok)
-since-after (event.Other span place) (stage.Interim k since at) last ok = absurd (false≢true ok)
-since-after (event.Resume t) (stage.Interim k since at) last ok = tt
-since-after (event.Final t place) (stage.Interim k since at) last ok = tt
-since-after e s last ok = tt
+began-after : (e : Event) (s : Stage) (last : Option ℕ) → IsOk (judge s e last) → BeganLast (stage_after s e) (Some e)
+began-after (event.Interim t k place) stage.Duty last ok = refl
+began-after (event.Interim t j place) (stage.Interim k since at) last ok = absurd (false≢true ok)
+began-after (event.Ride t) (stage.Interim k since at) last ok = absurd (false≢true ok)
+began-after (event.Duty t) (stage.Interim k since at) last ok = absurd (false≢true ok)
+began-after (event.Relieve t) (stage.Interim k since at) last ok = absurd (false≢true ok)
+began-after (event.RideHome t) (stage.Interim k since at) last ok = absurd (false≢true ok)
+began-after (event.Other span place) (stage.Interim k since at) last ok = absurd (false≢true ok)
+began-after (event.Resume t) (stage.Interim k since at) last ok = tt
+began-after (event.Final t place) (stage.Interim k since at) last ok = tt
+began-after e s last ok = tt
+
+pub began_last : (es : List Event) → IsLawful es → BeganLast (stage_of es) (last_event es)
+began_last es lawful =
+    lawful-induction (λ xs. BeganLast (stage_of xs) (last_event xs)) tt
+    (λ old e before next was. rw (stage_of-push old e, last_event-push old e) (began-after e (stage_of old) (latest old) next.allowed))
+    es lawful
 
 pub since_of : (es : List Event) → IsLawful es → IsSince (stage_of es) (reached (last_event es))
-since_of es lawful =
-    lawful-induction (λ xs. IsSince (stage_of xs) (reached (last_event xs))) tt
-    (λ old e before next was. rw (stage_of-push old e, last_event-push old e) (since-after e (stage_of old) (latest old) next.allowed))
-    es lawful
+since_of es lawful = go (stage_of es) (last_event es) (began_last es lawful)
+  where
+    go : (s : Stage) (o : Option Event) → BeganLast s o → IsSince s (reached o)
+    go (stage.Interim k since at) o is = ap reached (sym is)
+    go s o is = tt
 
 -- the place of an end that comes by the minute, and of one that comes later
 by-later : (at t : ℕ) (place other : List ℕ) → t < at → (if nat_le at t then place else other) ≡ other

@@ -118,7 +118,7 @@ between-until (Some p) e start t begun late = go (is_in_tour (between p e))
     go true = omega (arith, begun, late)
     go false = refl
 
-sum-until : (es : List Event) (e : Event) → IsLawful es → IsNext es e → (t : ℕ) → reached (last_event es) ≤ t
+pub sum-until : (es : List Event) (e : Event) → IsLawful es → IsNext es e → (t : ℕ) → reached (last_event es) ≤ t
     → minutes_where (λ u. is_in_tour (kind_of (es ++ e ∷ []) u)) (begun_at (marks es)) (t - begun_at (marks es)) ≡ sum_so_far es + more_until (last_event es) e t
 sum-until es e lawful next t late =
     let start = begun_at (marks es) in
@@ -130,7 +130,7 @@ sum-until es e lawful next t late =
     )
 
 -- the sum of the last tour, one event more
-more_until-last : (o : Option Event) (e : Event) → first_minute e ≤ last_minute e → more_until o e (last_minute e) ≡ tour_minutes_between o e
+pub more_until-last : (o : Option Event) (e : Event) → first_minute e ≤ last_minute e → more_until o e (last_minute e) ≡ tour_minutes_between o e
 more_until-last None e whole = refl
 more_until-last (Some p) e whole = go (is_in_tour (between p e))
   where

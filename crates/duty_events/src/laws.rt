@@ -1,6 +1,7 @@
-ghost use Rattle.std.specs.Prelude.{◌≡◌, ◌≢◌, ℕ, ◌+◌, ◌<◌, ◌≤◌, if◌then◌else◌, true, false, Some, List, [], ◌∷◌, ◌++◌, take};
+ghost use Rattle.std.specs.Prelude.{◌≡◌, ◌≢◌, ℕ, ◌+◌, ◌-◌, ◌<◌, ◌≤◌, if◌then◌else◌, true, false, Some, List, [], ◌∷◌, ◌++◌, take};
 ghost use Rattle.std.specs.Option.{option_or};
 ghost use Rattle.duty_events.specs.declared.asked.Asked.{Asked};
+ghost use Rattle.duty_events.specs.declared.asked.Asked.TheVariants as asked;
 ghost use Rattle.duty_events.specs.declared.event.Event.{Event};
 ghost use Rattle.duty_events.specs.declared.minute_kind.MinuteKind.TheVariants.{Open, Other};
 ghost use Rattle.duty_events.specs.declared.stage.Stage.TheVariants as stage;
@@ -96,13 +97,18 @@ pub fn tours_when_an_event_comes()
         ≡ option_or (ended (stage_of es) (last_begun es) e) (last_tour es) }
 {}
 
-/// What the last tour that has begun sums up where one event more comes, and what a minute's tour does before it: a minute
+/// What the last tour that has begun sums up where one event more comes, which is what it sums up where that event ends
+/// it; and what a minute's tour does before it: a minute
 /// before the list's latest stays as it was, and one from there to the event has the sum so far before it and more. It
 /// does nothing: its clauses are the law.
 pub fn sums_when_an_event_comes()
     ensures sum { (es : List Event) (e : Event) → IsLawful es → IsNext es e → sum_so_far (es ++ e ∷ [])
         ≡ (if begins (stage_of es) e then 0 else sum_so_far es + tour_minutes_between (last_event es) e) }
     ensures range { (es : List Event) → IsLawful es → sum_so_far es < 68_374_080 }
+    ensures ended { (es : List Event) (e : Event) → IsLawful es → IsNext es e
+        → (tour : Tour) → ended (stage_of es) (last_begun es) e ≡ Some tour
+        → asked_minutes asked.InTour (es ++ e ∷ []) tour.start (tour.end - tour.start)
+        ≡ sum_so_far (es ++ e ∷ []) }
     ensures stay { (es : List Event) (e : Event) → IsLawful es → IsNext es e
         → (t : ℕ) → t < reached (last_event es) → tour_minutes (es ++ e ∷ []) t ≡ tour_minutes es t }
     ensures until { (es : List Event) (e : Event) → IsLawful es → IsNext es e
@@ -116,4 +122,10 @@ pub fn sums_when_an_event_comes()
 pub fn a_tour_is_one_by_events_and_by_marks()
     ensures { (es : List Event) (tour : Tour) → IsLawful es → last_tour es ≡ Some tour
         → (t : ℕ) → tour.start ≤ t → t < tour.end → tour_start es t ≡ tour.start }
+{}
+
+/// The last tour that has ended did so by the latest minute of a lawful list. It does nothing: its clause is the law.
+pub fn the_last_tour_ends_by_the_latest_minute()
+    ensures { (es : List Event) (tour : Tour) → IsLawful es → last_tour es ≡ Some tour
+        → tour.end ≤ reached (last_event es) }
 {}

@@ -1,2 +1,3 @@
+pub mod ExcessLemmas
 pub mod OffFromLemmas
 pub mod RestLemmas

@@ -7,7 +7,7 @@ mod off_since;
 mod rest;
 mod tour_excess;
 
-pub use laws::{off_when_an_event_comes, rest_in_words};
+pub use laws::{excess_when_an_event_comes, off_when_an_event_comes, rest_in_words};
 pub use off_since::off_from;
 pub use rest::{REST, rest_end, rest_ok};
 pub use tour_excess::excess;
