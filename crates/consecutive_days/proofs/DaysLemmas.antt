@@ -5,6 +5,7 @@ use Rattle.std.specs.Str.{bytes_eq}
 use Rattle.std.proofs.lemmas.Bool.{false≢true}
 use Rattle.std.proofs.lemmas.Bool.Decides.{Decides-eqb, Decides-not}
 use Rattle.std.proofs.lemmas.Slice.Eq.{bytes_eq-Decides}
+use Rattle.consecutive_days.specs.declared.run.TheConstants.{SIX_DAYS}
 use Rattle.desk_base.specs.Day.{day_of}
 use Rattle.duty_events.specs.declared.event.Event.{Event}
 use Rattle.duty_events.specs.declared.tour.Tour.{Tour}
@@ -21,13 +22,13 @@ enough (suc n) longest has seventh is = rw (is (omega arith)) refl
 
 -- the day of the last start is at hand where there are six
 seventh : (has_start : ℕ → Bool) (away : Bool) (o : Option ℕ) (report : ℕ)
-    → ((run_from has_start o == 6) && away && (day_of report == last_day o + 1)) ≡ ((run_from has_start o == 6) && away && is_day_after o report)
+    → ((run_from has_start o == SIX_DAYS) && away && (day_of report == last_day o + 1)) ≡ ((run_from has_start o == SIX_DAYS) && away && is_day_after o report)
 seventh has_start away None report = refl
 seventh has_start away (Some t) report = refl
 
 pub days_ok-is : (es : List Event) (home : List ℕ) (report days last longest : ℕ) → days ≡ run_days es → last ≡ last_day (last_start es)
     → ((many : ℕ) → 0 < many → nat_le many longest ≡ was_off_at_home es home many report)
-    → ((need days == 0) || nat_le (need days) longest || ((days == 6) && is_away (last_tour es) home && (day_of report == last + 1))) ≡ days_ok es home report
+    → ((need days == 0) || nat_le (need days) longest || ((days == SIX_DAYS) && is_away (last_tour es) home && (day_of report == last + 1))) ≡ days_ok es home report
 unfolding days_ok run_days
 days_ok-is es home report days last longest days_is last_is tells =
     rw (days_is, last_is, seventh (starts_on es) (is_away (last_tour es) home) (last_start es) report)
@@ -44,9 +45,9 @@ is_day_after-decides (Some start) t = Decides-eqb (day_of t) (day_of start + 1)
 
 seventh-decides : (es : List Event) (home : List ℕ) (report : ℕ) → Decides (is_seventh_from_away es home report) (IsSeventhFromAway es home report)
 seventh-decides es home report =
-    go (run_days es == 6) (is_away (last_tour es) home) (is_day_after (last_start es) report) (Decides-eqb (run_days es) 6) (is_away-decides (last_tour es) home) (is_day_after-decides (last_start es) report)
+    go (run_days es == SIX_DAYS) (is_away (last_tour es) home) (is_day_after (last_start es) report) (Decides-eqb (run_days es) SIX_DAYS) (is_away-decides (last_tour es) home) (is_day_after-decides (last_start es) report)
   where
-    go : (a b c : Bool) → Decides a (run_days es ≡ 6) → Decides b (IsAway (last_tour es) home) → Decides c (IsDayAfter (last_start es) report) → Decides (a && b && c) (IsSeventhFromAway es home report)
+    go : (a b c : Bool) → Decides a (run_days es ≡ SIX_DAYS) → Decides b (IsAway (last_tour es) home) → Decides c (IsDayAfter (last_start es) report) → Decides (a && b && c) (IsSeventhFromAway es home report)
     go true true true six away next = (λ is. record { six = six.0 refl; away = away.0 refl; next_day = next.0 refl }, λ words. refl)
     go true true false six away next = (λ is. absurd (false≢true is), λ words. next.1 words.next_day)
     go true false c six away next = (λ is. absurd (false≢true is), λ words. absurd (false≢true (away.1 words.away)))

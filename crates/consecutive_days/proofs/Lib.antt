@@ -1,3 +1,4 @@
 pub mod RunLemmas
 pub mod HomeLemmas
 pub mod DaysLemmas
+pub mod StartLemmas

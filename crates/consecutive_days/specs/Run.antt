@@ -1,13 +1,10 @@
 -- Days in a row on which tours begin, and the time off that they need.
-use Rattle.std.specs.Prelude.{◌≡◌, ℕ, zero, suc, ◌+◌, ◌-◌, ◌<◌, ◌≤◌, ◌==◌, Bool, true, false, nat_lt, Option, None, Some, List, map, fold, if◌then◌else◌}
-use Rattle.std.specs.List.{filter, list_any}
+use Rattle.std.specs.Prelude.{◌≡◌, ℕ, zero, suc, ◌+◌, ◌-◌, ◌<◌, ◌≤◌, ◌==◌, Bool, true, false, nat_lt, Option, None, Some, List, fold, if◌then◌else◌}
+use Rattle.std.specs.List.{list_any}
+use Rattle.consecutive_days.specs.declared.run.TheConstants.{OFF_AFTER_SEVEN_DAYS, OFF_AFTER_SIX_DAYS, SIX_DAYS}
 use Rattle.desk_base.specs.Day.{day_of}
 use Rattle.duty_events.specs.declared.event.Event.{Event}
-use Rattle.duty_events.specs.MinuteKind.{marks}
-
--- the minutes at which tours begin, in order
-unfoldable pub starts : List Event → List ℕ
-starts es = map (λ m. m.at) (filter (λ m. m.begins) (marks es))
+use Rattle.duty_events.specs.Tours.{starts}
 
 -- a tour begins on the day
 unfoldable pub starts_on : List Event → ℕ → Bool
@@ -44,4 +41,4 @@ IsRun has_start (Some t) many = IsRunTo has_start (day_of t) many
 
 -- how many minutes off at home so many days in a row need: 48 hours after six, 72 from seven on (21103(a)(4)(A))
 abbrev pub need : ℕ → ℕ
-need run = if nat_lt run 6 then 0 else (if run == 6 then 2_880 else 4_320)
+need run = if nat_lt run SIX_DAYS then 0 else (if run == SIX_DAYS then OFF_AFTER_SIX_DAYS else OFF_AFTER_SEVEN_DAYS)

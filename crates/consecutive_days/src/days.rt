@@ -1,12 +1,15 @@
-ghost use Rattle.std.specs.Prelude.{◌≡◌, ◌+◌, ◌==◌, ◌&&◌, ◌||◌, nat_le, Bool};
+ghost use Rattle.std.specs.Prelude.{◌≡◌, ℕ, ◌+◌, ◌==◌, ◌&&◌, ◌||◌, nat_le, Bool, List};
 ghost use Rattle.std.specs.Bool.{Decides};
 ghost use Rattle.desk_base.specs.Day.{day_of};
 ghost use Rattle.duty_events.specs.Lists.{IsLawful};
-ghost use Rattle.duty_events.specs.EndedTours.{end_of};
-ghost use Rattle.consecutive_days.specs.Days.{days_ok, DaysOk, is_away};
+ghost use Rattle.duty_events.specs.declared.event.Event.{Event};
+ghost use Rattle.duty_events.specs.EndedTours.{end_of, last_tour};
+ghost use Rattle.consecutive_days.specs.Days.{days_ok, DaysOk, is_away, TellsOffAtHome};
+ghost use Rattle.consecutive_days.specs.Run.{need};
+ghost use Rattle.consecutive_days.specs.Steps.{IsRunOf};
 
 use crate::home::{is_home, longest_at_home};
-use crate::run::{Run, last_run, need};
+use crate::run::{Run, SIX_DAYS, last_run, need};
 use desk_base::{Code, Day, Minute};
 use duty_events::{Event, Tour, last_tour};
 
@@ -22,8 +25,18 @@ pub fn days_ok(events: &[Event], home: Code, report: Minute) -> bool
     let run = last_run(events);
     let tour = last_tour(events);
     let longest = longest_at_home(events, home, end_of(&tour), report);
-    let away = is_away(&tour, home);
-    let seventh = is_seventh_from_away(run.days, away, is_day_after(&run, report));
+    are_days_ok(&run, is_away(&tour, home), longest, report)
+}
+
+/// The same by these days in a row, whether the last tour that has ended did so away from home, and the longest stretch off
+/// at home since then.
+pub fn are_days_ok(run: &Run, away: bool, longest: u64, report: Minute) -> bool
+    ensures value { result ≡ ((need run.now.days == 0) || nat_le (need run.now.days) longest
+        || ((run.now.days == SIX_DAYS) && away && (day_of report == run.now.last + 1))) }
+    ensures events { (es : List Event) (home : List ℕ) → IsRunOf run.now es → away ≡ is_away (last_tour es) home
+        → TellsOffAtHome es home report longest → result ≡ days_ok es home report }
+{
+    let seventh = is_seventh_from_away(run.days, away, is_day_after(run, report));
     is_enough(need(run.days), longest, seventh)
 }
 
@@ -57,9 +70,9 @@ fn is_day_after(run: &Run, minute: Minute) -> bool
 
 // So many days in a row are six of which the last ended away, and the report is on the next.
 fn is_seventh_from_away(days: u32, away: bool, next_day: bool) -> bool
-    ensures { result ≡ ((days == 6) && away && next_day) }
+    ensures { result ≡ ((days == SIX_DAYS) && away && next_day) }
 {
-    days == 6 && away && next_day
+    days == SIX_DAYS && away && next_day
 }
 
 // No minutes are needed, or the longest stretch has as many, or it is the seventh day from away.

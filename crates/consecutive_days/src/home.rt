@@ -4,10 +4,9 @@ ghost use Rattle.duty_events.specs.MinuteKind.{is_off_duty};
 ghost use Rattle.duty_events.specs.Lists.{IsLawful};
 ghost use Rattle.stretches.specs.Stretch.{has_stretch};
 ghost use Rattle.consecutive_days.specs.Days.{is_off_at_home};
-ghost use Rattle.consecutive_days.specs.Steps.{place_until, place_behind};
 
 use desk_base::{Code, Minute};
-use duty_events::{Event, MinuteKind, Stage, kind_behind, kind_until};
+use duty_events::{Event, MinuteKind, Stage, kind_behind, kind_until, place_behind, place_until};
 use stretches::Gauge;
 
 /// How many minutes the longest stretch has in which the person is off and at home, from one minute on and before
@@ -49,24 +48,4 @@ pub(crate) fn is_home(place: Code, home: Code) -> bool
     ensures { result ≡ bytes_eq place home }
 {
     place == home
-}
-
-// Where the person is before an event that comes at a stage, who was at a place before.
-fn place_until(stage: &Stage, event: &Event, place: Code) -> Code
-    ensures { result ≡ place_until stage.now event.now place }
-{
-    match (stage, event) {
-        (Stage::Interim { .. }, Event::Final(_, named)) => *named,
-        _ => place,
-    }
-}
-
-// Where the person is behind an event, who was at a place before.
-fn place_behind(event: &Event, place: Code) -> Code
-    ensures { result ≡ place_behind event.now place }
-{
-    match event {
-        Event::Final(_, named) | Event::Other(_, named) => *named,
-        _ => place,
-    }
 }

@@ -3,10 +3,14 @@
 
 mod days;
 mod home;
+mod laws;
 mod run;
 
-pub use days::days_ok;
-pub use run::{need, run_days};
+pub use days::{are_days_ok, days_ok};
+pub use laws::{days_in_words, days_when_an_event_comes};
+pub use run::{
+    OFF_AFTER_SEVEN_DAYS, OFF_AFTER_SIX_DAYS, Run, SIX_DAYS, last_run, need, next_run, run_days,
+};
 
 #[cfg(test)]
 mod tests;

@@ -1,17 +1,26 @@
-ghost use Rattle.std.specs.Prelude.{◌≡◌, ◌+◌, ◌<◌, ◌≤◌, IfSome};
+ghost use Rattle.std.specs.Prelude.{◌≡◌, ◌+◌, ◌<◌, ◌≤◌};
 ghost use Rattle.duty_events.specs.Lists.{IsLawful};
 ghost use Rattle.consecutive_days.specs.Run.{run_days, starts_on, last_start, IsRun, need};
-ghost use Rattle.consecutive_days.specs.Steps.{last_day, start_day, next_run};
+ghost use Rattle.consecutive_days.specs.Steps.{last_day, next_run};
 
 use desk_base::Day;
 use duty_events::{Event, Stage};
 
-// Days in a row that have a tour's start.
-#[derive(Clone, Copy)]
-pub(crate) struct Run {
-    // How many they are.
+/// So many days in a row on which tours begin need time off, 49 USC 21103(a)(4)(A).
+pub const SIX_DAYS: u32 = 6;
+
+/// The minutes off at home that six days in a row need: 48 hours.
+pub const OFF_AFTER_SIX_DAYS: u32 = 2_880;
+
+/// The minutes off at home that seven days in a row need, or more: 72 hours.
+pub const OFF_AFTER_SEVEN_DAYS: u32 = 4_320;
+
+/// Days in a row that have a tour's start.
+#[derive(Clone, Copy, Debug, PartialEq, Eq)]
+pub struct Run {
+    /// How many they are.
     pub days: u32,
-    // The number of the last of them, 0 if there is none.
+    /// The number of the last of them, 0 if there is none.
     pub last: u32,
 }
 
@@ -25,8 +34,8 @@ pub fn run_days(events: &[Event]) -> u32
     last_run(events).days
 }
 
-// The days in a row, to that on which the last tour began.
-pub(crate) fn last_run(events: &[Event]) -> Run
+/// The days in a row, to that on which the last tour began.
+pub fn last_run(events: &[Event]) -> Run
     requires { IsLawful events.now }
     ensures days { result.days ≡ run_days events.now }
     ensures run { IsRun (starts_on events.now) (last_start events.now) result.days }
@@ -36,7 +45,8 @@ pub(crate) fn last_run(events: &[Event]) -> Run
     let mut last = 0;
     let mut stage = Stage::Off;
     for event in events {
-        if let Some(day) = start_day(&stage, event) {
+        if stage.begins(event) {
+            let day = Day::of(event.first_minute()).number();
             days = next_run(days, last, day);
             last = day;
         }
@@ -45,20 +55,8 @@ pub(crate) fn last_run(events: &[Event]) -> Run
     Run { days, last }
 }
 
-// The day on which a tour begins with an event that comes at a stage.
-fn start_day(stage: &Stage, event: &Event) -> Option<u32>
-    ensures day { result ≡ start_day stage.now event.now }
-    ensures range { IfSome result (λ day. day < 186_414) }
-{
-    if stage.begins(event) {
-        Some(Day::of(event.first_minute()).number())
-    } else {
-        None
-    }
-}
-
-// How many days in a row there are where a tour begins on a day, after so many up to a last day.
-fn next_run(days: u32, last: u32, day: u32) -> u32
+/// How many days in a row there are where a tour begins on a day, after so many up to a last day.
+pub fn next_run(days: u32, last: u32, day: u32) -> u32
     requires days { days ≤ last + 1 }
     requires day { day < 186_414 }
     requires order { last ≤ day }
@@ -78,9 +76,11 @@ fn next_run(days: u32, last: u32, day: u32) -> u32
 pub fn need(run: u32) -> u32
     ensures { result ≡ need run }
 {
-    match run {
-        0..=5 => 0,
-        6 => 2_880,
-        _ => 4_320,
+    if run < SIX_DAYS {
+        0
+    } else if run == SIX_DAYS {
+        OFF_AFTER_SIX_DAYS
+    } else {
+        OFF_AFTER_SEVEN_DAYS
     }
 }

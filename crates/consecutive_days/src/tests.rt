@@ -1,5 +1,5 @@
 //! Tables worked by hand: days in a row, and reports after them.
-use crate::{days_ok, need, run_days};
+use crate::{are_days_ok, days_ok, last_run, need, next_run, run_days};
 use desk_base::{Code, Minute, Span};
 use duty_events::{Event, Kind, is_lawful};
 use std::alloc::Global;
@@ -172,6 +172,36 @@ fn six_days_that_end_away(rt: HostRuntime) -> Result<(), Fail> {
     ];
     assert_eq!(rt; run(&events), Some(6));
     assert_eq!(rt; wrong(&events, &reports), None);
+    Ok(())
+}
+
+// By the numbers of these days: whether the last ended away, and the minutes off at home in a row.
+fn ok_by(events: &[Event], day: u8, away: bool, longest: u64) -> Option<bool> {
+    if !is_lawful(events) {
+        return None;
+    }
+    Some(are_days_ok(&last_run(events), away, longest, march(day, 8_00)?))
+}
+
+#[test]
+fn six_days_by_numbers(rt: HostRuntime) -> Result<(), Fail> {
+    let duty = march(9, 8_00).map(Event::Duty);
+    let events = told(rt.alloc(), &FIVE, &[duty, final_at(9, 16_00, b"ALT")])?;
+    let table = [
+        (10, true, 0, true),
+        (10, false, 0, false),
+        (10, false, 2_879, false),
+        (10, false, 2_880, true),
+        (11, true, 2_879, false),
+        (11, true, 2_880, true),
+    ];
+    for (day, away, longest, wanted) in table {
+        assert_eq!(rt; ok_by(&events, day, away, longest), Some(wanted));
+    }
+    assert_eq!(rt; next_run(5, 100, 100), 5);
+    assert_eq!(rt; next_run(5, 100, 101), 6);
+    assert_eq!(rt; next_run(5, 100, 102), 1);
+    assert_eq!(rt; next_run(0, 0, 0), 1);
     Ok(())
 }
 

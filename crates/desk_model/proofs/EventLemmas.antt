@@ -15,7 +15,7 @@ use Rattle.duty_events.specs.declared.event.Event.TheVariants as event
 use Rattle.duty_events.specs.declared.stage.Stage.{Stage}
 use Rattle.duty_events.specs.declared.event_fault.EventFault.{EventFault}
 use Rattle.duty_events.specs.Allowed.{first_minute, last_minute, judge}
-use Rattle.duty_events.specs.Lists.{stage_of, latest, Follows, IsLawful}
+use Rattle.duty_events.specs.Lists.{stage_of, latest, may_follow, Follows, IsLawful}
 use Rattle.duty_events.proofs.ListLemmas.{lawful-push}
 use Rattle.desk_model.specs.declared.command.Cmd.{Cmd}
 use Rattle.desk_model.specs.declared.command.Cmd.TheVariants as cmd
@@ -26,7 +26,7 @@ use Rattle.desk_model.specs.Fits.{IsEvent, IsCommand}
 use Rattle.desk_model.specs.History.{History, opened, with_entry, step_of, steps, is_done, said}
 use Rattle.desk_model.specs.Register.{person_of}
 use Rattle.desk_model.specs.Offers.{on_offer}
-use Rattle.desk_model.specs.Duty.{tells, Told, told_at, told_by, events_in, may_follow, may_come, keep, told, events, is_closed}
+use Rattle.desk_model.specs.Duty.{tells, Told, told_at, told_by, events_in, may_come, keep, told, events, is_closed}
 use Rattle.desk_model.specs.EventAnswer.{judged_answer, told_answer, past_answer, unless_frozen, event_answer}
 use Rattle.desk_model.specs.Legal.{answer_to, IsNext, IsLegal}
 use Rattle.desk_model.proofs.OrderLemmas.{same_number}

@@ -1,5 +1,6 @@
 -- The texts of bars.
 use Rattle.std.specs.Prelude.{ℕ, nat_lt, if◌then◌else◌, List, [], ◌∷◌, ◌++◌, codes, decimal}
+use Rattle.desk_base.specs.declared.minute.TheConstants.{YEARS_END}
 use Rattle.desk_base.specs.Minute.{minute_text}
 use Rattle.desk_base.specs.Month.{month_text}
 use Rattle.qualifications.specs.Craft.{craft_text}
@@ -9,7 +10,7 @@ use Rattle.denial_rules.specs.Bar.{name_of}
 
 -- a minute that may lie behind the year 2099: then its number
 abbrev pub late_text : ℕ → List ℕ
-late_text minute = if nat_lt minute 68_374_080 then minute_text minute else decimal minute
+late_text minute = if nat_lt minute YEARS_END then minute_text minute else decimal minute
 
 -- what a bar keeps, behind a space: the vacancy, the place, the craft or the qualification's number; of the law's bars
 -- the minute at which a rest ends, the days in a row and the minutes off duty that they need, or the month and its total

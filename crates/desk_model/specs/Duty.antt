@@ -1,11 +1,8 @@
 -- What persons have done: their events, and where they are.
-use Rattle.std.specs.Prelude.{ℕ, Bool, ◌&&◌, nat_eq, nat_le, Option, None, Some, is_some, not, is_ok, if◌then◌else◌, List, [], ◌∷◌, ◌++◌, fold, map}
+use Rattle.std.specs.Prelude.{ℕ, Bool, nat_eq, Option, None, Some, is_some, not, if◌then◌else◌, List, [], ◌∷◌, ◌++◌, fold, map}
 use Rattle.std.specs.Option.{option_map}
-use Rattle.desk_base.specs.Minute.{is_in_years}
 use Rattle.duty_events.specs.declared.event.Event.{Event}
-use Rattle.duty_events.specs.declared.stage.Stage.{Stage}
-use Rattle.duty_events.specs.Allowed.{first_minute, last_minute, judge}
-use Rattle.duty_events.specs.Lists.{stage_of, latest}
+use Rattle.duty_events.specs.Lists.{stage_of, latest, may_follow}
 use Rattle.duty_events.specs.MinuteKind.{is_off}
 use Rattle.duty_events.specs.Places as places
 use Rattle.std.specs.List.{filter_map}
@@ -36,12 +33,8 @@ told_by p s = option_map (told_at (place_of s)) (said (tells p) s.entry)
 abbrev pub events_in : List Told → List Event
 events_in xs = map (λ x. x.event) xs
 
--- the event may follow a stage and a latest minute: it is allowed, its minutes lie in the years 2000 to 2099, and it
+-- an event is kept behind these where it may follow them: it is allowed, its minutes lie in the years 2000 to 2099, and it
 -- doesn't end before it begins
-abbrev pub may_follow : Stage → Option ℕ → Event → Bool
-may_follow s last e = is_ok (judge s e last) && is_in_years (first_minute e) && is_in_years (last_minute e) && nat_le (first_minute e) (last_minute e)
-
--- it is kept behind these where it may follow them
 abbrev pub may_come : List Event → Event → Bool
 may_come es e = may_follow (stage_of es) (latest es) e
 

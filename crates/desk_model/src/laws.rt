@@ -15,6 +15,8 @@ ghost use Rattle.desk_model.specs.NextAnswer.{next_answer};
 ghost use Rattle.desk_model.specs.Denials.{IsOpen, AreBarred, IsUnfilled, IsFirstClear, OffersRightly};
 ghost use Rattle.desk_model.specs.Legal.{IsLegal};
 
+use law_bars::{no_bar_where_the_law_is_kept, who_is_rested_was_off_ten_hours};
+
 /// The order of a board is the one list of just those who are on it by rising rank: the place of the last entry that
 /// sent each to its bottom. It does nothing: its clauses are the law.
 pub fn order_is_by_rank()
@@ -55,8 +57,11 @@ pub fn unfilled_where_all_are_barred()
 
 /// At each entry of a legal history whose reply offers a vacancy, whoever asked, it is offered to the first of its chain, as
 /// that stood before the entry, whom at the entry's moment nothing bars; and no section of the law keeps them from it, by the
-/// events that were told so far: they are off in each of the ten hours before its report, 49 USC 21103(a)(3). It does
-/// nothing: its clause is the law.
+/// events that were told so far: they are off in each of the ten hours before its report, 49 USC 21103(a)(3). It
+/// only names the laws that it rests on: its clause is the law.
 pub fn each_offer_is_right()
     ensures { (h : History) → IsLegal h → All OffersRightly (steps h) }
-{}
+{
+    no_bar_where_the_law_is_kept();
+    who_is_rested_was_off_ten_hours();
+}

@@ -6,7 +6,7 @@ use Rattle.std.proofs.lemmas.Bool.Decides.{Decides-eqb}
 use Rattle.std.proofs.lemmas.Fmt.{decimal_injective}
 use Rattle.std.proofs.lemmas.Slice.Eq.{slice_eq-Decides}
 use Rattle.desk_base.specs.Number.{IsNumber}
-use Rattle.desk_base.specs.Month.{first_day, month_text, IsMonthInYears}
+use Rattle.desk_base.specs.Month.{first_day, month_text}
 use Rattle.desk_base.specs.Span.{span_of}
 use Rattle.duty_events.specs.declared.kind.Kind.{Kind}
 use Rattle.duty_events.specs.declared.kind.Kind.TheVariants as kind
@@ -106,10 +106,10 @@ kind_text-one kind.D other e = absurd (apart (codes "D") (kind_text other) refl 
 kind_text-one kind.P other e = absurd (apart (codes "P") (kind_text other) refl e)
 kind_text-one kind.O other e = absurd (apart (codes "O") (kind_text other) refl e)
 
-pub month_text-one : (a b : ℕ) → IsMonthInYears a → IsMonthInYears b → month_text a ≡ month_text b → a ≡ b
-month_text-one a b ha hb e =
-    let s = month_text_spells (month_text b) a ha (sym e) in
-    let t = month_text_spells (month_text b) b hb refl in
+pub month_text-one : (a b : ℕ) → month_text a ≡ month_text b → a ≡ b
+month_text-one a b e =
+    let s = month_text_spells (month_text b) a (sym e) in
+    let t = month_text_spells (month_text b) b refl in
     omega (arith, s.year, s.place, t.year, t.place)
 
 pub event_fields-one : (a b : Event) → event_fields a ≡ event_fields b → a ≡ b
@@ -177,7 +177,7 @@ command_fields-one (cmd.Next v) (cmd.Next v') ha hb e = ap cmd.Next (number-one 
 command_fields-one (cmd.Next v) other ha hb e = absurd (apart (codes "next") (get_or (command_fields other) 0 []) refl (ap (λ l. get_or l 0 []) e))
 command_fields-one (cmd.Hours p m) (cmd.Hours p' m') ha hb e =
     let person = number-one p p' ha.0 hb.0 (ap (λ l. get_or l 1 []) e) in
-    let month = month_text-one m m' ha.1 hb.1 (ap (λ l. get_or l 2 []) e) in
+    let month = month_text-one m m' (ap (λ l. get_or l 2 []) e) in
     rw (person, month) refl
 command_fields-one (cmd.Hours p m) other ha hb e = absurd (apart (codes "hours") (get_or (command_fields other) 0 []) refl (ap (λ l. get_or l 0 []) e))
 command_fields-one (cmd.Explain v p) (cmd.Explain v' p') ha hb e =

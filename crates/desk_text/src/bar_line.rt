@@ -1,18 +1,16 @@
 //! Bars as texts.
 ghost use Rattle.std.specs.Prelude.{◌≡◌, ◌≤◌, ◌+◌, ◌∷◌, ◌++◌, decimal};
 ghost use Rattle.arrayvec.specs.ArrayVec.{array_vec_len};
-ghost use Rattle.desk_base.specs.Month.{IsMonthInYears, month_text};
+ghost use Rattle.desk_base.specs.Month.{month_text};
 ghost use Rattle.desk_model.specs.BarTexts.{late_text, kept_text, bar_text};
-ghost use Rattle.denial_rules.specs.Bar.{HasItsValues};
 
 use crate::line_text::{LineText, put, put_number};
 use denial_rules::{Bar, name};
-use desk_base::{Minute, Month};
+use desk_base::{Minute, Month, YEARS_END};
 
 /// Adds the text of a bar, 40 bytes at most.
 pub fn put_bar(line: &mut LineText, bar: &Bar)
-    requires form { HasItsValues bar.now }
-    requires room { array_vec_len line.old + 40 ≤ 512 }
+    requires { array_vec_len line.old + 40 ≤ 512 }
     ensures text { line.new.items ≡ line.old.items ++ bar_text bar.now }
     ensures len { array_vec_len line.new ≤ array_vec_len line.old + 40 }
 {
@@ -22,8 +20,7 @@ pub fn put_bar(line: &mut LineText, bar: &Bar)
 
 // What the bar keeps, behind a space.
 fn put_kept(line: &mut LineText, bar: &Bar)
-    requires form { HasItsValues bar.now }
-    requires room { array_vec_len line.old + 22 ≤ 512 }
+    requires { array_vec_len line.old + 22 ≤ 512 }
     ensures text { line.new.items ≡ line.old.items ++ kept_text bar.now }
     ensures len { array_vec_len line.new ≤ array_vec_len line.old + 22 }
 {
@@ -75,8 +72,7 @@ fn put_days(line: &mut LineText, run: u32, need: u32)
 
 // The month, and its total in minutes.
 fn put_total(line: &mut LineText, month: Month, total: u32)
-    requires month { IsMonthInYears month }
-    requires room { array_vec_len line.old + 19 ≤ 512 }
+    requires { array_vec_len line.old + 19 ≤ 512 }
     ensures text { line.new.items ≡ line.old.items ++ 32 ∷ month_text month ++ 32 ∷ decimal total }
     ensures len { array_vec_len line.new ≤ array_vec_len line.old + 19 }
 {
@@ -86,14 +82,13 @@ fn put_total(line: &mut LineText, month: Month, total: u32)
     put_number(line, total);
 }
 
-/// Adds a minute from the year 2000 on; one behind the year 2099 by its number.
+/// Adds a minute; one behind the year 2099 by its number.
 pub fn put_late(line: &mut LineText, minute: Minute)
-    requires from_2000 { 15_778_080 ≤ minute }
-    requires room { array_vec_len line.old + 16 ≤ 512 }
+    requires { array_vec_len line.old + 16 ≤ 512 }
     ensures text { line.new.items ≡ line.old.items ++ late_text minute }
     ensures len { array_vec_len line.new ≤ array_vec_len line.old + 16 }
 {
-    if minute.number() < 68_374_080 {
+    if minute.number() < YEARS_END {
         put(line, &minute.write());
     } else {
         put_number(line, minute.number() as u32);

@@ -1,7 +1,4 @@
 //! Records of commands are read as they are written, and nothing else is read.
-ghost use Rattle.std.specs.Prelude.{IfOk};
-ghost use Rattle.desk_base.specs.Minute.{IsInYears};
-
 use crate::{read_command, write_entry};
 use arrayvec::ArrayVec;
 use desk_base::{Minute, split_once};
@@ -17,9 +14,7 @@ fn read_record(record: &[u8]) -> Option<Stated> {
     read_command(fields.as_slice())
 }
 
-fn a_minute() -> Result<Minute, Fail>
-    ensures { IfOk result IsInYears }
-{
+fn a_minute() -> Result<Minute, Fail> {
     Ok(Minute::read(b"2024-03-04 00:02").ok_or("no minute")?)
 }
 

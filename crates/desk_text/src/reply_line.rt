@@ -2,7 +2,6 @@
 ghost use Rattle.std.specs.Prelude.{◌≡◌, ◌≤◌, ◌+◌, ◌++◌};
 ghost use Rattle.arrayvec.specs.ArrayVec.{array_vec_len};
 ghost use Rattle.desk_model.specs.ReplyTexts.{state_text, stage_text, fault_text, reply_text};
-ghost use Rattle.desk_model.specs.Fits.{StageHasItsMinute, FaultHasItsMinute, HasItsMinute};
 
 use crate::bar_line::{put_bar, put_late};
 use crate::line_text::{LineText, put, put_number};
@@ -12,8 +11,7 @@ use duty_events::{EventFault, Stage};
 
 /// Adds the text of a reply, 48 bytes at most.
 pub fn put_reply(line: &mut LineText, reply: &Reply)
-    requires form { HasItsMinute reply.now }
-    requires room { array_vec_len line.old + 48 ≤ 512 }
+    requires { array_vec_len line.old + 48 ≤ 512 }
     ensures text { line.new.items ≡ line.old.items ++ reply_text reply.now }
     ensures len { array_vec_len line.new ≤ array_vec_len line.old + 48 }
 {
@@ -101,8 +99,7 @@ pub fn put_reply(line: &mut LineText, reply: &Reply)
 
 // Why an event may not follow those before it.
 fn put_fault(line: &mut LineText, fault: &EventFault)
-    requires minute { FaultHasItsMinute fault.now }
-    requires room { array_vec_len line.old + 48 ≤ 512 }
+    requires { array_vec_len line.old + 48 ≤ 512 }
     ensures text { line.new.items ≡ line.old.items ++ fault_text fault.now }
     ensures len { array_vec_len line.new ≤ array_vec_len line.old + 48 }
 {
@@ -128,8 +125,7 @@ fn put_fault(line: &mut LineText, fault: &EventFault)
 
 // Where a person stands in a tour of duty.
 fn put_stage(line: &mut LineText, stage: &Stage)
-    requires minute { StageHasItsMinute stage.now }
-    requires room { array_vec_len line.old + 36 ≤ 512 }
+    requires { array_vec_len line.old + 36 ≤ 512 }
     ensures text { line.new.items ≡ line.old.items ++ stage_text stage.now }
     ensures len { array_vec_len line.new ≤ array_vec_len line.old + 36 }
 {

@@ -3,9 +3,6 @@ ghost use Rattle.std.specs.Prelude.{◌≡◌, ◌≤◌, ◌+◌, ◌++◌, len
 ghost use Rattle.std.specs.List.{join_with_byte};
 ghost use Rattle.arrayvec.specs.ArrayVec.{array_vec_len};
 ghost use Rattle.desk_model.specs.StatedTexts.{command_fields, stated_fields, kind_text, event_fields, job_fields};
-ghost use Rattle.desk_model.specs.Fits.{TellsYears};
-ghost use Rattle.desk_base.specs.Minute.{IsInYears};
-ghost use Rattle.duty_events.specs.Allowed.{first_minute, last_minute};
 ghost use Rattle.desk_text.specs.Marked.{marked};
 
 use crate::line_text::{LineText, put, put_field, put_number_field};
@@ -24,8 +21,7 @@ pub fn put_stated(line: &mut LineText, stated: &Stated)
 
 // Adds each field of the command behind a comma.
 fn put_command(line: &mut LineText, cmd: &Cmd)
-    requires years { TellsYears cmd.now }
-    requires room { array_vec_len line.old + 340 ≤ 512 }
+    requires { array_vec_len line.old + 340 ≤ 512 }
     ensures text { line.new.items ≡ line.old.items ++ marked (command_fields cmd.now) }
     ensures len { array_vec_len line.new ≤ array_vec_len line.old + 340 }
 {
@@ -90,9 +86,7 @@ fn put_command(line: &mut LineText, cmd: &Cmd)
 
 // Adds each field of the event behind a comma.
 fn put_event(line: &mut LineText, event: &Event)
-    requires first { IsInYears (first_minute event.now) }
-    requires last { IsInYears (last_minute event.now) }
-    requires room { array_vec_len line.old + 60 ≤ 512 }
+    requires { array_vec_len line.old + 60 ≤ 512 }
     ensures text { line.new.items ≡ line.old.items ++ marked (event_fields event.now) }
     ensures len { array_vec_len line.new ≤ array_vec_len line.old + 60 }
 {

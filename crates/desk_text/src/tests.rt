@@ -1,20 +1,15 @@
 //! Lines of entries, as the journal has them.
-ghost use Rattle.std.specs.Prelude.{◌≡◌, ◌≤◌, IfOk};
-ghost use Rattle.desk_base.specs.Minute.{IsInYears};
-ghost use Rattle.denial_rules.specs.Bar.{HasItsValues};
-ghost use Rattle.desk_model.specs.Fits.{HasItsMinute};
+ghost use Rattle.std.specs.Prelude.{◌≤◌};
 
 use crate::write_entry;
 use denial_rules::Bar;
-use desk_base::{Code, Minute, Month, PersonNo, VacNo};
+use desk_base::{Code, Minute, Month, PersonNo, VacNo, YEARS_END};
 use desk_model::{Chain, Cmd, Entry, Job, Reply, Stated};
 use duty_events::{EventFault, Kind, Stage};
 use qualifications::{Craft, Quals};
 use std::test::Fail;
 
-fn minute(text: &[u8]) -> Result<Minute, Fail>
-    ensures { IfOk result IsInYears }
-{
+fn minute(text: &[u8]) -> Result<Minute, Fail> {
     Ok(Minute::read(text).ok_or("no minute")?)
 }
 
@@ -30,8 +25,7 @@ fn next() -> Result<Cmd, Fail> {
 
 // Whether the entry of this command and reply, stated at 00:01 and taken at 00:02, has this line.
 fn line_is(caller: u8, cmd: Cmd, reply: Reply, line: &[u8]) -> Result<bool, Fail>
-    requires caller { caller ≤ 63 }
-    requires reply { HasItsMinute reply }
+    requires { caller ≤ 63 }
 {
     let stated = Stated::new(minute(b"2024-03-04 00:01")?, cmd).ok_or("not stated")?;
     let moment = minute(b"2024-03-04 00:02")?;
@@ -40,9 +34,7 @@ fn line_is(caller: u8, cmd: Cmd, reply: Reply, line: &[u8]) -> Result<bool, Fail
 }
 
 // Whether the entry of `next` and this reply has this line.
-fn reply_is(reply: Reply, line: &[u8]) -> Result<bool, Fail>
-    requires { HasItsMinute reply }
-{
+fn reply_is(reply: Reply, line: &[u8]) -> Result<bool, Fail> {
     let vac = VacNo::new(12).ok_or("no vacancy")?;
     line_is(0, Cmd::Next { vac }, reply, line)
 }
@@ -165,9 +157,7 @@ fn lines_of_refused_events(rt: HostRuntime) -> Result<(), Fail> {
 }
 
 // Whether the line of an entry that is answered by this bar ends so.
-fn denial_is(bar: Bar, text: &[u8]) -> Result<bool, Fail>
-    requires { HasItsValues bar }
-{
+fn denial_is(bar: Bar, text: &[u8]) -> Result<bool, Fail> {
     let stated = Stated::new(minute(b"2024-03-04 00:01")?, next()?).ok_or("not stated")?;
     let moment = minute(b"2024-03-04 00:02")?;
     let entry = Entry::new(0, stated, moment, Reply::Denied(bar));
@@ -198,10 +188,8 @@ fn texts_of_bars(rt: HostRuntime) -> Result<(), Fail> {
 }
 
 // The first minute behind the year 2099.
-fn late() -> Result<Minute, Fail>
-    ensures { IfOk result (λ minute. minute ≡ 68_374_080) }
-{
-    Ok(Minute::new(68_374_080).ok_or("no minute")?)
+fn late() -> Result<Minute, Fail> {
+    Ok(Minute::new(YEARS_END).ok_or("no minute")?)
 }
 
 #[test]

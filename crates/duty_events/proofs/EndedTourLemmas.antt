@@ -1,60 +1,42 @@
 -- The tours that have ended, one event more.
-use Rattle.std.proofs.Common.{◌≡◌, ℕ, ◌+◌, ◌<◌, ◌≤◌, Option, None, Some, List, [], ◌∷◌, ◌++◌, fold, take, length, get_or, refl, ap, ◌∙◌}
+use Rattle.std.proofs.Common.{◌≡◌, ℕ, Option, None, Some, List, [], ◌∷◌, ◌++◌, fold, refl, ap, ◌∙◌}
 use Rattle.std.specs.Option.{option_or}
 use Rattle.std.specs.List.{cons_option}
-use Rattle.std.proofs.lemmas.List.{append-nil, take_all}
+use Rattle.std.proofs.lemmas.List.{append-nil}
 use Rattle.std.proofs.lemmas.List.Sums.{fold_push}
 use Rattle.duty_events.specs.declared.event.Event.{Event}
 use Rattle.duty_events.specs.declared.stage.Stage.{Stage}
 use Rattle.duty_events.specs.declared.stage.Stage.TheVariants as stage
 use Rattle.duty_events.specs.declared.tour.Tour.{Tour}
 use Rattle.duty_events.specs.Lists.{stage_after, stage_of}
-use Rattle.duty_events.specs.EndedTours.{begun, ended, tours_from, tours, last_of, last_tour}
-use Rattle.duty_events.proofs.ListLemmas.{take-push}
+use Rattle.duty_events.specs.EndedTours.{begun, ended, tours_from, tours, last_of, last_tour, begun_from, last_begun}
 
--- where the last tour began after events that come from a stage on
-abbrev pub start_from : Stage → Option ℕ → List Event → Option ℕ
-start_from s start [] = start
-start_from s start (e ∷ es) = start_from (stage_after s e) (begun s start e) es
-
-start_from-push : (s : Stage) (start : Option ℕ) (es : List Event) (e : Event) → start_from s start (es ++ e ∷ []) ≡ begun (fold stage_after s es) (start_from s start es) e
-start_from-push s start [] e = refl
-start_from-push s start (x ∷ es) e = start_from-push (stage_after s x) (begun s start x) es e
+begun_from-push : (s : Stage) (start : Option ℕ) (es : List Event) (e : Event) → begun_from s start (es ++ e ∷ []) ≡ begun (fold stage_after s es) (begun_from s start es) e
+begun_from-push s start [] e = refl
+begun_from-push s start (x ∷ es) e = begun_from-push (stage_after s x) (begun s start x) es e
 
 cons_option-append : (o : Option Tour) (xs ys : List Tour) → cons_option o (xs ++ ys) ≡ cons_option o xs ++ ys
 cons_option-append None xs ys = refl
 cons_option-append (Some x) xs ys = refl
 
 tours_from-push : (s : Stage) (start : Option ℕ) (es : List Event) (e : Event)
-    → tours_from s start (es ++ e ∷ []) ≡ tours_from s start es ++ cons_option (ended (fold stage_after s es) (start_from s start es) e) []
+    → tours_from s start (es ++ e ∷ []) ≡ tours_from s start es ++ cons_option (ended (fold stage_after s es) (begun_from s start es) e) []
 tours_from-push s start [] e = refl
 tours_from-push s start (x ∷ es) e =
     ap (cons_option (ended s start x)) (tours_from-push (stage_after s x) (begun s start x) es e)
-    ∙ cons_option-append (ended s start x) (tours_from (stage_after s x) (begun s start x) es) (cons_option (ended (fold stage_after (stage_after s x) es) (start_from (stage_after s x) (begun s start x) es) e) [])
+    ∙ cons_option-append (ended s start x) (tours_from (stage_after s x) (begun s start x) es) (cons_option (ended (fold stage_after (stage_after s x) es) (begun_from (stage_after s x) (begun s start x) es) e) [])
 
 last_of-push : (ts : List Tour) (o : Option Tour) → last_of (ts ++ cons_option o []) ≡ option_or o (last_of ts)
 last_of-push ts None = ap last_of (append-nil ts)
 last_of-push ts (Some t) = fold_push (λ o u. Some u) None ts t
 
--- where the last tour began
-abbrev pub last_begun : List Event → Option ℕ
-last_begun es = start_from stage.Off None es
-
 pub last_tour-push : (es : List Event) (e : Event) → last_tour (es ++ e ∷ []) ≡ option_or (ended (stage_of es) (last_begun es) e) (last_tour es)
 unfolding last_tour
 last_tour-push es e = ap last_of (tours_from-push stage.Off None es e) ∙ last_of-push (tours es) (ended (stage_of es) (last_begun es) e)
 
+pub last_begun-push : (es : List Event) (e : Event) → last_begun (es ++ e ∷ []) ≡ begun (stage_of es) (last_begun es) e
+last_begun-push es e = begun_from-push stage.Off None es e
+
 pub last_tour-nil : last_tour [] ≡ None
 unfolding last_tour
 last_tour-nil = refl
-
-pub last_tour-next : (es : List Event) (i : ℕ) (e : Event) → i < length es → e ≡ get_or es i e
-    → last_tour (take (i + 1) es) ≡ option_or (ended (stage_of (take i es)) (last_begun (take i es)) e) (last_tour (take i es))
-last_tour-next es i e within is = ap last_tour (take-push es i e within is) ∙ last_tour-push (take i es) e
-
-pub last_begun-next : (es : List Event) (i : ℕ) (e : Event) → i < length es → e ≡ get_or es i e
-    → last_begun (take (i + 1) es) ≡ begun (stage_of (take i es)) (last_begun (take i es)) e
-last_begun-next es i e within is = ap last_begun (take-push es i e within is) ∙ start_from-push stage.Off None (take i es) e
-
-pub last_tour-whole : (es : List Event) (i : ℕ) → length es ≤ i → last_tour (take i es) ≡ last_tour es
-last_tour-whole es i past = ap last_tour (take_all i es past)

@@ -1,9 +1,8 @@
 -- What one event more makes of the marks of a list and of what its minutes count as.
-use Rattle.std.proofs.Common.{◌≡◌, ℕ, ◌-◌, ◌<◌, ◌≤◌, Bool, true, false, nat_lt, if◌then◌else◌, Option, None, Some, Result, IsOk, inl, inr, zero, suc, ◌+◌, List, [], ◌∷◌, ◌++◌, take, length, get_or, fold, refl, sym, subst, ap, ◌∙◌, arith, append_assoc}
+use Rattle.std.proofs.Common.{◌≡◌, ℕ, ◌-◌, ◌<◌, ◌≤◌, Bool, true, false, nat_lt, if◌then◌else◌, Option, None, Some, Result, IsOk, List, [], ◌∷◌, ◌++◌, fold, refl, sym, subst, ap, ◌∙◌, arith, append_assoc}
 use Rattle.std.specs.Option.{option_map}
 use Rattle.std.proofs.lemmas.Bool.{false≢true, ltb-false}
-use Rattle.std.proofs.lemmas.Option.{slice_get_cases}
-use Rattle.std.proofs.lemmas.List.{append-nil, take_all}
+use Rattle.std.proofs.lemmas.List.{append-nil}
 use Rattle.duty_events.specs.declared.event.Event.{Event}
 use Rattle.duty_events.specs.declared.event.Event.TheVariants as event
 use Rattle.duty_events.specs.declared.event_fault.EventFault.{EventFault}
@@ -13,10 +12,10 @@ use Rattle.duty_events.specs.declared.stage.Stage.TheVariants as stage
 use Rattle.duty_events.specs.declared.minute_kind.MinuteKind.TheVariants as minute
 use Rattle.duty_events.specs.Allowed.{first_minute, last_minute, refuse, follow}
 use Rattle.duty_events.specs.Lists.{Follows, IsNext, IsLawful, stage_after, stage_of, last_event, reached}
-use Rattle.duty_events.specs.MinuteKind.{Mark, mark_of, ToOther, ToOff, marks_of, marks_from, marks, counted, unended, kind_of}
-use Rattle.duty_events.specs.Between.{first_leads, last_leads, between, kind_until, kind_behind, begins}
+use Rattle.duty_events.specs.MinuteKind.{Mark, mark_of, ToOther, ToOff, marks_of, marks_from, marks, counted, unended, kind_of, first_leads, last_leads, begins}
+use Rattle.duty_events.specs.Between.{between, kind_until, kind_behind}
 use Rattle.duty_events.proofs.MarkLemmas.{kind_by, AreBy, kind_by-early, kind_by-between, kind_by-first, kind_by-late, are_by-push, are_by-later, are_by-append}
-use Rattle.duty_events.proofs.ListLemmas.{last_event-push, last_event-next, take-push, lawful-here}
+use Rattle.duty_events.proofs.ListLemmas.{last_event-push, lawful-induction}
 
 -- an event that may follow doesn't begin before the latest minute
 not_behind : (o : Option Stage) (s : Stage) (e : Event) (last : ℕ) → IsOk (follow o s e (Some last)) → last ≤ first_minute e
@@ -127,23 +126,11 @@ shape-push es e shape next =
       by = are_by-append (last_minute e) (marks es) (front e) (shape-by (last_event es) (marks es) (last_minute e) shape (omega (arith, order, next.whole))) (front_by e next.whole);
     }
 
-shape-next : (es : List Event) (i : ℕ) (e : Event) → IsLawful es → i < length es → e ≡ get_or es i e → Shape (last_event (take i es)) (marks (take i es))
-    → Shape (last_event (take (i + 1) es)) (marks (take (i + 1) es))
-shape-next es i e lawful within is shape =
-    rw (take-push es i e within is, last_event-push (take i es) e) (shape-push (take i es) e shape (lawful-here es i e lawful within is))
-
-shape-take : (es : List Event) → IsLawful es → (i : ℕ) → i ≤ length es → Shape (last_event (take i es)) (marks (take i es))
-shape-take es lawful zero within = refl
-shape-take es lawful (suc i) within =
-    let next : i + 1 ≡ suc i = omega arith in
-    elim (slice_get_cases es i).1 [
-      | inl here ↦ subst (λ n. Shape (last_event (take n es)) (marks (take n es))) next (shape-next es i here.0 lawful here.1 (sym here.3) (shape-take es lawful i (omega (arith, within))))
-      | inr past ↦ absurd (omega (arith, past.0, within))
-    ]
-
 pub shape_of : (es : List Event) → IsLawful es → Shape (last_event es) (marks es)
 shape_of es lawful =
-    subst (λ xs. Shape (last_event xs) (marks xs)) (take_all (length es) es (omega arith)) (shape-take es lawful (length es) (omega arith))
+    lawful-induction (λ xs. Shape (last_event xs) (marks xs)) refl
+    (λ old e before next shape. subst (λ o. Shape o (marks (old ++ e ∷ []))) (sym (last_event-push old e)) (shape-push old e shape next))
+    es lawful
 
 -- the minutes of a list with one event more
 stays : (o : Option Event) (ms : List Mark) (s : Stage) (e : Event) (t : ℕ) → Shape o ms → reached o ≤ first_minute e → first_minute e ≤ last_minute e → t < reached o
@@ -162,7 +149,7 @@ kind_of-stays es e lawful next t early =
     kind_of-push es e t ∙ stays (last_event es) (marks es) (stage_of es) e t (shape_of es lawful) (follows-reached (last_event es) (stage_of es) e next) next.whole early
 
 -- those between the list's last event and one more are what the two make of them
-pub kind_of-between : (es : List Event) (p e : Event) → IsLawful es → IsNext es e → last_event es ≡ Some p → (t : ℕ) → last_minute p ≤ t → t < first_minute e
+kind_of-between : (es : List Event) (p e : Event) → IsLawful es → IsNext es e → last_event es ≡ Some p → (t : ℕ) → last_minute p ≤ t → t < first_minute e
     → kind_of (es ++ e ∷ []) t ≡ between p e
 kind_of-between es p e lawful next last t from to =
     let shape : IsLast p (marks es) = subst (λ o. Shape o (marks es)) last (shape_of es lawful) in
@@ -171,7 +158,7 @@ kind_of-between es p e lawful next last t from to =
     ∙ kinds-between shape.earlier (last_mark shape.from p) (stage_of es) e t (are_by-later (last_minute p) t from shape.earlier shape.by) next.whole from to
 
 -- those before the first event are off
-pub kind_of-first : (es : List Event) (e : Event) → IsLawful es → IsNext es e → last_event es ≡ None → (t : ℕ) → t < first_minute e
+kind_of-first : (es : List Event) (e : Event) → IsLawful es → IsNext es e → last_event es ≡ None → (t : ℕ) → t < first_minute e
     → kind_of (es ++ e ∷ []) t ≡ minute.Off
 kind_of-first es e lawful next none t early =
     let empty : marks es ≡ [] = subst (λ o. Shape o (marks es)) none (shape_of es lawful) in
@@ -211,17 +198,6 @@ kind_of-behind es lawful t late = go (last_event es) (marks es) (shape_of es law
         ap (λ ns. kind_by ns t) shape.is ∙ kind_by-late shape.earlier (last_mark shape.from p) t (are_by-later (last_minute p) t late shape.earlier shape.by) late
 
 -- the latest minute lies before the year 2100
-reached-take : (es : List Event) → IsLawful es → (i : ℕ) → i ≤ length es → reached (last_event (take i es)) < 68_374_080
-reached-take es lawful zero within = omega arith
-reached-take es lawful (suc i) within =
-    let next : i + 1 ≡ suc i = omega arith in
-    elim (slice_get_cases es i).1 [
-      | inl here ↦
-          subst (λ n. reached (last_event (take n es)) < 68_374_080) next
-          (omega (arith, ap reached (last_event-next es i here.0 here.1 (sym here.3)), (lawful-here es i here.0 lawful here.1 (sym here.3)).last_in))
-      | inr past ↦ absurd (omega (arith, past.0, within))
-    ]
-
 pub reached-years : (es : List Event) → IsLawful es → reached (last_event es) < 68_374_080
 reached-years es lawful =
-    subst (λ xs. reached (last_event xs) < 68_374_080) (take_all (length es) es (omega arith)) (reached-take es lawful (length es) (omega arith))
+    lawful-induction (λ xs. reached (last_event xs) < 68_374_080) (omega arith) (λ old e before next was. omega (arith, ap reached (last_event-push old e), next.last_in)) es lawful

@@ -1,10 +1,10 @@
 -- A minute of the last tour that has ended belongs to it by the marks too.
-use Rattle.std.proofs.Common.{◌≡◌, ℕ, zero, suc, ◌+◌, ◌<◌, ◌≤◌, inl, inr, Bool, true, false, cond, ◌&&◌, nat_le, if◌then◌else◌, Option, None, Some, List, [], ◌∷◌, ◌++◌, reverse, take, length, get_or, refl, sym, subst, ap, ◌∙◌, arith}
+use Rattle.std.proofs.Common.{◌+◌, ◌-◌, ◌≡◌, ℕ, ◌<◌, ◌≤◌, Bool, true, false, cond, ◌&&◌, nat_le, if◌then◌else◌, Option, None, Some, IfSome, List, [], ◌∷◌, ◌++◌, reverse, refl, sym, subst, ap, ◌∙◌, arith}
 use Rattle.std.specs.Option.{option_or, option_map}
 use Rattle.std.specs.List.{find}
 use Rattle.std.proofs.lemmas.Bool.{le-leb}
-use Rattle.std.proofs.lemmas.Option.{slice_get_cases, same_Some}
-use Rattle.std.proofs.lemmas.List.{reverse-append, take_all}
+use Rattle.std.proofs.lemmas.Option.{same_Some}
+use Rattle.std.proofs.lemmas.List.{reverse-append}
 use Rattle.std.proofs.lemmas.List.Folds.{find-append}
 use Rattle.duty_events.specs.declared.event.Event.{Event}
 use Rattle.duty_events.specs.declared.event.Event.TheVariants as event
@@ -12,16 +12,18 @@ use Rattle.duty_events.specs.declared.stage.Stage.{Stage}
 use Rattle.duty_events.specs.declared.stage.Stage.TheVariants as stage
 use Rattle.duty_events.specs.declared.tour.Tour.{Tour}
 use Rattle.duty_events.specs.Allowed.{first_minute, last_minute}
-use Rattle.duty_events.specs.Lists.{IsLawful, stage_after, stage_of, last_event, latest, reached}
-use Rattle.duty_events.specs.MinuteKind.{Mark, is_off, marks_of, marks_from, marks}
+use Rattle.duty_events.specs.Lists.{IsNext, IsLawful, stage_after, stage_of, last_event, latest, reached}
+use Rattle.duty_events.specs.MinuteKind.{Mark, mark_of, begins, last_leads, marks_of, marks_from, marks}
 use Rattle.duty_events.specs.Places.{tour_end}
-use Rattle.duty_events.specs.Tours.{tour_mark, start_at, tour_start}
-use Rattle.duty_events.specs.EndedTours.{begun, ended, last_tour}
-use Rattle.duty_events.proofs.ListLemmas.{take-push, lawful-here, last_event-next}
-use Rattle.duty_events.proofs.EventLemmas.{follows-reached}
-use Rattle.duty_events.proofs.TourLemmas.{tour_start-early}
-use Rattle.duty_events.proofs.PlaceLemmas.{IsSince, since-next}
-use Rattle.duty_events.proofs.EndedTourLemmas.{start_from, last_begun, last_tour-nil, last_tour-next}
+use Rattle.duty_events.specs.Tours.{tour_mark, start_at, tour_start, begun_at, sum_so_far, more_until, tour_minutes_between}
+use Rattle.duty_events.specs.declared.asked.Asked.TheVariants as asked
+use Rattle.duty_events.specs.Asked.{asked_minutes}
+use Rattle.duty_events.specs.EndedTours.{begun, ended, last_tour, begun_from, last_begun}
+use Rattle.duty_events.proofs.ListLemmas.{last_event-push, lawful-induction}
+use Rattle.duty_events.proofs.EventLemmas.{follows-reached, reached-years}
+use Rattle.duty_events.proofs.TourLemmas.{tour_start-early, sum-until, more_until-last, sum_so_far-push}
+use Rattle.duty_events.proofs.PlaceLemmas.{IsSince, since_of, BeganLast, began_last}
+use Rattle.duty_events.proofs.EndedTourLemmas.{last_tour-nil, last_tour-push}
 
 -- the last mark at which a tour begins
 abbrev last_begins : List Mark → Option Mark
@@ -32,28 +34,18 @@ minute_of o = option_map (λ m. m.at) o
 
 -- it is the event where the last tour began
 event-begun : (s : Stage) (start : Option ℕ) (e : Event) → option_or (minute_of (last_begins (marks_of s e))) start ≡ begun s start e
-event-begun s start (event.Ride t) = go (is_off s)
-  where
-    go : (b : Bool) → option_or (minute_of (cond b (Some (record { at = t; leads = Rattle.duty_events.specs.MinuteKind.ToRiding; begins = b })) None)) start ≡ (if b then Some t else start)
-    go true = refl
-    go false = refl
-event-begun s start (event.Duty t) = go (is_off s)
-  where
-    go : (b : Bool) → option_or (minute_of (cond b (Some (record { at = t; leads = Rattle.duty_events.specs.MinuteKind.ToDuty; begins = b })) None)) start ≡ (if b then Some t else start)
-    go true = refl
-    go false = refl
-event-begun s start (event.Interim t k place) = refl
-event-begun s start (event.Resume t) = refl
-event-begun s start (event.Relieve t) = refl
-event-begun s start (event.RideHome t) = refl
-event-begun s start (event.Final t place) = refl
 event-begun s start (event.Other span place) = refl
+event-begun s start e = go (begins s e)
+  where
+    go : (b : Bool) → option_or (minute_of (last_begins (mark_of (last_minute e) (last_leads e) b ∷ []))) start ≡ (if b then Some (last_minute e) else start)
+    go true = refl
+    go false = refl
 
 minute_of-or : (a b : Option Mark) (start : Option ℕ) → option_or (minute_of (option_or a b)) start ≡ option_or (minute_of a) (option_or (minute_of b) start)
 minute_of-or None b start = refl
 minute_of-or (Some m) b start = refl
 
-marks-begun : (s : Stage) (start : Option ℕ) (es : List Event) → option_or (minute_of (last_begins (marks_from s es))) start ≡ start_from s start es
+marks-begun : (s : Stage) (start : Option ℕ) (es : List Event) → option_or (minute_of (last_begins (marks_from s es))) start ≡ begun_from s start es
 marks-begun s start [] = refl
 marks-begun s start (e ∷ es) =
     let later = marks_from (stage_after s e) es in
@@ -123,41 +115,70 @@ owns-more before after s (Some k) (event.Final u place) m old since order whole 
     )
 owns-more before after s (Some k) e m old since order whole same running owns = owns-later before after m (first_minute e) (last_minute e) old order whole same owns
 
-owns-next : (es : List Event) (i : ℕ) (e : Event) → IsLawful es → i < length es → e ≡ get_or es i e → IsSince (stage_of (take i es)) (reached (last_event (take i es)))
-    → Owns (tour_start (take i es)) (reached (last_event (take i es))) (last_tour (take i es))
-    → Owns (tour_start (take (i + 1) es)) (reached (last_event (take (i + 1) es))) (last_tour (take (i + 1) es))
-owns-next es i e lawful within is since owns =
-    let old = take i es in
-    let next = lawful-here es i e lawful within is in
-    let more =
-    owns-more (tour_start old) (tour_start (old ++ e ∷ [])) (stage_of old) (last_begun old) e (reached (last_event old)) (last_tour old) since
-    (follows-reached (last_event old) (stage_of old) e next) next.whole
-    (λ t early. tour_start-early old e t next.whole early)
-    (λ k t begun from. tour_start-begun old k t begun from)
+owns-push : (es : List Event) (e : Event) → IsLawful es → IsNext es e → Owns (tour_start es) (reached (last_event es)) (last_tour es)
+    → Owns (tour_start (es ++ e ∷ [])) (last_minute e) (option_or (ended (stage_of es) (last_begun es) e) (last_tour es))
+owns-push es e lawful next owns =
+    owns-more (tour_start es) (tour_start (es ++ e ∷ [])) (stage_of es) (last_begun es) e (reached (last_event es)) (last_tour es) (since_of es lawful)
+    (follows-reached (last_event es) (stage_of es) e next) next.whole
+    (λ t early. tour_start-early es e t next.whole early)
+    (λ k t begun from. tour_start-begun es k t begun from)
     owns
-    in
-    rw (last_tour-next es i e within is, last_event-next es i e within is, take-push es i e within is) more
 
-record Kept (es : List Event) : Type 0 where
-  since : IsSince (stage_of es) (reached (last_event es))
-  owns : Owns (tour_start es) (reached (last_event es)) (last_tour es)
+owns_of : (es : List Event) → IsLawful es → Owns (tour_start es) (reached (last_event es)) (last_tour es)
+owns_of es lawful =
+    lawful-induction (λ xs. Owns (tour_start xs) (reached (last_event xs)) (last_tour xs)) (subst (Owns (tour_start []) 0) (sym last_tour-nil) tt)
+    (λ old e before next owns. rw (last_tour-push old e, last_event-push old e) (owns-push old e before next owns))
+    es lawful
 
-kept-take : (es : List Event) → IsLawful es → (i : ℕ) → i ≤ length es → Kept (take i es)
-kept-take es lawful zero within = record { since = tt; owns = subst (Owns (tour_start []) 0) (sym last_tour-nil) tt }
-kept-take es lawful (suc i) within =
-    let next : i + 1 ≡ suc i = omega arith in
-    elim (slice_get_cases es i).1 [
-      | inl here ↦
-          let kept = kept-take es lawful i (omega (arith, within)) in
-          subst (λ n. Kept (take n es)) next (record {
-            since = since-next es i here.0 lawful here.1 (sym here.3);
-            owns = owns-next es i here.0 lawful here.1 (sym here.3) kept.since kept.owns;
-          })
-      | inr past ↦ absurd (omega (arith, past.0, within))
-    ]
+pub owns-whole : (es : List Event) (tour : Tour) → IsLawful es → last_tour es ≡ Some tour → Owns (tour_start es) (reached (last_event es)) (Some tour)
+owns-whole es tour lawful is = subst (Owns (tour_start es) (reached (last_event es))) is (owns_of es lawful)
 
 pub last_tour-minutes : (es : List Event) (tour : Tour) → IsLawful es → last_tour es ≡ Some tour → (t : ℕ) → tour.start ≤ t → t < tour.end → tour_start es t ≡ tour.start
-last_tour-minutes es tour lawful is t from to =
-    let kept = subst Kept (take_all (length es) es (omega arith)) (kept-take es lawful (length es) (omega arith)) in
-    let owns : Owns (tour_start es) (reached (last_event es)) (Some tour) = subst (Owns (tour_start es) (reached (last_event es))) is kept.owns in
-    owns.1 t from to
+last_tour-minutes es tour lawful is t from to = (owns-whole es tour lawful is).1 t from to
+
+-- it ends by the latest minute
+pub last_tour-ends : (es : List Event) (o : Option Tour) → IsLawful es → o ≡ last_tour es → IfSome o (λ tour. tour.end ≤ reached (last_event es))
+last_tour-ends es None lawful is = tt
+last_tour-ends es (Some tour) lawful is = (owns-whole es tour lawful (sym is)).0
+
+pub last_tour-range : (es : List Event) (o : Option Tour) → IsLawful es → o ≡ last_tour es → IfSome o (λ tour. tour.end < 68_374_080)
+last_tour-range es None lawful is = tt
+last_tour-range es (Some tour) lawful is = omega (arith, (owns-whole es tour lawful (sym is)).0, reached-years es lawful)
+
+-- the tour that an event ends is the last that has begun, and what it sums up is the sum so far
+begun_at-is : (es : List Event) (start : ℕ) → last_begun es ≡ Some start → begun_at (marks es) ≡ start
+begun_at-is es start is = at (last_begins (marks es)) (marks-begun stage.Off None es ∙ is)
+  where
+    at : (o : Option Mark) → option_or (minute_of o) None ≡ Some start → start_at o ≡ start
+    at None same = cc
+    at (Some m) same = same_Some m.at start same
+
+more_until-ended : (s : Stage) (o : Option Event) (t : ℕ) (place : List ℕ) → BeganLast s o
+    → more_until o (event.Final t place) (tour_end s t) ≡ tour_minutes_between o (event.Final t place)
+more_until-ended (stage.Interim k since at) o t place is = rw is refl
+more_until-ended s o t place is = more_until-last o (event.Final t place) (omega arith)
+
+reached-end : (s : Stage) (o : Option Event) (t : ℕ) → IsSince s (reached o) → reached o ≤ t → reached o ≤ tour_end s t
+reached-end (stage.Interim k since at) o t is order = omega (arith, is)
+reached-end s o t is order = order
+
+pub ended-sum : (es : List Event) (e : Event) → IsLawful es → IsNext es e → (tour : Tour) → ended (stage_of es) (last_begun es) e ≡ Some tour
+    → asked_minutes asked.InTour (es ++ e ∷ []) tour.start (tour.end - tour.start) ≡ sum_so_far (es ++ e ∷ [])
+ended-sum es e lawful next tour is = go (last_begun es) refl e next is
+  where
+    go : (o : Option ℕ) → last_begun es ≡ o → (e : Event) → IsNext es e → ended (stage_of es) o e ≡ Some tour
+        → asked_minutes asked.InTour (es ++ e ∷ []) tour.start (tour.end - tour.start) ≡ sum_so_far (es ++ e ∷ [])
+    go None begun e next is = cc
+    go (Some start) begun (event.Final t place) next is =
+        let e = event.Final t place in
+        let o = last_event es in
+        let end = tour_end (stage_of es) t in
+        let by = reached-end (stage_of es) o t (since_of es lawful) (follows-reached o (stage_of es) e next) in
+        let here : asked_minutes asked.InTour (es ++ e ∷ []) start (end - start) ≡ sum_so_far (es ++ e ∷ []) =
+        ap (λ x. asked_minutes asked.InTour (es ++ e ∷ []) x (end - x)) (sym (begun_at-is es start begun))
+        ∙ sum-until es e lawful next end by
+        ∙ ap (λ n. sum_so_far es + n) (more_until-ended (stage_of es) o t place (began_last es lawful))
+        ∙ sym (sum_so_far-push es e lawful next) in
+        let same : record { start = start; end = end; place = place } ≡ tour = same_Some _ tour is in
+        subst (λ x. asked_minutes asked.InTour (es ++ e ∷ []) x.start (x.end - x.start) ≡ sum_so_far (es ++ e ∷ [])) same here
+    go (Some start) begun e next is = cc

@@ -1,13 +1,12 @@
 -- Lists of events, one event more.
-use Rattle.std.proofs.Common.{◌≡◌, ℕ, zero, suc, ◌+◌, ◌<◌, ◌≤◌, ◌⊎◌, inl, inr, Option, None, Some, List, [], ◌∷◌, ◌++◌, take, length, get_or, refl, sym, subst, ap, ◌∙◌, arith}
+use Rattle.std.proofs.Common.{◌≡◌, ℕ, zero, suc, ◌+◌, ◌<◌, ◌≤◌, ◌⊎◌, inl, inr, None, Some, List, [], ◌∷◌, ◌++◌, take, length, get_or, refl, sym, subst, ap, ◌∙◌, arith}
 use Rattle.std.specs.List.{slice_get}
-use Rattle.std.proofs.lemmas.Option.{slice_get-get_or, none-some, same_Some}
+use Rattle.std.proofs.lemmas.Option.{slice_get_cases, slice_get-get_or, none-some, same_Some}
 use Rattle.std.proofs.lemmas.List.{take_at, take_all, take_more, take-take, take-append-le}
 use Rattle.std.proofs.lemmas.List.Sums.{fold_push}
 use Rattle.duty_events.specs.declared.event.Event.{Event}
-use Rattle.duty_events.specs.declared.stage.Stage.{Stage}
 use Rattle.duty_events.specs.declared.stage.Stage.TheVariants as stage
-use Rattle.duty_events.specs.Lists.{Follows, IsNext, IsLawful, stage_after, stage_of, last_event, latest}
+use Rattle.duty_events.specs.Lists.{IsNext, IsLawful, stage_after, stage_of, last_event}
 
 -- what stands in a list with one more stood there before, or is the one more
 slice_get-push : {X : Type 0} (xs : List X) (y : X) (k : ℕ) (x : X) → slice_get (xs ++ y ∷ []) k ≡ Some x
@@ -49,23 +48,32 @@ lawful-here es i e lawful within is = lawful.each i e (slice_get-get_or es i e w
 pub take-push : {X : Type 0} (xs : List X) (i : ℕ) (x : X) → i < length xs → x ≡ get_or xs i x → take (i + 1) xs ≡ take i xs ++ x ∷ []
 take-push xs i x within is = take_more xs i x within ∙ ap (λ y. take i xs ++ y ∷ []) (sym is)
 
-pub stage_of-next : (es : List Event) (i : ℕ) (e : Event) → i < length es → e ≡ get_or es i e → stage_of (take (i + 1) es) ≡ stage_after (stage_of (take i es)) e
-stage_of-next es i e within is = ap stage_of (take-push es i e within is) ∙ fold_push stage_after stage.Off (take i es) e
+-- the same of a loop over the events
+pub record Comes (es : List Event) (i : ℕ) (e : Event) : Type 0 where
+  pub is : take (i + 1) es ≡ take i es ++ e ∷ []
+  pub lawful : IsLawful (take i es)
+  pub next : IsNext (take i es) e
+
+pub comes : (es : List Event) (i : ℕ) (e : Event) → IsLawful es → i < length es → e ≡ get_or es i e → Comes es i e
+comes es i e lawful within is = record { is = take-push es i e within is; lawful = lawful-take es i lawful; next = lawful-here es i e lawful within is }
+
+-- what holds of no events, and of one event more that may follow, holds of each lawful list
+pub lawful-induction : (P : List Event → Type 0) → P [] → ((es : List Event) (e : Event) → IsLawful es → IsNext es e → P es → P (es ++ e ∷ [])) → (es : List Event) → IsLawful es → P es
+lawful-induction P none more es lawful = subst P (take_all (length es) es (omega arith)) (go (length es) (omega arith))
+  where
+    go : (i : ℕ) → i ≤ length es → P (take i es)
+    go zero within = none
+    go (suc i) within = elim (slice_get_cases es i).1 [
+      | inl here ↦
+          let is = sym here.3 in
+          let next : suc i ≡ i + 1 = omega arith in
+          let more_is : take (suc i) es ≡ take i es ++ here.0 ∷ [] = ap (λ n. take n es) next ∙ take-push es i here.0 here.1 is in
+          subst P (sym more_is) (more (take i es) here.0 (lawful-take es i lawful) (lawful-here es i here.0 lawful here.1 is) (go i (omega (arith, within))))
+      | inr past ↦ absurd (omega (arith, past.0, within))
+    ]
+
+pub stage_of-push : (es : List Event) (e : Event) → stage_of (es ++ e ∷ []) ≡ stage_after (stage_of es) e
+stage_of-push es e = fold_push stage_after stage.Off es e
 
 pub last_event-push : (es : List Event) (e : Event) → last_event (es ++ e ∷ []) ≡ Some e
 last_event-push es e = fold_push (λ o x. Some x) None es e
-
-pub last_event-next : (es : List Event) (i : ℕ) (e : Event) → i < length es → e ≡ get_or es i e → last_event (take (i + 1) es) ≡ Some e
-last_event-next es i e within is = ap last_event (take-push es i e within is) ∙ last_event-push (take i es) e
-
-pub lawful-next : (es : List Event) (i : ℕ) (e : Event) (s : Stage) (last : Option ℕ) → i < length es → e ≡ get_or es i e → s ≡ stage_of (take i es) → last ≡ latest (take i es)
-    → IsLawful (take i es) → Follows s last e → IsLawful (take (i + 1) es)
-lawful-next es i e s last within is stage last_is lawful follows =
-    rw (take-push es i e within is) (lawful-push (take i es) e lawful (rw (sym stage, sym last_is) follows))
-
-pub lawful-whole : (es : List Event) (i : ℕ) → length es ≤ i → IsLawful (take i es) → IsLawful es
-lawful-whole es i past lawful = subst IsLawful (take_all i es past) lawful
-
-pub lawful-not : (es : List Event) (i : ℕ) (e : Event) (s : Stage) (last : Option ℕ) → i < length es → e ≡ get_or es i e → s ≡ stage_of (take i es) → last ≡ latest (take i es)
-    → (Follows s last e → ⊥) → IsLawful es → ⊥
-lawful-not es i e s last within is stage last_is not lawful = not (rw (stage, last_is) (lawful-here es i e lawful within is))

@@ -1,18 +1,19 @@
 -- Where someone is after one event more.
-use Rattle.std.proofs.Common.{◌≡◌, ℕ, ◌+◌, ◌<◌, ◌≤◌, Bool, true, false, nat_le, if◌then◌else◌, Option, None, Some, unwrap_or, IsOk, List, [], ◌∷◌, ◌++◌, reverse, fold, take, length, get_or, refl, sym, ap, ◌∙◌, append_assoc}
+use Rattle.std.proofs.Common.{◌≡◌, ℕ, ◌<◌, ◌≤◌, Bool, true, false, nat_le, if◌then◌else◌, Option, None, Some, unwrap_or, IsOk, List, [], ◌∷◌, ◌++◌, reverse, fold, refl, sym, ap, ◌∙◌, arith, append_assoc}
 use Rattle.std.specs.Option.{option_map, option_to_list}
 use Rattle.std.specs.List.{find}
-use Rattle.std.proofs.lemmas.Bool.{false≢true}
-use Rattle.std.proofs.lemmas.List.{append-nil, reverse-append, take_all}
+use Rattle.std.proofs.lemmas.Bool.{false≢true, le-leb, lt-leb}
+use Rattle.std.proofs.lemmas.List.{append-nil, reverse-append}
 use Rattle.duty_events.specs.declared.event.Event.{Event}
 use Rattle.duty_events.specs.declared.stage.Stage.{Stage}
 use Rattle.duty_events.specs.declared.stage.Stage.TheVariants as stage
 use Rattle.duty_events.specs.declared.end.End.{End}
 use Rattle.duty_events.specs.declared.event.Event.TheVariants as event
-use Rattle.duty_events.specs.Allowed.{last_minute, judge}
-use Rattle.duty_events.specs.Lists.{IsLawful, stage_after, stage_of, last_event, latest, reached}
-use Rattle.duty_events.specs.Places.{end_by, ends_from, place_of, place_by}
-use Rattle.duty_events.proofs.ListLemmas.{take-push, lawful-here, stage_of-next, last_event-next}
+use Rattle.duty_events.specs.Allowed.{first_minute, last_minute, judge}
+use Rattle.duty_events.specs.Lists.{IsNext, IsLawful, stage_after, stage_of, last_event, latest, reached}
+use Rattle.duty_events.specs.Places.{end_by, ends_from, place_of, place_by, place_until, place_behind}
+use Rattle.duty_events.proofs.EventLemmas.{follows-reached}
+use Rattle.duty_events.proofs.ListLemmas.{stage_of-push, last_event-push, lawful-induction}
 
 ends_from-push : (s : Stage) (es : List Event) (e : Event) → ends_from s (es ++ e ∷ []) ≡ ends_from s es ++ option_to_list (end_by (fold stage_after s es) e)
 ends_from-push s [] e = append-nil (option_to_list (end_by s e))
@@ -33,7 +34,7 @@ placed-push xs (Some x) home t =
     go true = refl
     go false = refl
 
-place_of-push : (es : List Event) (e : Event) (home : List ℕ) (t : ℕ) → place_of (es ++ e ∷ []) home t ≡ place_by (end_by (stage_of es) e) (place_of es home t) t
+pub place_of-push : (es : List Event) (e : Event) (home : List ℕ) (t : ℕ) → place_of (es ++ e ∷ []) home t ≡ place_by (end_by (stage_of es) e) (place_of es home t) t
 unfolding place_of
 place_of-push es e home t = ap (λ xs. placed xs home t) (ends_from-push stage.Off es e) ∙ placed-push (ends_from stage.Off es) (end_by (stage_of es) e) home t
 
@@ -41,31 +42,82 @@ pub place_of-nil : (home : List ℕ) (t : ℕ) → place_of [] home t ≡ home
 unfolding place_of
 place_of-nil home t = refl
 
-pub place_of-next : (es : List Event) (i : ℕ) (e : Event) (home : List ℕ) (t : ℕ) → i < length es → e ≡ get_or es i e
-    → place_of (take (i + 1) es) home t ≡ place_by (end_by (stage_of (take i es)) e) (place_of (take i es) home t) t
-place_of-next es i e home t within is = ap (λ xs. place_of xs home t) (take-push es i e within is) ∙ place_of-push (take i es) e home t
-
-pub place_of-whole : (es : List Event) (i : ℕ) (home : List ℕ) (t : ℕ) → length es ≤ i → place_of (take i es) home t ≡ place_of es home t
-place_of-whole es i home t past = ap (λ xs. place_of xs home t) (take_all i es past)
-
 -- an interim that has not ended began at that minute
 abbrev pub IsSince : Stage → ℕ → Type 0
 IsSince (stage.Interim k since at) t = since ≡ t
 IsSince s t = Unit {0}
 
--- so it is after an event that is allowed
-pub since-after : (e : Event) (s : Stage) (last : Option ℕ) → IsOk (judge s e last) → IsSince (stage_after s e) (last_minute e)
-since-after (event.Interim t k place) stage.Duty last ok = refl
-since-after (event.Interim t j place) (stage.Interim k since at) last ok = absurd (false≢true ok)
-since-after (event.Ride t) (stage.Interim k since at) last ok = absurd (false≢true ok)
-since-after (event.Duty t) (stage.Interim k since at) last ok = absurd (false≢true ok)
-since-after (event.Relieve t) (stage.Interim k since at) last ok = absurd (false≢true ok)
-since-after (event.RideHome t) (stage.Interim k since at) last ok = absurd (false≢true ok)
-since-after (event.Other span place) (stage.Interim k since at) last ok = absurd (false≢true ok)
-since-after (event.Resume t) (stage.Interim k since at) last ok = tt
-since-after (event.Final t place) (stage.Interim k since at) last ok = tt
-since-after e s last ok = tt
+-- an interim that runs began with the last event
+abbrev pub BeganLast : Stage → Option Event → Type 0
+BeganLast (stage.Interim k since at) o = o ≡ Some (event.Interim since k at)
+BeganLast s o = Unit {0}
 
-pub since-next : (es : List Event) (i : ℕ) (e : Event) → IsLawful es → i < length es → e ≡ get_or es i e → IsSince (stage_of (take (i + 1) es)) (reached (last_event (take (i + 1) es)))
-since-next es i e lawful within is =
-    rw (stage_of-next es i e within is, last_event-next es i e within is) (since-after e (stage_of (take i es)) (latest (take i es)) (lawful-here es i e lawful within is).allowed)
+-- so it is after an event that is allowed
+began-after : (e : Event) (s : Stage) (last : Option ℕ) → IsOk (judge s e last) → BeganLast (stage_after s e) (Some e)
+began-after (event.Interim t k place) stage.Duty last ok = refl
+began-after (event.Interim t j place) (stage.Interim k since at) last ok = absurd (false≢true ok)
+began-after (event.Ride t) (stage.Interim k since at) last ok = absurd (false≢true ok)
+began-after (event.Duty t) (stage.Interim k since at) last ok = absurd (false≢true ok)
+began-after (event.Relieve t) (stage.Interim k since at) last ok = absurd (false≢true ok)
+began-after (event.RideHome t) (stage.Interim k since at) last ok = absurd (false≢true ok)
+began-after (event.Other span place) (stage.Interim k since at) last ok = absurd (false≢true ok)
+began-after (event.Resume t) (stage.Interim k since at) last ok = tt
+began-after (event.Final t place) (stage.Interim k since at) last ok = tt
+began-after e s last ok = tt
+
+pub began_last : (es : List Event) → IsLawful es → BeganLast (stage_of es) (last_event es)
+began_last es lawful =
+    lawful-induction (λ xs. BeganLast (stage_of xs) (last_event xs)) tt
+    (λ old e before next was. rw (stage_of-push old e, last_event-push old e) (began-after e (stage_of old) (latest old) next.allowed))
+    es lawful
+
+pub since_of : (es : List Event) → IsLawful es → IsSince (stage_of es) (reached (last_event es))
+since_of es lawful = go (stage_of es) (last_event es) (began_last es lawful)
+  where
+    go : (s : Stage) (o : Option Event) → BeganLast s o → IsSince s (reached o)
+    go (stage.Interim k since at) o is = ap reached (sym is)
+    go s o is = tt
+
+-- the place of an end that comes by the minute, and of one that comes later
+by-later : (at t : ℕ) (place other : List ℕ) → t < at → (if nat_le at t then place else other) ≡ other
+by-later at t place other early = rw (lt-leb at t early) refl
+
+by-then : (at t : ℕ) (place other : List ℕ) → at ≤ t → (if nat_le at t then place else other) ≡ place
+by-then at t place other late = rw (le-leb at t late) refl
+
+-- what an event makes of the place: before the latest minute it stays
+place-stays : (s : Stage) (e : Event) (m t : ℕ) (other : List ℕ) → IsSince s m → m ≤ first_minute e → first_minute e ≤ last_minute e → t < m → place_by (end_by s e) other t ≡ other
+place-stays (stage.Interim k since at) (event.Final u named) m t other is order whole early = by-later since t named other (omega (arith, is, early))
+place-stays s (event.Final u named) m t other is order whole early = by-later u t named other (omega (arith, order, early))
+place-stays s (event.Other span named) m t other is order whole early = by-later span.to t named other (omega (arith, order, whole, early))
+place-stays s e m t other is order whole early = refl
+
+-- from there to the event
+place-until : (s : Stage) (e : Event) (m t : ℕ) (other : List ℕ) → IsSince s m → first_minute e ≤ last_minute e → m ≤ t → t < first_minute e → place_by (end_by s e) other t ≡ place_until s e other
+place-until (stage.Interim k since at) (event.Final u named) m t other is whole from to = by-then since t named other (omega (arith, is, from))
+place-until s (event.Final u named) m t other is whole from to = by-later u t named other to
+place-until s (event.Other span named) m t other is whole from to = by-later span.to t named other (omega (arith, whole, to))
+place-until s e m t other is whole from to = refl
+
+-- and behind it
+place-behind : (s : Stage) (e : Event) (m t : ℕ) (other : List ℕ) → IsSince s m → m ≤ first_minute e → last_minute e ≤ t → place_by (end_by s e) other t ≡ place_behind e other
+place-behind (stage.Interim k since at) (event.Final u named) m t other is order late = by-then since t named other (omega (arith, is, order, late))
+place-behind s (event.Final u named) m t other is order late = by-then u t named other late
+place-behind s (event.Other span named) m t other is order late = by-then span.to t named other late
+place-behind s e m t other is order late = refl
+
+-- one event more, before the latest minute, from there to the event, and behind it
+pub place_of-stays : (es : List Event) (e : Event) → IsLawful es → IsNext es e → (home : List ℕ) (t : ℕ) → t < reached (last_event es) → place_of (es ++ e ∷ []) home t ≡ place_of es home t
+place_of-stays es e lawful next home t early =
+    place_of-push es e home t
+    ∙ place-stays (stage_of es) e (reached (last_event es)) t (place_of es home t) (since_of es lawful) (follows-reached (last_event es) (stage_of es) e next) next.whole early
+
+pub place_of-until : (es : List Event) (e : Event) → IsLawful es → IsNext es e → (home : List ℕ) (t : ℕ) → reached (last_event es) ≤ t → t < first_minute e
+    → place_of (es ++ e ∷ []) home t ≡ place_until (stage_of es) e (place_of es home t)
+place_of-until es e lawful next home t from to =
+    place_of-push es e home t ∙ place-until (stage_of es) e (reached (last_event es)) t (place_of es home t) (since_of es lawful) next.whole from to
+
+pub place_of-behind : (es : List Event) (e : Event) → IsLawful es → IsNext es e → (home : List ℕ) (t : ℕ) → last_minute e ≤ t → place_of (es ++ e ∷ []) home t ≡ place_behind e (place_of es home t)
+place_of-behind es e lawful next home t late =
+    place_of-push es e home t
+    ∙ place-behind (stage_of es) e (reached (last_event es)) t (place_of es home t) (since_of es lawful) (follows-reached (last_event es) (stage_of es) e next) late

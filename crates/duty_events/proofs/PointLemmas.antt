@@ -1,5 +1,5 @@
 -- What one event more makes of a question about minutes, minute by minute and counted.
-use Rattle.std.proofs.Common.{◌≡◌, ℕ, ◌+◌, ◌<◌, ◌≤◌, inl, inr, Bool, false, ◌&&◌, ◌||◌, cond, Option, None, Some, List, [], ◌∷◌, ◌++◌, refl, sym, subst, ap, ◌∙◌, arith}
+use Rattle.std.proofs.Common.{◌≡◌, ℕ, ◌+◌, ◌<◌, ◌≤◌, inl, inr, Bool, false, ◌&&◌, ◌||◌, cond, Option, None, Some, List, [], ◌∷◌, ◌++◌, refl, sym, ap, ◌∙◌, arith}
 use Rattle.std.proofs.Math.Bool.{or-false}
 use Rattle.std.proofs.lemmas.Bool.{cases_lt, and_left, and_right, or_from}
 use Rattle.duty_events.specs.declared.event.Event.{Event}
@@ -7,12 +7,11 @@ use Rattle.duty_events.specs.declared.minute_kind.MinuteKind.{MinuteKind}
 use Rattle.duty_events.specs.declared.minute_kind.MinuteKind.TheVariants as minute
 use Rattle.duty_events.specs.Allowed.{first_minute, last_minute}
 use Rattle.duty_events.specs.Lists.{IsNext, IsLawful, stage_of, last_event, reached}
-use Rattle.duty_events.specs.MinuteKind.{Mark, Leads, ToOff, ToOther, ToRiding, ToDuty, ToResumed, ToInterim, ToWaiting, ToRidingHome, marks, unended, kind_of}
-use Rattle.duty_events.specs.Between.{last_leads, between, minutes_between}
+use Rattle.duty_events.specs.MinuteKind.{Leads, ToInterim, unended, kind_of, last_leads}
+use Rattle.duty_events.specs.Between.{kind_until, kind_behind, between, minutes_between}
 use Rattle.duty_events.specs.Minutes.{minutes_where, is_within, shared}
 use Rattle.duty_events.proofs.CountLemmas.{is_within-before, is_within-in, is_within-behind, minutes_where-or, minutes_where-never, minutes_where-within_if}
-use Rattle.duty_events.proofs.MarkLemmas.{kind_by, kind_by-late, are_by-later}
-use Rattle.duty_events.proofs.EventLemmas.{Shape, shape_of, follows-reached, last_mark, kind_of-stays, kind_of-between, kind_of-first, kind_of-within, kind_of-late}
+use Rattle.duty_events.proofs.EventLemmas.{follows-reached, kind_of-stays, kind_of-until, kind_of-within, kind_of-late, kind_of-behind}
 
 -- a question that off and open minutes don't pass
 abbrev pub IsOfWork : (MinuteKind → Bool) → Type 0
@@ -20,24 +19,15 @@ IsOfWork q = (q minute.Off ≡ false) × (q minute.Open ≡ false)
 
 unended-not : (q : MinuteKind → Bool) → IsOfWork q → (leads : Leads) → q (unended leads) ≡ false
 unended-not q work (ToInterim k) = work.1
-unended-not q work ToOff = work.0
-unended-not q work ToOther = work.0
-unended-not q work ToRiding = work.0
-unended-not q work ToDuty = work.0
-unended-not q work ToResumed = work.0
-unended-not q work ToWaiting = work.0
-unended-not q work ToRidingHome = work.0
+unended-not q work leads = work.0
 
 -- no minute from a list's latest on passes
-late-not : (q : MinuteKind → Bool) → IsOfWork q → (o : Option Event) (ms : List Mark) (t : ℕ) → Shape o ms → reached o ≤ t → q (kind_by ms t) ≡ false
-late-not q work None ms t shape late = subst (λ ns. q (kind_by ns t) ≡ false) (sym shape) work.0
-late-not q work (Some p) ms t shape late =
-    ap q (ap (λ ns. kind_by ns t) shape.is ∙ kind_by-late shape.earlier (last_mark shape.from p) t (are_by-later (last_minute p) t late shape.earlier shape.by) late)
-    ∙ unended-not q work (last_leads p)
-
 pub asks-late : (q : MinuteKind → Bool) → IsOfWork q → (es : List Event) → IsLawful es → (t : ℕ) → reached (last_event es) ≤ t → q (kind_of es t) ≡ false
-unfolding kind_of
-asks-late q work es lawful t late = late-not q work (last_event es) (marks es) t (shape_of es lawful) late
+asks-late q work es lawful t late = ap q (kind_of-behind es lawful t late) ∙ behind-not (last_event es)
+  where
+    behind-not : (o : Option Event) → q (kind_behind o) ≡ false
+    behind-not None = work.0
+    behind-not (Some p) = unended-not q work (last_leads p)
 
 -- the minutes between the last event and one more
 abbrev pub asks_between : (MinuteKind → Bool) → Option Event → Event → ℕ → Bool
@@ -57,11 +47,13 @@ asks_between-before q None e t before = refl
 asks_between-before q (Some p) e t before = and_left _ _ (is_within-before (last_minute p) (first_minute e) t before)
 
 -- a minute passes after one event more: it lies between the two, or is the event's own, or passed before
-asks-middle : (q : MinuteKind → Bool) → IsOfWork q → (es : List Event) (e : Event) → IsLawful es → IsNext es e → (o : Option Event) → last_event es ≡ o → (t : ℕ)
-    → reached o ≤ t → t < first_minute e → q (kind_of (es ++ e ∷ []) t) ≡ asks_between q o e t
-asks-middle q work es e lawful next None last t from to = ap q (kind_of-first es e lawful next last t to) ∙ work.0
-asks-middle q work es e lawful next (Some p) last t from to =
-    rw (is_within-in (last_minute p) (first_minute e) t from to) (ap q (kind_of-between es p e lawful next last t from to))
+asks-middle : (q : MinuteKind → Bool) → IsOfWork q → (es : List Event) (e : Event) → IsLawful es → IsNext es e → (t : ℕ)
+    → reached (last_event es) ≤ t → t < first_minute e → q (kind_of (es ++ e ∷ []) t) ≡ asks_between q (last_event es) e t
+asks-middle q work es e lawful next t from to = ap q (kind_of-until es e lawful next t from to) ∙ go (last_event es) from
+  where
+    go : (o : Option Event) → reached o ≤ t → q (kind_until o e) ≡ asks_between q o e t
+    go None from = work.0
+    go (Some p) from = rw (is_within-in (last_minute p) (first_minute e) t from to) refl
 
 pub asks-push : (q : MinuteKind → Bool) → IsOfWork q → (es : List Event) (e : Event) → IsLawful es → IsNext es e → (t : ℕ)
     → q (kind_of (es ++ e ∷ []) t) ≡ (asks_between q (last_event es) e t || (asks_own q e t || q (kind_of es t)))
@@ -75,7 +67,7 @@ asks-push q work es e lawful next t =
       | inr from ↦
           let old = asks-late q work es lawful t from in
           elim (cases_lt t first) [
-            | inl to ↦ rw (is_within-before first last t to, old) (asks-middle q work es e lawful next o refl t from to ∙ sym (or-false (asks_between q o e t)))
+            | inl to ↦ rw (is_within-before first last t to, old) (asks-middle q work es e lawful next t from to ∙ sym (or-false (asks_between q o e t)))
             | inr own ↦ elim (cases_lt t last) [
               | inl to ↦ rw (asks_between-behind q o e t own, is_within-in first last t own to, old) (ap q (kind_of-within es e lawful next t own to) ∙ sym (or-false (q minute.Other)))
               | inr late ↦ rw (asks_between-behind q o e t own, is_within-behind first last t late, old) (ap q (kind_of-late es e lawful next t late) ∙ unended-not q work (last_leads e))

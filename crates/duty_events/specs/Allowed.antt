@@ -1,6 +1,7 @@
 -- Which event may follow which: the table of stages, and the refusals in their order.
 use Rattle.std.specs.Prelude.{ℕ, ◌-◌, Bool, true, false, ◌&&◌, nat_lt, nat_le, Option, None, Some, Result, Ok, Err, List, if◌then◌else◌}
 use Rattle.std.specs.Str.{bytes_eq}
+use Rattle.duty_events.specs.declared.limits.TheConstants.{INTERIM_LIMIT}
 use Rattle.duty_events.specs.declared.kind.Kind.{Kind}
 use Rattle.duty_events.specs.declared.kind.Kind.TheVariants as kind
 use Rattle.duty_events.specs.declared.event.Event.{Event}
@@ -62,7 +63,7 @@ behind first (Some last) = if nat_lt first last then Some (fault.Behind last) el
 
 -- an interim of a limited kind that has lasted these minutes, ten hours or more
 abbrev pub too_long : Kind → ℕ → Option EventFault
-too_long k minutes = if is_limited k && nat_le 600 minutes then Some (fault.InterimTooLong minutes) else None
+too_long k minutes = if is_limited k && nat_le INTERIM_LIMIT minutes then Some (fault.InterimTooLong minutes) else None
 
 -- an interim at a place, and a final release during it that names another
 abbrev pub other_place : List ℕ → List ℕ → Option EventFault

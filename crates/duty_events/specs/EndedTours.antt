@@ -8,7 +8,7 @@ use Rattle.duty_events.specs.declared.stage.Stage.TheVariants as stage
 use Rattle.duty_events.specs.declared.tour.Tour.{Tour}
 use Rattle.duty_events.specs.Allowed.{first_minute}
 use Rattle.duty_events.specs.Lists.{stage_after}
-use Rattle.duty_events.specs.Between.{begins}
+use Rattle.duty_events.specs.MinuteKind.{begins}
 use Rattle.duty_events.specs.Places.{tour_end}
 
 -- where the last tour began, after an event that comes at a stage: at the event where one begins there
@@ -34,6 +34,14 @@ last_of ts = fold (λ o t. Some t) None ts
 
 unfoldable pub last_tour : List Event → Option Tour
 last_tour es = last_of (tours es)
+
+-- where the last tour began, with events that come from a stage on and after a tour that began at a minute, and with a list
+abbrev pub begun_from : Stage → Option ℕ → List Event → Option ℕ
+begun_from s start [] = start
+begun_from s start (e ∷ es) = begun_from (stage_after s e) (begun s start e) es
+
+abbrev pub last_begun : List Event → Option ℕ
+last_begun es = begun_from stage.Off None es
 
 -- where it ended, 0 if there is none
 abbrev pub end_of : Option Tour → ℕ

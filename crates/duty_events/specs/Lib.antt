@@ -1,4 +1,5 @@
 pub mod Allowed
+pub mod Asked
 pub mod Between
 pub mod EndedTours
 pub mod Lists

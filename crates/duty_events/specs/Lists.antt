@@ -1,8 +1,8 @@
 -- Lists of events: the stage that they end in, their latest minute, and which are lawful.
-use Rattle.std.specs.Prelude.{◌≡◌, ℕ, ◌≤◌, Option, None, Some, unwrap_or, IsOk, List, take, fold}
+use Rattle.std.specs.Prelude.{◌≡◌, ℕ, ◌≤◌, Bool, ◌&&◌, nat_le, Option, None, Some, unwrap_or, IsOk, is_ok, List, take, fold}
 use Rattle.std.specs.Option.{option_map}
 use Rattle.std.specs.List.{slice_get}
-use Rattle.desk_base.specs.Minute.{IsInYears}
+use Rattle.desk_base.specs.Minute.{IsInYears, is_in_years}
 use Rattle.duty_events.specs.declared.event.Event.{Event}
 use Rattle.duty_events.specs.declared.stage.Stage.{Stage}
 use Rattle.duty_events.specs.declared.stage.Stage.TheVariants as stage
@@ -36,6 +36,10 @@ pub record Follows (s : Stage) (last : Option ℕ) (e : Event) : Type 0 where
   pub first_in : IsInYears (first_minute e)
   pub last_in : IsInYears (last_minute e)
   pub whole : first_minute e ≤ last_minute e
+
+-- the test of it
+abbrev pub may_follow : Stage → Option ℕ → Event → Bool
+may_follow s last e = is_ok (judge s e last) && is_in_years (first_minute e) && is_in_years (last_minute e) && nat_le (first_minute e) (last_minute e)
 
 -- an event may follow these
 abbrev pub IsNext : List Event → Event → Type 0

@@ -2,6 +2,7 @@
 -- first minute and one at its end. A minute counts by the last mark at or before it, and by the mark after that.
 use Rattle.std.specs.Prelude.{ℕ, ◌-◌, Bool, true, false, nat_lt, nat_le, Option, None, Some, if◌then◌else◌, List, [], ◌∷◌, ◌++◌, reverse}
 use Rattle.std.specs.List.{find}
+use Rattle.duty_events.specs.declared.limits.TheConstants.{OFF_DUTY_INTERIM}
 use Rattle.duty_events.specs.declared.kind.Kind.{Kind}
 use Rattle.duty_events.specs.declared.kind.Kind.TheVariants as kind
 use Rattle.duty_events.specs.declared.event.Event.{Event}
@@ -10,6 +11,7 @@ use Rattle.duty_events.specs.declared.stage.Stage.{Stage}
 use Rattle.duty_events.specs.declared.stage.Stage.TheVariants as stage
 use Rattle.duty_events.specs.declared.minute_kind.MinuteKind.{MinuteKind}
 use Rattle.duty_events.specs.declared.minute_kind.MinuteKind.TheVariants as minute
+use Rattle.duty_events.specs.Allowed.{last_minute}
 use Rattle.duty_events.specs.Lists.{stage_after}
 
 -- what a mark leads to
@@ -36,16 +38,32 @@ abbrev pub is_off : Stage → Bool
 is_off stage.Off = true
 is_off s = false
 
--- the marks of an event that comes at a stage. A tour begins at a ride or a duty from off
+-- a tour begins at an event that comes at a stage: at a ride or a duty from off
+abbrev pub begins : Stage → Event → Bool
+begins s (event.Ride t) = is_off s
+begins s (event.Duty t) = is_off s
+begins s e = false
+
+-- what an event leads to from its last minute on
+abbrev pub last_leads : Event → Leads
+last_leads (event.Ride t) = ToRiding
+last_leads (event.Duty t) = ToDuty
+last_leads (event.Interim t k place) = ToInterim k
+last_leads (event.Resume t) = ToResumed
+last_leads (event.Relieve t) = ToWaiting
+last_leads (event.RideHome t) = ToRidingHome
+last_leads (event.Final t place) = ToOff
+last_leads (event.Other span place) = ToOff
+
+-- and from its first
+abbrev pub first_leads : Event → Leads
+first_leads (event.Other span place) = ToOther
+first_leads e = last_leads e
+
+-- the marks of an event that comes at a stage
 abbrev pub marks_of : Stage → Event → List Mark
-marks_of s (event.Ride t) = mark_of t ToRiding (is_off s) ∷ []
-marks_of s (event.Duty t) = mark_of t ToDuty (is_off s) ∷ []
-marks_of s (event.Interim t k place) = mark_of t (ToInterim k) false ∷ []
-marks_of s (event.Resume t) = mark_of t ToResumed false ∷ []
-marks_of s (event.Relieve t) = mark_of t ToWaiting false ∷ []
-marks_of s (event.RideHome t) = mark_of t ToRidingHome false ∷ []
-marks_of s (event.Final t place) = mark_of t ToOff false ∷ []
 marks_of s (event.Other span place) = mark_of span.from ToOther false ∷ mark_of span.to ToOff false ∷ []
+marks_of s e = mark_of (last_minute e) (last_leads e) (begins s e) ∷ []
 
 -- the marks of events that come from a stage on, and of a list
 abbrev pub marks_from : Stage → List Event → List Mark
@@ -62,12 +80,12 @@ mark_before ms t = find (λ m. nat_le m.at t) (reverse ms)
 abbrev pub mark_after : List Mark → ℕ → Option Mark
 mark_after ms t = find (λ m. nat_lt t m.at) ms
 
--- an interim that ends with a resume is on duty where it is of the kind O or shorter than 240 minutes, else off
+-- an interim that ends with a resume is on duty where it is of the kind O or shorter than four hours, else off
 -- (21103(b)(5) to (7)); one that ends with the final release is off
 abbrev pub resumed : Kind → ℕ → MinuteKind
 resumed kind.O minutes = minute.OnDuty
-resumed kind.D minutes = if nat_lt minutes 240 then minute.OnDuty else minute.Off
-resumed kind.P minutes = if nat_lt minutes 240 then minute.OnDuty else minute.Off
+resumed kind.D minutes = if nat_lt minutes OFF_DUTY_INTERIM then minute.OnDuty else minute.Off
+resumed kind.P minutes = if nat_lt minutes OFF_DUTY_INTERIM then minute.OnDuty else minute.Off
 
 abbrev pub interim : Kind → ℕ → Leads → MinuteKind
 interim k minutes ToResumed = resumed k minutes

@@ -40,3 +40,15 @@ place_of es home t = unwrap_or (option_map (λ x. x.place) (last_end es t)) home
 abbrev pub place_by : Option End → List ℕ → ℕ → List ℕ
 place_by None other t = other
 place_by (Some x) other t = if nat_le x.at t then x.place else other
+
+-- where someone is before an event that comes at a stage: a final release during an interim ended the tour where that
+-- began, and so moves them back then
+abbrev pub place_until : Stage → Event → List ℕ → List ℕ
+place_until (stage.Interim k since at) (event.Final t named) place = named
+place_until s e place = place
+
+-- where they are behind it
+abbrev pub place_behind : Event → List ℕ → List ℕ
+place_behind (event.Final t named) place = named
+place_behind (event.Other span named) place = named
+place_behind e place = place

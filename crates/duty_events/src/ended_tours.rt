@@ -1,4 +1,5 @@
-ghost use Rattle.std.specs.Prelude.{◌≡◌};
+ghost use Rattle.std.specs.Prelude.{◌≡◌, ◌<◌, ◌≤◌, IfSome};
+ghost use Rattle.duty_events.specs.Lists.{IsLawful, last_event, reached};
 ghost use Rattle.duty_events.specs.EndedTours.{begun, ended, last_tour};
 
 use crate::places::tour_end;
@@ -6,9 +7,13 @@ use crate::{Event, Stage, Tour};
 use desk_base::Minute;
 
 /// The last tour that has ended; `None` where none has. Of events that aren't a lawful list, each final release ends the
-/// tour that began last.
+/// tour that began last. In a lawful list it ends by the latest minute, and
+/// before the year 2100.
 pub fn last_tour(events: &[Event]) -> Option<Tour>
-    ensures { result ≡ last_tour events.now }
+    ensures value { result ≡ last_tour events.now }
+    ensures ends { IsLawful events.now
+        → IfSome result (λ tour. tour.end ≤ reached (last_event events.now)) }
+    ensures range { IsLawful events.now → IfSome result (λ tour. tour.end < 68_374_080) }
 {
     let mut last = None;
     let mut start = None;

@@ -1,5 +1,5 @@
 ghost use Rattle.std.specs.Prelude.{◌≡◌};
-ghost use Rattle.duty_events.specs.Places.{end_by, tour_end, place_by, place_of};
+ghost use Rattle.duty_events.specs.Places.{end_by, tour_end, place_by, place_of, place_until, place_behind};
 
 use crate::end::End;
 use crate::{Event, Stage};
@@ -55,5 +55,26 @@ fn place_by(end: &Option<End>, other: Code, at: Minute) -> Code
     match end {
         Some(end) if end.at <= at => end.place,
         _ => other,
+    }
+}
+
+/// Where someone is before an event that comes at a stage, who was at a place before: a final release during an interim
+/// moves them to its place from the interim's first minute on.
+pub fn place_until(stage: &Stage, event: &Event, place: Code) -> Code
+    ensures { result ≡ place_until stage.now event.now place }
+{
+    match (stage, event) {
+        (Stage::Interim { .. }, Event::Final(_, named)) => *named,
+        _ => place,
+    }
+}
+
+/// Where someone is behind an event, who was at a place before: where it ends a tour or other service.
+pub fn place_behind(event: &Event, place: Code) -> Code
+    ensures { result ≡ place_behind event.now place }
+{
+    match event {
+        Event::Final(_, named) | Event::Other(_, named) => *named,
+        _ => place,
     }
 }

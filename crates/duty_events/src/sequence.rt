@@ -3,12 +3,12 @@ ghost use Rattle.std.specs.Str.{bytes_eq};
 ghost use Rattle.duty_events.specs.Lists.{stage_of};
 ghost use Rattle.duty_events.specs.Allowed.{row, is_limited, behind, too_long, other_place, interim_fault, judge};
 
-use crate::{Event, EventFault, Kind, Stage};
+use crate::{Event, EventFault, INTERIM_LIMIT, Kind, Stage};
 use desk_base::{Code, Minute};
 
 /// The stage that an event leads to after events that ended in a stage, or why it is not allowed. `last` is the latest
 /// minute of the events so far. The refusals, in order: `WrongStage` where nothing of that kind follows the stage;
-/// `Behind` where it begins before `last`; `InterimTooLong` where it resumes 600 minutes or more after an interim of
+/// `Behind` where it begins before `last`; `InterimTooLong` where it resumes `INTERIM_LIMIT` minutes or more after an interim of
 /// kind `D` or `P`; `OtherPlace` where it is a final release during an interim and names another place.
 pub fn allowed(stage: Stage, event: Event, last: Option<Minute>) -> Result<Stage, EventFault>
     ensures { result ≡ judge stage event last }
@@ -89,7 +89,7 @@ fn too_long(kind: &Kind, since: Minute, at: Minute) -> Option<EventFault>
     ensures { result ≡ too_long kind.now (at - since) }
 {
     let minutes = at.number().saturating_sub(since.number());
-    if is_limited(kind) && minutes >= 600 {
+    if is_limited(kind) && minutes >= INTERIM_LIMIT {
         Some(EventFault::InterimTooLong(minutes as u32))
     } else {
         None

@@ -1,9 +1,9 @@
 ghost use Rattle.std.specs.Prelude.{◌≡◌, ◌-◌};
 ghost use Rattle.duty_events.specs.Allowed.{first_minute};
-ghost use Rattle.duty_events.specs.MinuteKind.{resumed, interim};
-ghost use Rattle.duty_events.specs.Between.{first_leads, between, kind_until, kind_behind};
+ghost use Rattle.duty_events.specs.MinuteKind.{resumed, interim, first_leads};
+ghost use Rattle.duty_events.specs.Between.{between, kind_until, kind_behind};
 
-use crate::{Event, Kind, MinuteKind};
+use crate::{Event, Kind, MinuteKind, OFF_DUTY_INTERIM};
 use desk_base::Minute;
 
 /// What the minutes from an event to the next count as, by 49 USC 21103(b).
@@ -55,7 +55,7 @@ fn resumed(kind: &Kind, minutes: u64) -> MinuteKind
 {
     match kind {
         Kind::O => MinuteKind::OnDuty,
-        Kind::D | Kind::P if minutes < 240 => MinuteKind::OnDuty,
+        Kind::D | Kind::P if minutes < OFF_DUTY_INTERIM => MinuteKind::OnDuty,
         Kind::D | Kind::P => MinuteKind::Off,
     }
 }

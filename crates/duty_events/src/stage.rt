@@ -1,6 +1,6 @@
 ghost use Rattle.std.specs.Prelude.{◌≡◌};
 ghost use Rattle.duty_events.specs.Lists.{stage_after};
-ghost use Rattle.duty_events.specs.Between.{begins};
+ghost use Rattle.duty_events.specs.MinuteKind.{begins};
 
 use crate::sequence::row;
 use crate::{Event, Kind};

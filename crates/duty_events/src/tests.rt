@@ -1,5 +1,8 @@
 //! Tables worked by hand: what is allowed after what, and where someone is.
-use crate::{Event, EventFault, Kind, MinuteKind, Stage, allowed, between, is_lawful, place};
+use crate::{
+    Event, EventFault, Kind, MinuteKind, Stage, allowed, between, is_lawful, may_follow, place,
+    place_behind, place_until,
+};
 use desk_base::{Code, Minute, Span};
 
 type Answer = Option<Result<Stage, EventFault>>;
@@ -173,6 +176,43 @@ fn lawful_lists(rt: HostRuntime) {
         assert_eq!(rt; is_lawful_tour(begun, ended), Some(wanted));
     }
     assert!(rt; is_lawful(&[]));
+}
+
+fn may_end(begun: u64, ended: u64) -> Option<bool> {
+    Some(may_follow(&Stage::Duty, &at(begun), &released(ended, b"HOM")?))
+}
+
+#[test]
+fn what_may_follow(rt: HostRuntime) {
+    let table = [
+        (20_000_000, 20_000_000, true),
+        (20_000_001, 20_000_000, false),
+        (68_374_079, 68_374_080, false),
+    ];
+    for (begun, ended, wanted) in table {
+        assert_eq!(rt; may_end(begun, ended), Some(wanted));
+    }
+}
+
+// Where someone of HOM is before a final release during an interim, behind it, and behind other service.
+fn places_by_an_event() -> Option<(Code, Code, Code)> {
+    let home = Code::read(b"HOM")?;
+    let release = released(1000, b"AWAY")?;
+    Some((
+        place_until(&in_interim(Kind::O)?, &release, home),
+        place_behind(&release, home),
+        place_behind(&service(900, 1000, b"FAR")?, home),
+    ))
+}
+
+fn away_and_far() -> Option<(Code, Code, Code)> {
+    let away = Code::read(b"AWAY")?;
+    Some((away, away, Code::read(b"FAR")?))
+}
+
+#[test]
+fn places_before_and_behind_an_event(rt: HostRuntime) {
+    assert_eq!(rt; places_by_an_event(), away_and_far());
 }
 
 fn place_at(events: &[Event], minute: u64) -> Option<Code> {

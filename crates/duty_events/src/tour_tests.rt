@@ -1,5 +1,9 @@
-//! Worked by hand: the last tour that has ended, and what the minutes before and behind an event count as.
-use crate::{Event, Kind, MinuteKind, Stage, Tour, kind_behind, kind_until, last_tour, stage_of};
+//! Worked by hand: the last tour that has ended, what the minutes before and behind an event count as, and how many are
+//! asked about.
+use crate::{
+    Asked, Event, Kind, MinuteKind, Stage, Tour, is_lawful, kind_behind, kind_until, last_tour,
+    stage_of,
+};
 use desk_base::{Code, Minute, Span};
 use std::test::Fail;
 
@@ -100,4 +104,48 @@ fn minutes_behind_an_event(rt: HostRuntime) -> Result<(), Fail> {
         assert_eq!(rt; kinds(place), Some((until, behind)));
     }
     Ok(())
+}
+
+// From a minute of 2008 on: ten hours of duty and one of limbo, a hundred minutes of other service, and a tour in whose
+// interim the list ends.
+fn a_day() -> Option<[Event; 6]> {
+    let span = Span::new(at(20_001_000)?, at(20_001_100)?)?;
+    Some([
+        Event::Duty(at(20_000_000)?),
+        Event::Relieve(at(20_000_600)?),
+        released(20_000_660, b"HOM")?,
+        Event::Other(span, Code::read(b"FAR")?),
+        Event::Duty(at(20_002_000)?),
+        interim(20_002_100)?,
+    ])
+}
+
+// How many of its minutes are worked, and how many a tour has, among so many from one on.
+fn counts(first: u64, many: u32) -> Option<(u32, u32)> {
+    let events = a_day()?;
+    if !is_lawful(&events) || first >= 1 << 28 {
+        return None;
+    }
+    Some((
+        Asked::Worked.count(&events, first, many),
+        Asked::InTour.count(&events, first, many),
+    ))
+}
+
+#[test]
+fn minutes_that_are_asked_about(rt: HostRuntime) {
+    let table = [
+        (20_000_000, 0, 0, 0),
+        (19_999_999, 2, 1, 1),
+        (20_000_590, 100, 70, 70),
+        (20_000_600, 450, 110, 60),
+        (20_001_000, 100, 100, 0),
+        (20_001_050, 1_000, 100, 50),
+        (20_002_000, 5_000, 100, 100),
+        (20_002_100, 5_000, 0, 0),
+        (0, 100_000_000, 860, 760),
+    ];
+    for (first, many, worked, in_tour) in table {
+        assert_eq!(rt; counts(first, many), Some((worked, in_tour)));
+    }
 }

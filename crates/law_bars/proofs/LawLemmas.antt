@@ -3,26 +3,22 @@ use Rattle.std.proofs.Common.{◌≡◌, ℕ, ◌+◌, ◌⊎◌, ◌==◌, ◌&
 use Rattle.std.specs.Option.{option_or, option_map}
 use Rattle.std.proofs.lemmas.Bool.{false≢true}
 use Rattle.std.proofs.lemmas.Bool.Decides.{Decides-eqb}
+use Rattle.rest_rules.specs.declared.rest.TheConstants.{REST}
+use Rattle.consecutive_days.specs.declared.run.TheConstants.{OFF_AFTER_SEVEN_DAYS, OFF_AFTER_SIX_DAYS, SIX_DAYS}
 use Rattle.duty_events.specs.declared.event.Event.{Event}
-use Rattle.duty_events.specs.declared.stage.Stage.TheVariants as stage
-use Rattle.duty_events.specs.Lists.{IsLawful, stage_of}
-use Rattle.duty_events.proofs.OffLemmas.{off-unless_worked}
+use Rattle.duty_events.specs.Lists.{IsLawful}
 use Rattle.denial_rules.specs.declared.bar.Bar.{Bar}
 use Rattle.denial_rules.specs.declared.bar.Bar.TheVariants as bar
 use Rattle.denial_rules.specs.Table.{first_some}
 use Rattle.denial_rules.proofs.TableLemmas.{both-none}
-use Rattle.rest_rules.specs.OffFrom.{works, off_from}
+use Rattle.rest_rules.specs.OffFrom.{works, off_from, OffFromInWords}
 use Rattle.rest_rules.specs.Excess.{excess}
-use Rattle.rest_rules.specs.Rest.{rest_ok, rest_end, RestOk}
-use Rattle.rest_rules.proofs.OffFromLemmas.{off_from-is}
-use Rattle.rest_rules.proofs.RestLemmas.{rest_ok-decides}
+use Rattle.rest_rules.specs.Rest.{rest_ok, rest_end, RestOk, RestInWords}
 use Rattle.month_hours.specs.Plan.{plan_of}
-use Rattle.month_hours.specs.Over.{over_month, over_limbo}
-use Rattle.month_hours.proofs.OverLemmas.{over_month-none, over_limbo-none}
+use Rattle.month_hours.specs.Over.{over_month, over_limbo, HoursInWords, LimboInWords}
 use Rattle.consecutive_days.specs.Run.{run_days, need}
-use Rattle.consecutive_days.specs.Days.{days_ok}
-use Rattle.consecutive_days.proofs.DaysLemmas.{days_ok-decides}
-use Rattle.law_bars.specs.Law.{rest_row, more_rest_row, undisturbed_row, six_days_row, seven_days_row, month_row, limbo_row, law_rows, law_bar, WasOffTenHours, KeepsLaw}
+use Rattle.consecutive_days.specs.Days.{days_ok, DaysInWords}
+use Rattle.law_bars.specs.Law.{rest_row, more_rest_row, undisturbed_row, six_days_row, seven_days_row, month_row, limbo_row, law_rows, law_bar, KeepsLaw, LawInWords}
 
 first_some-append : (xs ys : List (Option Bar)) → first_some (xs ++ ys) ≡ option_or (first_some xs) (first_some ys)
 first_some-append [] ys = refl
@@ -49,7 +45,7 @@ kept-none false held = (λ is. cc, λ is. absurd (false≢true is))
 
 -- a row doesn't hold just where its section is kept
 rest_row-none : (es : List Event) (report : ℕ) → (rest_row es report ≡ None → rest_ok es report 0 ≡ true) × (rest_ok es report 0 ≡ true → rest_row es report ≡ None)
-rest_row-none es report = kept-none (rest_ok es report 0) (bar.Rest (off_from es + 600))
+rest_row-none es report = kept-none (rest_ok es report 0) (bar.Rest (off_from es + REST))
 
 more_rest_row-none : (es : List Event) (report : ℕ) → (more_rest_row es report ≡ None → rest_ok es report (excess es) ≡ true) × (rest_ok es report (excess es) ≡ true → more_rest_row es report ≡ None)
 more_rest_row-none es report = kept-none (rest_ok es report (excess es)) (bar.MoreRest (rest_end es))
@@ -58,29 +54,29 @@ undisturbed_row-none : (es : List Event) (moment : ℕ) → (undisturbed_row es 
 undisturbed_row-none es moment = kept-none (rest_ok es moment (excess es)) (bar.Undisturbed (rest_end es))
 
 -- where the time off is wanting, six days need it or seven
-need-six_or_seven : (run : ℕ) → ((need run == 0) ≡ true) ⊎ (((need run == 2_880) ≡ true) ⊎ ((need run == 4_320) ≡ true))
-need-six_or_seven run = go (nat_lt run 6) (run == 6)
+need-six_or_seven : (run : ℕ) → ((need run == 0) ≡ true) ⊎ (((need run == OFF_AFTER_SIX_DAYS) ≡ true) ⊎ ((need run == OFF_AFTER_SEVEN_DAYS) ≡ true))
+need-six_or_seven run = go (nat_lt run SIX_DAYS) (run == SIX_DAYS)
   where
-    go : (few six : Bool) → (((if few then 0 else (if six then 2_880 else 4_320)) == 0) ≡ true)
-        ⊎ ((((if few then 0 else (if six then 2_880 else 4_320)) == 2_880) ≡ true) ⊎ (((if few then 0 else (if six then 2_880 else 4_320)) == 4_320) ≡ true))
+    go : (few six : Bool) → (((if few then 0 else (if six then OFF_AFTER_SIX_DAYS else OFF_AFTER_SEVEN_DAYS)) == 0) ≡ true)
+        ⊎ ((((if few then 0 else (if six then OFF_AFTER_SIX_DAYS else OFF_AFTER_SEVEN_DAYS)) == OFF_AFTER_SIX_DAYS) ≡ true) ⊎ (((if few then 0 else (if six then OFF_AFTER_SIX_DAYS else OFF_AFTER_SEVEN_DAYS)) == OFF_AFTER_SEVEN_DAYS) ≡ true))
     go true six = inl refl
     go false true = inr (inl refl)
     go false false = inr (inr refl)
 
-days-none : (es : List Event) (home : List ℕ) (report : ℕ) → six_days_row es home report ≡ None → seven_days_row es home report ≡ None → days_ok es home report ≡ true
-days-none es home report six seven = go (days_ok es home report) (need-six_or_seven (run_days es)) refl six seven
+days-none : DaysInWords → (es : List Event) (home : List ℕ) (report : ℕ) → six_days_row es home report ≡ None → seven_days_row es home report ≡ None → days_ok es home report ≡ true
+days-none days es home report six seven = go (days_ok es home report) (need-six_or_seven (run_days es)) refl six seven
   where
     wanting : (b : Bool) → b ≡ true → (held : Bar) → (if not false && b then Some held else None) ≡ None → false ≡ true
     wanting true is held none = cc
     wanting false is held none = is
 
-    go : (ok : Bool) → ((need (run_days es) == 0) ≡ true) ⊎ (((need (run_days es) == 2_880) ≡ true) ⊎ ((need (run_days es) == 4_320) ≡ true)) → days_ok es home report ≡ ok
-        → (if not ok && (need (run_days es) == 2_880) then Some (bar.SixDays (run_days es) (need (run_days es))) else None) ≡ None
-        → (if not ok && (need (run_days es) == 4_320) then Some (bar.SevenDays (run_days es) (need (run_days es))) else None) ≡ None → ok ≡ true
+    go : (ok : Bool) → ((need (run_days es) == 0) ≡ true) ⊎ (((need (run_days es) == OFF_AFTER_SIX_DAYS) ≡ true) ⊎ ((need (run_days es) == OFF_AFTER_SEVEN_DAYS) ≡ true)) → days_ok es home report ≡ ok
+        → (if not ok && (need (run_days es) == OFF_AFTER_SIX_DAYS) then Some (bar.SixDays (run_days es) (need (run_days es))) else None) ≡ None
+        → (if not ok && (need (run_days es) == OFF_AFTER_SEVEN_DAYS) then Some (bar.SevenDays (run_days es) (need (run_days es))) else None) ≡ None → ok ≡ true
     go true which is six seven = refl
-    go false (inl zero) is six seven = sym is ∙ (days_ok-decides es home report).1 (inl ((Decides-eqb (need (run_days es)) 0).0 zero))
-    go false (inr (inl need_six)) is six seven = wanting (need (run_days es) == 2_880) need_six _ six
-    go false (inr (inr need_seven)) is six seven = wanting (need (run_days es) == 4_320) need_seven _ seven
+    go false (inl zero) is six seven = sym is ∙ (days es home report).1 (inl ((Decides-eqb (need (run_days es)) 0).0 zero))
+    go false (inr (inl need_six)) is six seven = wanting (need (run_days es) == OFF_AFTER_SIX_DAYS) need_six _ six
+    go false (inr (inr need_seven)) is six seven = wanting (need (run_days es) == OFF_AFTER_SEVEN_DAYS) need_seven _ seven
 
 days-kept : (es : List Event) (home : List ℕ) (report : ℕ) → days_ok es home report ≡ true → (six_days_row es home report ≡ None) × (seven_days_row es home report ≡ None)
 days-kept es home report ok = (rw ok refl, rw ok refl)
@@ -90,10 +86,9 @@ option_map-none f None = (λ is. refl, λ is. refl)
 option_map-none f (Some x) = (λ is. cc, λ is. cc)
 
 -- no row holds just where each section is kept
-pub law_bar-free : (es : List Event) (home : List ℕ) (moment report duty limbo : ℕ) → IsLawful es
-    → (law_bar es home moment report duty limbo ≡ None → KeepsLaw es home moment report duty limbo) × (KeepsLaw es home moment report duty limbo → law_bar es home moment report duty limbo ≡ None)
+pub law_bar-free : RestInWords → DaysInWords → HoursInWords → LimboInWords → LawInWords
 unfolding law_bar
-law_bar-free es home moment report duty limbo lawful = (kept, none)
+law_bar-free rested had worked waited es home moment report duty limbo lawful = (kept, none)
   where
     kept : first_some (law_rows es home moment report duty limbo) ≡ None → KeepsLaw es home moment report duty limbo
     kept is =
@@ -105,46 +100,41 @@ law_bar-free es home moment report duty limbo lawful = (kept, none)
         let month = both-none (month_row es report duty limbo) _ seven.1 in
         let waiting = both-none (limbo_row es report duty limbo) [] month.1 in
         let plan = plan_of report duty limbo in record {
-          rest = (rest_ok-decides es lawful report 0).0 ((rest_row-none es report).0 rest.0);
-          more_rest = (rest_ok-decides es lawful report (excess es)).0 ((more_rest_row-none es report).0 more.0);
-          undisturbed = (rest_ok-decides es lawful moment (excess es)).0 ((undisturbed_row-none es moment).0 undisturbed.0);
-          days = (days_ok-decides es home report).0 (days-none es home report six.0 seven.0);
-          month = (over_month-none es plan).0 ((option_map-none _ (over_month es plan)).0 month.0);
-          waiting = (over_limbo-none es plan).0 ((option_map-none _ (over_limbo es plan)).0 waiting.0);
+          rest = (rested es report 0 lawful).0 ((rest_row-none es report).0 rest.0);
+          more_rest = (rested es report (excess es) lawful).0 ((more_rest_row-none es report).0 more.0);
+          undisturbed = (rested es moment (excess es) lawful).0 ((undisturbed_row-none es moment).0 undisturbed.0);
+          days = (had es home report).0 (days-none had es home report six.0 seven.0);
+          month = (worked es plan).0 ((option_map-none _ (over_month es plan)).0 month.0);
+          waiting = (waited es plan).0 ((option_map-none _ (over_limbo es plan)).0 waiting.0);
         }
 
     none : KeepsLaw es home moment report duty limbo → first_some (law_rows es home moment report duty limbo) ≡ None
     none keeps =
-        let days = days-kept es home report ((days_ok-decides es home report).1 keeps.days) in
+        let days = days-kept es home report ((had es home report).1 keeps.days) in
         let plan = plan_of report duty limbo in
         rw (
-          (rest_row-none es report).1 ((rest_ok-decides es lawful report 0).1 keeps.rest),
-          (more_rest_row-none es report).1 ((rest_ok-decides es lawful report (excess es)).1 keeps.more_rest),
-          (undisturbed_row-none es moment).1 ((rest_ok-decides es lawful moment (excess es)).1 keeps.undisturbed),
+          (rest_row-none es report).1 ((rested es report 0 lawful).1 keeps.rest),
+          (more_rest_row-none es report).1 ((rested es report (excess es) lawful).1 keeps.more_rest),
+          (undisturbed_row-none es moment).1 ((rested es moment (excess es) lawful).1 keeps.undisturbed),
           days.0,
           days.1,
-          (over_month-none es plan).1 keeps.month,
-          (over_limbo-none es plan).1 keeps.waiting,
+          (worked es plan).1 keeps.month,
+          (waited es plan).1 keeps.waiting,
         ) refl
 
 is_none : (o : Option Bar) → IsNone o → o ≡ None
 is_none None none = refl
 is_none (Some b) none = cc
 
-pub free-of : (o : Option Bar) (es : List Event) (home : List ℕ) (moment report duty limbo : ℕ) → IsLawful es → o ≡ law_bar es home moment report duty limbo
+pub free-of : LawInWords → (o : Option Bar) (es : List Event) (home : List ℕ) (moment report duty limbo : ℕ) → IsLawful es → o ≡ law_bar es home moment report duty limbo
     → (IsNone o → KeepsLaw es home moment report duty limbo) × (KeepsLaw es home moment report duty limbo → IsNone o)
-free-of o es home moment report duty limbo lawful is =
-    let free = law_bar-free es home moment report duty limbo lawful in (
+free-of kept o es home moment report duty limbo lawful is =
+    let free = kept es home moment report duty limbo lawful in (
       λ none. free.0 (sym is ∙ is_none o none),
       λ keeps. subst IsNone (sym (is ∙ free.1 keeps)) refl,
     )
 
--- whom no section bars was off in each of the ten hours before
-pub law_bar-none : (es : List Event) (home : List ℕ) (moment report duty limbo : ℕ) → IsLawful es → stage_of es ≡ stage.Off
-    → law_bar es home moment report duty limbo ≡ None → WasOffTenHours es report
-law_bar-none es home moment report duty limbo lawful off none t early late =
-    off-unless_worked es lawful off t (go ((law_bar-free es home moment report duty limbo lawful).0 none).rest)
-  where
-    go : RestOk es report 0 → works es t ≡ false
-    go (inl all) = all t
-    go (inr has) = (off_from-is es lawful).after t (omega (arith, has.ten_hours, late))
+-- who has rested did no work in the ten hours before
+pub rested-not_worked : OffFromInWords → (es : List Event) (at t : ℕ) → IsLawful es → RestOk es at 0 → t < at → at ≤ t + REST → works es t ≡ false
+rested-not_worked off es at t lawful (inl all) early late = all t
+rested-not_worked off es at t lawful (inr has) early late = (off es lawful).after t (omega (arith, has.ten_hours, late))

@@ -2,7 +2,10 @@
 -- of the call, and the job: its report, so many minutes on duty from there on, and so many of limbo behind them.
 use Rattle.std.specs.Prelude.{◌≡◌, ℕ, ◌+◌, ◌<◌, ◌≤◌, ◌==◌, true, ◌&&◌, not, Option, None, Some, if◌then◌else◌, List, [], ◌∷◌}
 use Rattle.std.specs.Option.{option_map}
+use Rattle.rest_rules.specs.declared.rest.TheConstants.{REST}
+use Rattle.consecutive_days.specs.declared.run.TheConstants.{OFF_AFTER_SEVEN_DAYS, OFF_AFTER_SIX_DAYS}
 use Rattle.duty_events.specs.declared.event.Event.{Event}
+use Rattle.duty_events.specs.Lists.{IsLawful}
 use Rattle.denial_rules.specs.declared.bar.Bar.{Bar}
 use Rattle.denial_rules.specs.declared.bar.Bar.TheVariants as bar
 use Rattle.denial_rules.specs.Table.{first_some}
@@ -16,7 +19,7 @@ use Rattle.consecutive_days.specs.Days.{days_ok, DaysOk}
 
 -- 21103(a)(3): ten hours off before the report; keeps the minute ten hours after the last worked one
 abbrev pub rest_row : List Event → ℕ → Option Bar
-rest_row es report = if rest_ok es report 0 then None else Some (bar.Rest (off_from es + 600))
+rest_row es report = if rest_ok es report 0 then None else Some (bar.Rest (off_from es + REST))
 
 -- 21103(c)(4): as much more as the last tour had over twelve hours; keeps the end of rest. Where a tour closed with no
 -- minutes the person may have rested only later than the minute that either row keeps
@@ -31,11 +34,11 @@ undisturbed_row es moment = if rest_ok es moment (excess es) then None else Some
 -- keeps how many days these are, and how many minutes they need
 abbrev pub six_days_row : List Event → List ℕ → ℕ → Option Bar
 six_days_row es home report =
-    if not (days_ok es home report) && (need (run_days es) == 2_880) then Some (bar.SixDays (run_days es) (need (run_days es))) else None
+    if not (days_ok es home report) && (need (run_days es) == OFF_AFTER_SIX_DAYS) then Some (bar.SixDays (run_days es) (need (run_days es))) else None
 
 abbrev pub seven_days_row : List Event → List ℕ → ℕ → Option Bar
 seven_days_row es home report =
-    if not (days_ok es home report) && (need (run_days es) == 4_320) then Some (bar.SevenDays (run_days es) (need (run_days es))) else None
+    if not (days_ok es home report) && (need (run_days es) == OFF_AFTER_SEVEN_DAYS) then Some (bar.SevenDays (run_days es) (need (run_days es))) else None
 
 -- 21103(a)(1): 276 hours in a month; keeps the first month of the job that would have more with it, and its total
 abbrev pub month_row : List Event → ℕ → ℕ → ℕ → Option Bar
@@ -71,6 +74,12 @@ pub record KeepsLaw (es : List Event) (home : List ℕ) (moment report duty limb
   pub month : KeepsHours es (plan_of report duty limbo)
   pub waiting : KeepsLimbo es (plan_of report duty limbo)
 
+-- there is no bar just where the law is kept
+abbrev pub LawInWords : Type 0
+LawInWords = (es : List Event) (home : List ℕ) (moment report duty limbo : ℕ) → IsLawful es
+    → (law_bar es home moment report duty limbo ≡ None → KeepsLaw es home moment report duty limbo)
+    × (KeepsLaw es home moment report duty limbo → law_bar es home moment report duty limbo ≡ None)
+
 -- each of the ten hours before a minute is off
 abbrev pub WasOffTenHours : List Event → ℕ → Type 0
-WasOffTenHours es at = (t : ℕ) → t < at → at ≤ t + 600 → is_off es t ≡ true
+WasOffTenHours es at = (t : ℕ) → t < at → at ≤ t + REST → is_off es t ≡ true

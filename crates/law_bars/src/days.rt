@@ -4,7 +4,7 @@ ghost use Rattle.duty_events.specs.Lists.{IsLawful};
 ghost use Rattle.denial_rules.specs.Table.{first_some};
 ghost use Rattle.law_bars.specs.Law.{six_days_row, seven_days_row};
 
-use consecutive_days::{days_ok, need, run_days};
+use consecutive_days::{OFF_AFTER_SEVEN_DAYS, OFF_AFTER_SIX_DAYS, days_ok, need, run_days};
 use denial_rules::Bar;
 use desk_base::{Code, Minute};
 use duty_events::Event;
@@ -25,12 +25,12 @@ pub(crate) fn days_bar(events: &[Event], home: Code, report: Minute) -> Option<B
 // The bar of so many days in a row that need so many minutes off.
 fn bar_of(run: u32, need: u32) -> Option<Bar>
     ensures { result ≡ first_some (
-        (if need == 2_880 then Some (bar.SixDays run need) else None)
-        ∷ (if need == 4_320 then Some (bar.SevenDays run need) else None) ∷ []) }
+        (if need == OFF_AFTER_SIX_DAYS then Some (bar.SixDays run need) else None)
+        ∷ (if need == OFF_AFTER_SEVEN_DAYS then Some (bar.SevenDays run need) else None) ∷ []) }
 {
     match need {
-        2_880 => Some(Bar::SixDays { run, need }),
-        4_320 => Some(Bar::SevenDays { run, need }),
+        OFF_AFTER_SIX_DAYS => Some(Bar::SixDays { run, need }),
+        OFF_AFTER_SEVEN_DAYS => Some(Bar::SevenDays { run, need }),
         _ => None,
     }
 }

@@ -3,11 +3,30 @@ ghost use Rattle.std.specs.Prelude.{◌≡◌, ℕ, None, List};
 ghost use Rattle.duty_events.specs.declared.event.Event.{Event};
 ghost use Rattle.duty_events.specs.declared.stage.Stage.TheVariants as stage;
 ghost use Rattle.duty_events.specs.Lists.{IsLawful, stage_of};
-ghost use Rattle.law_bars.specs.Law.{law_bar, WasOffTenHours};
+ghost use Rattle.law_bars.specs.Law.{law_bar, LawInWords, WasOffTenHours};
 
-/// Whom no bar of the law keeps from a job was off in each of the 600 minutes before its report, 21103(a)(3). It does
-/// nothing: its clause is the law.
+use consecutive_days::days_in_words;
+use duty_events::a_minute_that_is_not_worked_is_off;
+use month_hours::hours_in_words;
+use rest_rules::rest_in_words;
+
+/// No section bars someone just where each is kept, by any lawful list of events. It only names the laws that it rests on:
+/// its clause is the law.
+pub fn no_bar_where_the_law_is_kept()
+    ensures { LawInWords }
+{
+    rest_in_words();
+    days_in_words();
+    hours_in_words();
+}
+
+/// Whom no bar of the law keeps from a job was off in each minute of the ten hours before its report, 21103(a)(3). It only
+/// names the laws that it rests on: its clause is the law.
 pub fn who_is_rested_was_off_ten_hours()
     ensures { (es : List Event) (home : List ℕ) (moment report duty limbo : ℕ) → IsLawful es → stage_of es ≡ stage.Off
         → law_bar es home moment report duty limbo ≡ None → WasOffTenHours es report }
-{}
+{
+    no_bar_where_the_law_is_kept();
+    rest_in_words();
+    a_minute_that_is_not_worked_is_off();
+}

@@ -7,7 +7,7 @@ ghost use Rattle.law_bars.specs.Law.{rest_row, more_rest_row, undisturbed_row};
 use denial_rules::Bar;
 use desk_base::Minute;
 use duty_events::Event;
-use rest_rules::{excess, off_from, rest_end, rest_ok};
+use rest_rules::{REST, excess, off_from, rest_end, rest_ok};
 
 /// The first bar of rest at a moment, from a job with this report.
 pub(crate) fn rest_bar(events: &[Event], moment: Minute, report: Minute) -> Option<Bar>
@@ -17,7 +17,7 @@ pub(crate) fn rest_bar(events: &[Event], moment: Minute, report: Minute) -> Opti
         ∷ more_rest_row events.now report ∷ undisturbed_row events.now moment ∷ []) }
 {
     if !rest_ok(events, report, 0) {
-        return Some(Bar::Rest(off_from(events).after(600)));
+        return Some(Bar::Rest(off_from(events).after(REST)));
     }
     let excess = excess(events);
     if !rest_ok(events, report, excess) {

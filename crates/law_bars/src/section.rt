@@ -5,6 +5,7 @@ ghost use Rattle.law_bars.specs.Law.{law_bar, KeepsLaw};
 
 use crate::days::days_bar;
 use crate::hours::hours_bar;
+use crate::laws::no_bar_where_the_law_is_kept;
 use crate::rest::rest_bar;
 use denial_rules::Bar;
 use desk_base::{Code, Minute};
@@ -28,6 +29,7 @@ pub fn law_bar(
     ensures value { result ≡ law_bar events.now home moment report duty limbo }
     ensures free { IsNone result ↔ KeepsLaw events.now home moment report duty limbo }
 {
+    no_bar_where_the_law_is_kept();
     if let Some(bar) = rest_bar(events, moment, report) {
         return Some(bar);
     }

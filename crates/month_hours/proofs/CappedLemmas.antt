@@ -1,36 +1,36 @@
 -- The limbo minutes that count against a limit, one event more.
-use Rattle.std.proofs.Common.{◌≡◌, ℕ, ◌+◌, ◌-◌, ◌<◌, ◌≤◌, ◌^◌, inl, inr, Bool, true, false, cond, ◌&&◌, ◌||◌, nat_le, min, Option, None, Some, List, [], ◌∷◌, ◌++◌, take, length, get_or, refl, sym, subst, ap, ◌∙◌, arith}
+use Rattle.std.proofs.Common.{◌≡◌, ℕ, ◌+◌, ◌-◌, ◌<◌, ◌≤◌, inl, inr, Bool, true, false, cond, ◌&&◌, ◌||◌, nat_le, min, Option, None, Some, List, [], ◌∷◌, ◌++◌, refl, sym, ◌∙◌, arith}
 use Rattle.std.proofs.Math.Bool.{or-false}
 use Rattle.std.proofs.lemmas.Bool.{cases_lt, and_left, and_right, le-leb, lt-leb}
+use Rattle.duty_events.specs.declared.limits.TheConstants.{DUTY_LIMIT}
 use Rattle.duty_events.specs.declared.event.Event.{Event}
 use Rattle.duty_events.specs.declared.minute_kind.MinuteKind.{MinuteKind}
 use Rattle.duty_events.specs.declared.minute_kind.MinuteKind.TheVariants as minute
 use Rattle.duty_events.specs.Allowed.{first_minute, last_minute}
 use Rattle.duty_events.specs.Lists.{IsNext, IsLawful, stage_of, last_event, reached}
 use Rattle.duty_events.specs.MinuteKind.{kind_of}
-use Rattle.duty_events.specs.Between.{between}
+use Rattle.duty_events.specs.Between.{between, kind_until}
 use Rattle.duty_events.specs.Minutes.{minutes_where, is_within}
-use Rattle.duty_events.specs.Tours.{is_in_tour, tour_minutes}
+use Rattle.duty_events.specs.Tours.{is_in_tour, sum_so_far, more_until}
 use Rattle.duty_events.proofs.CountLemmas.{is_within-before, is_within-in, is_within-behind, minutes_where-or, minutes_where-never, minutes_where-within_if, minutes_where-most}
-use Rattle.duty_events.proofs.ListLemmas.{take-push, last_event-next, lawful-take, lawful-here}
-use Rattle.duty_events.proofs.EventLemmas.{follows-reached, kind_of-stays, kind_of-between, kind_of-first}
+use Rattle.duty_events.proofs.EventLemmas.{follows-reached, kind_of-stays, kind_of-until}
 use Rattle.duty_events.proofs.PointLemmas.{asks-late, asks-behind}
-use Rattle.duty_events.proofs.TourLemmas.{tour_sum, tour_sum-push, tour_sum-most, tour_minutes-early, tour_minutes-middle, more_until}
+use Rattle.duty_events.proofs.TourLemmas.{tour_minutes-early, tour_minutes-middle}
 use Rattle.month_hours.specs.Capped.{is_limbo, is_capped, capped_minutes}
-use Rattle.month_hours.specs.Steps.{capped_between, sum_after}
+use Rattle.month_hours.specs.Steps.{capped_between}
 
 -- the capped minutes between the last event and one more
 abbrev capped_from : Option Event → Event → ℕ → ℕ → Bool
 capped_from None e sum t = false
-capped_from (Some p) e sum t = is_within (last_minute p + (720 - sum)) (first_minute e) t && is_limbo (between p e)
+capped_from (Some p) e sum t = is_within (last_minute p + (DUTY_LIMIT - sum)) (first_minute e) t && is_limbo (between p e)
 
 capped_from-before : (o : Option Event) (e : Event) (sum t : ℕ) → t < reached o → capped_from o e sum t ≡ false
 capped_from-before None e sum t before = refl
-capped_from-before (Some p) e sum t before = and_left _ _ (is_within-before (last_minute p + (720 - sum)) (first_minute e) t (omega (arith, before)))
+capped_from-before (Some p) e sum t before = and_left _ _ (is_within-before (last_minute p + (DUTY_LIMIT - sum)) (first_minute e) t (omega (arith, before)))
 
 capped_from-behind : (o : Option Event) (e : Event) (sum t : ℕ) → first_minute e ≤ t → capped_from o e sum t ≡ false
 capped_from-behind None e sum t behind = refl
-capped_from-behind (Some p) e sum t behind = and_left _ _ (is_within-behind (last_minute p + (720 - sum)) (first_minute e) t behind)
+capped_from-behind (Some p) e sum t behind = and_left _ _ (is_within-behind (last_minute p + (DUTY_LIMIT - sum)) (first_minute e) t behind)
 
 -- from a list's latest minute on none is capped
 capped-late : (es : List Event) → IsLawful es → (t : ℕ) → reached (last_event es) ≤ t → is_capped es t ≡ false
@@ -46,78 +46,62 @@ unfolding is_capped
 capped-behind es e lawful next t behind = and_left _ _ (asks-behind is_limbo (refl, refl) refl es e lawful next t behind)
 
 -- a minute between two events of a limbo that starts with so many minutes summed
-passes_720 : (sum from to t : ℕ) → from ≤ t → t < to → nat_le 720 (sum + (min to t - from)) ≡ is_within (from + (720 - sum)) to t
-passes_720 sum from to t low high = elim (cases_lt t (from + (720 - sum))) [
-  | inl early ↦ lt-leb 720 (sum + (min to t - from)) (omega (arith, low, high, early)) ∙ sym (is_within-before (from + (720 - sum)) to t early)
-  | inr late ↦ le-leb 720 (sum + (min to t - from)) (omega (arith, low, high, late)) ∙ sym (is_within-in (from + (720 - sum)) to t late high)
+passes_720 : (sum from to t : ℕ) → from ≤ t → t < to → nat_le DUTY_LIMIT (sum + (min to t - from)) ≡ is_within (from + (DUTY_LIMIT - sum)) to t
+passes_720 sum from to t low high = elim (cases_lt t (from + (DUTY_LIMIT - sum))) [
+  | inl early ↦ lt-leb DUTY_LIMIT (sum + (min to t - from)) (omega (arith, low, high, early)) ∙ sym (is_within-before (from + (DUTY_LIMIT - sum)) to t early)
+  | inr late ↦ le-leb DUTY_LIMIT (sum + (min to t - from)) (omega (arith, low, high, late)) ∙ sym (is_within-in (from + (DUTY_LIMIT - sum)) to t late high)
 ]
 
 capped_kind : (k : MinuteKind) (sum from to t : ℕ) → from ≤ t → t < to
-    → (is_limbo k && nat_le 720 (sum + cond (is_in_tour k) (min to t - from) 0)) ≡ (is_within (from + (720 - sum)) to t && is_limbo k)
-capped_kind minute.Limbo sum from to t low high = passes_720 sum from to t low high ∙ sym (and-true (is_within (from + (720 - sum)) to t))
+    → (is_limbo k && nat_le DUTY_LIMIT (sum + cond (is_in_tour k) (min to t - from) 0)) ≡ (is_within (from + (DUTY_LIMIT - sum)) to t && is_limbo k)
+capped_kind minute.Limbo sum from to t low high = passes_720 sum from to t low high ∙ sym (and-true (is_within (from + (DUTY_LIMIT - sum)) to t))
   where
     and-true : (b : Bool) → (b && true) ≡ b
     and-true true = refl
     and-true false = refl
-capped_kind minute.OnDuty sum from to t low high = sym (and_right (is_within (from + (720 - sum)) to t) false refl)
-capped_kind minute.Other sum from to t low high = sym (and_right (is_within (from + (720 - sum)) to t) false refl)
-capped_kind minute.Off sum from to t low high = sym (and_right (is_within (from + (720 - sum)) to t) false refl)
-capped_kind minute.Open sum from to t low high = sym (and_right (is_within (from + (720 - sum)) to t) false refl)
+capped_kind k sum from to t low high = sym (and_right (is_within (from + (DUTY_LIMIT - sum)) to t) false refl)
 
-capped-middle : (es : List Event) (e : Event) → IsLawful es → IsNext es e → (o : Option Event) → last_event es ≡ o → (t : ℕ) → reached o ≤ t → t < first_minute e
-    → is_capped (es ++ e ∷ []) t ≡ capped_from o e (tour_sum es) t
+capped-middle : (es : List Event) (e : Event) → IsLawful es → IsNext es e → (t : ℕ) → reached (last_event es) ≤ t → t < first_minute e
+    → is_capped (es ++ e ∷ []) t ≡ capped_from (last_event es) e (sum_so_far es) t
 unfolding is_capped
-capped-middle es e lawful next None last t from to = rw (kind_of-first es e lawful next last t to) refl
-capped-middle es e lawful next (Some p) last t from to =
-    let late = subst (λ o. reached o ≤ t) (sym last) from in
-    let minutes : tour_minutes (es ++ e ∷ []) t ≡ tour_sum es + more_until (Some p) e t =
-    tour_minutes-middle es e lawful next t late to ∙ ap (λ o. tour_sum es + more_until o e t) last in
-    rw (kind_of-between es p e lawful next last t from to, minutes) (capped_kind (between p e) (tour_sum es) (last_minute p) (first_minute e) t from to)
+capped-middle es e lawful next t from to = rw (kind_of-until es e lawful next t from to, tour_minutes-middle es e lawful next t from to) (go (last_event es) from)
+  where
+    go : (o : Option Event) → reached o ≤ t → (is_limbo (kind_until o e) && nat_le DUTY_LIMIT (sum_so_far es + more_until o e t)) ≡ capped_from o e (sum_so_far es) t
+    go None from = refl
+    go (Some p) from = capped_kind (between p e) (sum_so_far es) (last_minute p) (first_minute e) t from to
 
 capped-push : (es : List Event) (e : Event) → IsLawful es → IsNext es e → (t : ℕ)
-    → is_capped (es ++ e ∷ []) t ≡ (capped_from (last_event es) e (tour_sum es) t || is_capped es t)
+    → is_capped (es ++ e ∷ []) t ≡ (capped_from (last_event es) e (sum_so_far es) t || is_capped es t)
 capped-push es e lawful next t =
     let o = last_event es in
     let order = follows-reached o (stage_of es) e next in
     elim (cases_lt t (reached o)) [
-      | inl early ↦ rw (capped_from-before o e (tour_sum es) t early) (capped-early es e lawful next t early)
+      | inl early ↦ rw (capped_from-before o e (sum_so_far es) t early) (capped-early es e lawful next t early)
       | inr from ↦ elim (cases_lt t (first_minute e)) [
-        | inl to ↦ rw (capped-late es lawful t from) (capped-middle es e lawful next o refl t from to ∙ sym (or-false (capped_from o e (tour_sum es) t)))
-        | inr behind ↦ rw (capped_from-behind o e (tour_sum es) t behind, capped-late es lawful t from) (capped-behind es e lawful next t behind)
+        | inl to ↦ rw (capped-late es lawful t from) (capped-middle es e lawful next t from to ∙ sym (or-false (capped_from o e (sum_so_far es) t)))
+        | inr behind ↦ rw (capped_from-behind o e (sum_so_far es) t behind, capped-late es lawful t from) (capped-behind es e lawful next t behind)
       ]
     ]
 
-apart : (es : List Event) (e : Event) → IsLawful es → (t : ℕ) → (capped_from (last_event es) e (tour_sum es) t && is_capped es t) ≡ false
+apart : (es : List Event) (e : Event) → IsLawful es → (t : ℕ) → (capped_from (last_event es) e (sum_so_far es) t && is_capped es t) ≡ false
 apart es e lawful t = elim (cases_lt t (reached (last_event es))) [
-  | inl early ↦ and_left _ _ (capped_from-before (last_event es) e (tour_sum es) t early)
-  | inr from ↦ and_right (capped_from (last_event es) e (tour_sum es) t) _ (capped-late es lawful t from)
+  | inl early ↦ and_left _ _ (capped_from-before (last_event es) e (sum_so_far es) t early)
+  | inr from ↦ and_right (capped_from (last_event es) e (sum_so_far es) t) _ (capped-late es lawful t from)
 ]
 
 count-from : (o : Option Event) (e : Event) (sum x n : ℕ) → minutes_where (capped_from o e sum) x n ≡ capped_between o e sum x n
 count-from None e sum x n = minutes_where-never x n
-count-from (Some p) e sum x n = minutes_where-within_if (is_limbo (between p e)) (last_minute p + (720 - sum)) (first_minute e) x n
+count-from (Some p) e sum x n = minutes_where-within_if (is_limbo (between p e)) (last_minute p + (DUTY_LIMIT - sum)) (first_minute e) x n
 
 pub capped_minutes-push : (es : List Event) (e : Event) → IsLawful es → IsNext es e → (x n : ℕ)
-    → capped_minutes (es ++ e ∷ []) x n ≡ capped_minutes es x n + capped_between (last_event es) e (tour_sum es) x n
+    → capped_minutes (es ++ e ∷ []) x n ≡ capped_minutes es x n + capped_between (last_event es) e (sum_so_far es) x n
 unfolding capped_minutes
 capped_minutes-push es e lawful next x n =
     omega (
       arith,
-      minutes_where-or (capped_from (last_event es) e (tour_sum es)) (is_capped es) (is_capped (es ++ e ∷ [])) (capped-push es e lawful next) (apart es e lawful) x n,
-      count-from (last_event es) e (tour_sum es) x n,
+      minutes_where-or (capped_from (last_event es) e (sum_so_far es)) (is_capped es) (is_capped (es ++ e ∷ [])) (capped-push es e lawful next) (apart es e lawful) x n,
+      count-from (last_event es) e (sum_so_far es) x n,
     )
-
-capped_minutes-next : (es : List Event) (i : ℕ) (e : Event) → IsLawful es → i < length es → e ≡ get_or es i e → (x n : ℕ)
-    → capped_minutes (take (i + 1) es) x n ≡ capped_minutes (take i es) x n + capped_between (last_event (take i es)) e (tour_sum (take i es)) x n
-capped_minutes-next es i e lawful within is x n =
-    ap (λ xs. capped_minutes xs x n) (take-push es i e within is) ∙ capped_minutes-push (take i es) e (lawful-take es i lawful) (lawful-here es i e lawful within is) x n
-
--- the same for a total so far and what is added to it
-pub capped_minutes-step : (es : List Event) (i : ℕ) (e : Event) (before : Option Event) (sum x n total between : ℕ) → IsLawful es → i < length es → e ≡ get_or es i e
-    → before ≡ last_event (take i es) → sum ≡ tour_sum (take i es) → total ≡ capped_minutes (take i es) x n → between ≡ capped_between before e sum x n
-    → total + between ≡ capped_minutes (take (i + 1) es) x n
-capped_minutes-step es i e before sum x n total between lawful within is last sum_is total_is between_is =
-    rw (total_is, between_is, last, sum_is) (sym (capped_minutes-next es i e lawful within is x n))
 
 pub capped_minutes-most : (es : List Event) (x n : ℕ) → capped_minutes es x n ≤ n
 unfolding capped_minutes
@@ -126,14 +110,3 @@ capped_minutes-most es x n = minutes_where-most (is_capped es) x n
 pub capped_minutes-nil : (x n : ℕ) → capped_minutes [] x n ≡ 0
 unfolding capped_minutes is_capped kind_of
 capped_minutes-nil x n = minutes_where-never x n
-
-pub tour_sum-next : (es : List Event) (i : ℕ) (e : Event) → IsLawful es → i < length es → e ≡ get_or es i e
-    → tour_sum (take (i + 1) es) ≡ sum_after (stage_of (take i es)) (last_event (take i es)) e (tour_sum (take i es))
-tour_sum-next es i e lawful within is =
-    ap tour_sum (take-push es i e within is) ∙ tour_sum-push (take i es) e (lawful-take es i lawful) (lawful-here es i e lawful within is)
-
-pub tour_sum-small : (es : List Event) (i : ℕ) (e : Event) → IsLawful es → i < length es → e ≡ get_or es i e → tour_sum (take (i + 1) es) < 2 ^ 28
-tour_sum-small es i e lawful within is =
-    let latest : reached (last_event (take (i + 1) es)) ≡ last_minute e = ap reached (last_event-next es i e within is) in
-    let next = lawful-here es i e lawful within is in
-    omega (arith, tour_sum-most (take (i + 1) es), latest, next.last_in)

@@ -1,4 +1,3 @@
-pub mod UsedLemmas
 pub mod CappedLemmas
 pub mod PlanLemmas
 pub mod OverLemmas

@@ -1,5 +1,6 @@
 -- The limbo minutes of a month that count against its limit.
 use Rattle.std.specs.Prelude.{ℕ, Bool, true, false, ◌&&◌, nat_le, List}
+use Rattle.duty_events.specs.declared.limits.TheConstants.{DUTY_LIMIT}
 use Rattle.desk_base.specs.Month as month
 use Rattle.duty_events.specs.declared.event.Event.{Event}
 use Rattle.duty_events.specs.declared.minute_kind.MinuteKind.{MinuteKind}
@@ -15,9 +16,9 @@ is_limbo minute.Other = false
 is_limbo minute.Off = false
 is_limbo minute.Open = false
 
--- a limbo minute before which its tour has at least 720 on-duty and limbo minutes
+-- a limbo minute before which its tour has twelve hours of on-duty and limbo minutes at least
 unfoldable pub is_capped : List Event → ℕ → Bool
-is_capped es t = is_limbo (kind_of es t) && nat_le 720 (tour_minutes es t)
+is_capped es t = is_limbo (kind_of es t) && nat_le DUTY_LIMIT (tour_minutes es t)
 
 -- how many of so many minutes from a first one on are such
 unfoldable pub capped_minutes : List Event → ℕ → ℕ → ℕ

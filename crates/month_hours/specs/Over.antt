@@ -1,7 +1,8 @@
 -- The month that would be over a limit with a plan, by whichever of its minutes.
-use Rattle.std.specs.Prelude.{◌≡◌, ℕ, ◌+◌, ◌-◌, ◌<◌, ◌≤◌, Bool, ◌&&◌, nat_lt, Option, None, Some, List}
+use Rattle.std.specs.Prelude.{◌≡◌, ℕ, ◌+◌, ◌-◌, ◌<◌, ◌≤◌, Bool, ◌&&◌, nat_lt, Option, None, Some, if◌then◌else◌, List}
 use Rattle.std.specs.Option.{option_map}
 use Rattle.std.specs.List.{find, range_with_len}
+use Rattle.month_hours.specs.declared.limit.TheConstants.{LIMBO_LIMIT, MONTH_LIMIT}
 use Rattle.desk_base.specs.Month as month
 use Rattle.desk_base.specs.Minute.{month_of}
 use Rattle.duty_events.specs.declared.event.Event.{Event}
@@ -13,15 +14,28 @@ use Rattle.month_hours.specs.Capped.{capped}
 use Rattle.month_hours.specs.Plan.{end_of, planned, planned_capped}
 use Rattle.month_hours.specs.Used.{used}
 
--- 276 hours of worked minutes (21103(a)(1)), and 30 hours of limbo behind 720 minutes of a tour (21103(c)(1))
+-- 276 hours of worked minutes (21103(a)(1)), and 30 hours of limbo behind twelve hours of a tour (21103(c)(1))
 abbrev pub most : Limit → ℕ
-most limit.Hours = 16_560
-most limit.Limbo = 1_800
+most limit.Hours = MONTH_LIMIT
+most limit.Limbo = LIMBO_LIMIT
+
+-- what counts against the limit of a month so far, and what a plan adds to it
+abbrev pub so_far : Limit → List Event → ℕ → ℕ
+so_far limit.Hours es m = used es m
+so_far limit.Limbo es m = capped es m
+
+abbrev pub added : Limit → Plan → ℕ → ℕ
+added limit.Hours p m = planned p m
+added limit.Limbo p m = planned_capped p m
 
 -- what the month would have with the plan
 abbrev pub total : Limit → List Event → Plan → ℕ → ℕ
-total limit.Hours es p m = used es m + planned p m
-total limit.Limbo es p m = capped es m + planned_capped p m
+total l es p m = so_far l es m + added l p m
+
+-- the month with that total, where it holds a minute of the plan and has passed the limit, having so many so far
+abbrev pub over_with : Limit → ℕ → Plan → ℕ → Option Over
+over_with l sum p m =
+    if nat_lt 0 (planned p m) && nat_lt (most l) (sum + added l p m) then Some (record { month = m; total = sum + added l p m }) else None
 
 -- the month holds a minute of the plan, and would be over the limit with all of them
 abbrev pub is_over : Limit → List Event → Plan → ℕ → Bool
@@ -63,6 +77,13 @@ KeepsHours es p = TellsFirst limit.Hours es p None
 
 abbrev pub KeepsLimbo : List Event → Plan → Type 0
 KeepsLimbo es p = TellsFirst limit.Limbo es p None
+
+-- there is no first month over the limit just where none is
+abbrev pub HoursInWords : Type 0
+HoursInWords = (es : List Event) (p : Plan) → (over_month es p ≡ None → KeepsHours es p) × (KeepsHours es p → over_month es p ≡ None)
+
+abbrev pub LimboInWords : Type 0
+LimboInWords = (es : List Event) (p : Plan) → (over_limbo es p ≡ None → KeepsLimbo es p) × (KeepsLimbo es p → over_limbo es p ≡ None)
 
 -- the month is none before the report's, and none after that of the plan's last minute
 pub record IsMonthOfPlan (p : Plan) (m : ℕ) : Type 0 where

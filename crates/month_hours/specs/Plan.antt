@@ -1,5 +1,6 @@
 -- A plan: so many minutes on duty from a report on, and behind them so many of limbo.
 use Rattle.std.specs.Prelude.{ℕ, ◌+◌, Bool, ◌&&◌, nat_le}
+use Rattle.duty_events.specs.declared.limits.TheConstants.{DUTY_LIMIT}
 use Rattle.desk_base.specs.Month as month
 use Rattle.duty_events.specs.Minutes.{minutes_where, is_within}
 use Rattle.month_hours.specs.declared.plan.Plan.{Plan}
@@ -19,9 +20,9 @@ is_planned p t = is_within p.report (end_of p) t
 abbrev pub is_planned_limbo : Plan → ℕ → Bool
 is_planned_limbo p t = is_within (p.report + p.duty) (end_of p) t
 
--- one of its limbo that comes 720 minutes after the report or later
+-- one of its limbo that comes twelve hours after the report or later
 abbrev pub is_planned_capped : Plan → ℕ → Bool
-is_planned_capped p t = is_planned_limbo p t && nat_le (p.report + 720) t
+is_planned_capped p t = is_planned_limbo p t && nat_le (p.report + DUTY_LIMIT) t
 
 -- how many minutes of the month are the plan's, and how many are its capped limbo
 unfoldable pub planned : Plan → ℕ → ℕ

@@ -5,10 +5,6 @@ use Rattle.duty_events.specs.declared.event.Event.{Event}
 use Rattle.duty_events.specs.MinuteKind.{kind_of, is_worked}
 use Rattle.duty_events.specs.Minutes.{minutes_where}
 
--- how many of so many minutes from a first one on are worked
-unfoldable pub worked : List Event → ℕ → ℕ → ℕ
-worked es first many = minutes_where (λ t. is_worked (kind_of es t)) first many
-
 -- how many minutes of the month are worked: on duty, limbo or other service (21103(a)(1))
-abbrev pub used : List Event → ℕ → ℕ
-used es m = worked es (month.first_minute m) (month.minutes_of m)
+unfoldable pub used : List Event → ℕ → ℕ
+used es m = minutes_where (λ t. is_worked (kind_of es t)) (month.first_minute m) (month.minutes_of m)

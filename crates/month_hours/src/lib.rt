@@ -2,6 +2,7 @@
 //! against the month's limit, and which month a plan would bring over a limit.
 #![tactic(auto)]
 
+mod laws;
 mod limbo;
 mod limit;
 mod over;
@@ -9,9 +10,12 @@ mod passed;
 mod plan;
 mod work;
 
+pub use laws::{hours_in_words, limbo_when_an_event_comes};
 pub use limbo::capped;
+pub use limit::{LIMBO_LIMIT, Limit, MONTH_LIMIT};
 pub use over::Over;
 pub use passed::{over_limbo, over_month};
+pub use plan::Plan;
 pub use work::used;
 
 #[cfg(test)]

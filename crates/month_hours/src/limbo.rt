@@ -6,10 +6,10 @@ ghost use Rattle.month_hours.specs.Steps.{capped_between, sum_after};
 ghost use Rattle.desk_base.specs.Month.{minutes_of};
 
 use desk_base::Month;
-use duty_events::{Event, MinuteKind, Stage, between, shared};
+use duty_events::{DUTY_LIMIT, Event, MinuteKind, Stage, between, shared};
 
-/// How many limbo minutes of the month, of a lawful list of events, have at least 720 on-duty and limbo minutes of their
-/// tour before them, 49 USC 21103(c)(1).
+/// How many limbo minutes of the month, of a lawful list of events, have twelve hours at least of on-duty and limbo minutes
+/// of their tour before them, 49 USC 21103(c)(1).
 pub fn capped(events: &[Event], month: Month) -> u32
     requires { IsLawful events.now }
     ensures value { result ≡ capped events.now month }
@@ -30,7 +30,7 @@ pub fn capped(events: &[Event], month: Month) -> u32
     total
 }
 
-// How many limbo minutes between two events have 720 minutes of their tour before them, which has summed so many up to
+// How many limbo minutes between two events have twelve hours of their tour before them, which has summed so many up to
 // the first of the two.
 fn capped_between(before: &Option<Event>, event: &Event, sum: u64, first: u64, many: u32) -> u32
     requires { first < 2 ^ 28 }
@@ -42,7 +42,7 @@ fn capped_between(before: &Option<Event>, event: &Event, sum: u64, first: u64, m
     if !matches!(between(before, event), MinuteKind::Limbo) {
         return 0;
     }
-    let from = before.last_minute().number() + 720_u64.saturating_sub(sum);
+    let from = before.last_minute().number() + u64::from(DUTY_LIMIT).saturating_sub(sum);
     shared(from, event.first_minute().number(), first, many)
 }
 

@@ -1,7 +1,8 @@
-ghost use Rattle.std.specs.Prelude.{◌≡◌, ◌<◌, ◌^◌, ◌&&◌, nat_lt, if◌then◌else◌};
+ghost use Rattle.std.specs.Prelude.{◌≡◌, ◌<◌, ◌^◌, ◌≤◌, ◌&&◌, nat_lt};
 ghost use Rattle.duty_events.specs.Lists.{IsLawful};
 ghost use Rattle.month_hours.specs.Plan.{end_of};
-ghost use Rattle.month_hours.specs.Over.{most, total, is_over, over_in, first_over};
+ghost use Rattle.month_hours.specs.Over.{most, so_far, added, over_with, first_over};
+ghost use Rattle.desk_base.specs.Month.{minutes_of};
 
 use crate::limbo::capped;
 use crate::over::Over;
@@ -10,12 +11,18 @@ use crate::work::used;
 use desk_base::{Minute, Month};
 use duty_events::Event;
 
-// A limit on the minutes of a month.
-#[derive(Clone, Copy)]
-pub(crate) enum Limit {
-    // Of worked minutes, 49 USC 21103(a)(1).
+/// The minutes that a month may have on duty, in limbo and in other service: 276 hours, 49 USC 21103(a)(1).
+pub const MONTH_LIMIT: u32 = 16_560;
+
+/// The minutes of limbo behind twelve hours of a tour that a month may have: 30 hours, 49 USC 21103(c)(1).
+pub const LIMBO_LIMIT: u32 = 1_800;
+
+/// A limit on the minutes of a month.
+#[derive(Clone, Copy, Debug, PartialEq, Eq)]
+pub enum Limit {
+    /// Of worked minutes, 49 USC 21103(a)(1).
     Hours,
-    // Of limbo behind 720 minutes of a tour, 21103(c)(1).
+    /// Of limbo behind twelve hours of a tour, 21103(c)(1).
     Limbo,
 }
 
@@ -25,29 +32,41 @@ impl Limit {
         ensures { result ≡ most self.now }
     {
         match self {
-            Limit::Hours => 16_560,
-            Limit::Limbo => 1_800,
+            Limit::Hours => MONTH_LIMIT,
+            Limit::Limbo => LIMBO_LIMIT,
         }
     }
 
-    // How many the month would have with the plan.
-    fn total(&self, events: &[Event], plan: &Plan, month: Month) -> u32
+    // How many the month has so far.
+    fn so_far(&self, events: &[Event], month: Month) -> u32
         requires { IsLawful events.now }
-        ensures { result ≡ total self.now events.now plan.now month }
+        ensures value { result ≡ so_far self.now events.now month }
+        ensures most { result ≤ minutes_of month }
     {
         match self {
-            Limit::Hours => used(events, month) + plan.minutes(month),
-            Limit::Limbo => capped(events, month) + plan.capped_limbo(month),
+            Limit::Hours => used(events, month),
+            Limit::Limbo => capped(events, month),
         }
     }
 
-    // The month with its total, where it holds a minute of the plan and would pass the limit.
-    fn over_in(&self, events: &[Event], plan: &Plan, month: Month) -> Option<Over>
-        requires { IsLawful events.now }
-        ensures { result ≡ (if is_over self.now events.now plan.now month
-            then Some (over_in self.now events.now plan.now month) else None) }
+    // How many the plan adds.
+    fn added(&self, plan: &Plan, month: Month) -> u32
+        ensures value { result ≡ added self.now plan.now month }
+        ensures most { result ≤ minutes_of month }
     {
-        let total = self.total(events, plan, month);
+        match self {
+            Limit::Hours => plan.minutes(month),
+            Limit::Limbo => plan.capped_limbo(month),
+        }
+    }
+
+    /// The month with its total, where it holds a minute of the plan and would pass the limit with it, having so many
+    /// minutes so far.
+    pub fn over_with(&self, so_far: u32, plan: &Plan, month: Month) -> Option<Over>
+        requires { so_far ≤ minutes_of month }
+        ensures { result ≡ over_with self.now so_far plan.now month }
+    {
+        let total = so_far + self.added(plan, month);
         if is_over(plan.minutes(month), total, self.most()) {
             Some(Over { month, total })
         } else {
@@ -56,7 +75,7 @@ impl Limit {
     }
 
     // The first month that would pass the limit, of those from the report's to that of the plan's last minute.
-    pub fn first_over(&self, events: &[Event], plan: &Plan) -> Option<Over>
+    pub(crate) fn first_over(&self, events: &[Event], plan: &Plan) -> Option<Over>
         requires lawful { IsLawful events.now }
         requires range { end_of plan.now < 2 ^ 28 }
         ensures { result ≡ first_over self.now events.now plan.now }
@@ -66,7 +85,8 @@ impl Limit {
         let end = Month::of(last_minute).number() + 1;
         for number in first..end {
             let month = Month::new(number)?;
-            if let Some(over) = self.over_in(events, plan, month) {
+            let so_far = self.so_far(events, month);
+            if let Some(over) = self.over_with(so_far, plan, month) {
                 return Some(over);
             }
         }

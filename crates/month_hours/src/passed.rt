@@ -10,8 +10,8 @@ use crate::plan::Plan;
 use desk_base::Minute;
 use duty_events::Event;
 
-/// The first month of a plan that would have more than 276 hours with it, 49 USC 21103(a)(1): it holds a minute of the
-/// plan, and its worked minutes and the plan's are more than 16,560. The plan is `duty` minutes from the report on and `limbo` behind
+/// The first month of a plan that would have more than 276 hours with it, `MONTH_LIMIT`, 49 USC 21103(a)(1): it holds a
+/// minute of the plan, and its worked minutes and the plan's are more than that. The plan is `duty` minutes from the report on and `limbo` behind
 /// them.
 pub fn over_month(events: &[Event], report: Minute, duty: u32, limbo: u32) -> Option<Over>
     requires lawful { IsLawful events.now }
@@ -29,9 +29,9 @@ pub fn over_month(events: &[Event], report: Minute, duty: u32, limbo: u32) -> Op
     Limit::Hours.first_over(events, &plan)
 }
 
-/// The first month of a plan that would have more than 30 hours of limbo behind 720 minutes of a tour with it, 49 USC
-/// 21103(c)(1): it holds a minute of the plan, and its capped minutes and those of the plan's limbo that come 720 minutes
-/// after the report or later are more than 1,800. One that has more already is such a month. The plan is `duty` minutes from the report on and `limbo` behind them.
+/// The first month of a plan that would have more than 30 hours of limbo behind twelve of a tour with it, `LIMBO_LIMIT`, 49
+/// USC 21103(c)(1): it holds a minute of the plan, and its capped minutes and those of the plan's limbo that come twelve
+/// hours after the report or later are more than that. One that has more already is such a month. The plan is `duty` minutes from the report on and `limbo` behind them.
 pub fn over_limbo(events: &[Event], report: Minute, duty: u32, limbo: u32) -> Option<Over>
     requires lawful { IsLawful events.now }
     requires range { report + duty + limbo < 2 ^ 28 }

@@ -3,18 +3,18 @@ ghost use Rattle.desk_base.specs.Month.{minutes_of};
 ghost use Rattle.month_hours.specs.Plan.{end_of, planned, planned_capped};
 
 use desk_base::{Minute, Month};
-use duty_events::shared;
+use duty_events::{DUTY_LIMIT, shared};
 
-// So many minutes on duty from a report on, and behind them so many of limbo.
-#[derive(Clone, Copy)]
-pub(crate) struct Plan {
+/// So many minutes on duty from a report on, and behind them so many of limbo.
+#[derive(Clone, Copy, Debug, PartialEq, Eq)]
+pub struct Plan {
     pub report: Minute,
     pub duty: u32,
     pub limbo: u32,
 }
 
 impl Plan {
-    // The first minute after the plan.
+    /// The first minute after the plan.
     pub fn end(&self) -> u64
         ensures { result ≡ end_of self.now }
     {
@@ -23,7 +23,7 @@ impl Plan {
         self.report.number() + u64::from(duty) + u64::from(limbo)
     }
 
-    // How many minutes of the month are the plan's.
+    /// How many minutes of the month are the plan's.
     pub fn minutes(&self, month: Month) -> u32
         ensures value { result ≡ planned self.now month }
         ensures most { result ≤ minutes_of month }
@@ -36,7 +36,7 @@ impl Plan {
         )
     }
 
-    // How many minutes of the month are the plan's limbo that comes 720 minutes after the report or later.
+    /// How many minutes of the month are the plan's limbo that comes twelve hours after the report or later.
     pub fn capped_limbo(&self, month: Month) -> u32
         ensures value { result ≡ planned_capped self.now month }
         ensures most { result ≤ minutes_of month }
@@ -46,10 +46,10 @@ impl Plan {
     }
 }
 
-// The first minute behind the time on duty that comes 720 minutes after the report or later.
+// The first minute behind the time on duty that comes twelve hours after the report or later.
 fn capped_from(report: u64, duty: u32) -> u64
     requires { report < 2 ^ 28 }
-    ensures { result ≡ max (report + duty) (report + 720) }
+    ensures { result ≡ max (report + duty) (report + DUTY_LIMIT) }
 {
-    (report + u64::from(duty)).max(report + 720)
+    (report + u64::from(duty)).max(report + u64::from(DUTY_LIMIT))
 }

@@ -1,7 +1,7 @@
 //! Tables worked by hand: the first month that a plan would bring over a limit.
 ghost use Rattle.std.specs.Prelude.{◌≡◌, ◌+◌, ◌^◌, nat_lt};
 
-use crate::{Over, over_limbo, over_month};
+use crate::{Limit, Over, Plan, over_limbo, over_month};
 use desk_base::{Code, Minute, Month, Span};
 use duty_events::{Event, is_lawful};
 
@@ -187,4 +187,26 @@ fn plans_over_three_months(rt: HostRuntime) {
         1_801,
     );
     assert_eq!(rt; found, over(b"2024-03", 44_640));
+}
+
+// A month that has so many minutes so far, with a plan of twelve hours and two of limbo from 08:00 of its fifth day.
+fn over_with(limit: Limit, so_far: u32) -> Option<Option<Over>> {
+    let month = Month::read(b"2024-03")?;
+    let plan = Plan {
+        report: at(b"2024-03-05 08:00")?,
+        duty: 720,
+        limbo: 120,
+    };
+    if so_far > month.minutes() {
+        return None;
+    }
+    Some(limit.over_with(so_far, &plan, month))
+}
+
+#[test]
+fn months_by_what_they_have_so_far(rt: HostRuntime) {
+    assert_eq!(rt; over_with(Limit::Hours, 15_720), Some(None));
+    assert_eq!(rt; over_with(Limit::Hours, 15_721), over(b"2024-03", 16_561));
+    assert_eq!(rt; over_with(Limit::Limbo, 1_680), Some(None));
+    assert_eq!(rt; over_with(Limit::Limbo, 1_681), over(b"2024-03", 1_801));
 }

@@ -6,7 +6,7 @@ use Rattle.duty_events.specs.Lists.{stage_of, latest}
 use Rattle.desk_model.specs.Opening.{OpeningValue}
 use Rattle.desk_model.specs.Entry.{EntryValue}
 use Rattle.desk_model.specs.History.{history_of, opened, steps, said}
-use Rattle.desk_model.specs.Duty.{tells, may_follow, told, events}
+use Rattle.desk_model.specs.Duty.{tells, told, events}
 use Rattle.desk_model.proofs.EventLemmas.{kept, events-snoc}
 use Rattle.plain_core.proofs.PrefixLemmas.{one_more}
 

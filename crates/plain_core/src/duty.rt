@@ -2,12 +2,12 @@ ghost use Rattle.std.specs.Prelude.{◌≡◌, ◌≤◌, Some, None, is_some, n
 ghost use Rattle.duty_events.specs.Lists.{latest};
 ghost use Rattle.desk_model.specs.Opening.{OpeningValue};
 ghost use Rattle.desk_model.specs.History.{history_of, said, first_of};
-ghost use Rattle.desk_model.specs.Duty.{tells, may_follow, events, closes};
+ghost use Rattle.desk_model.specs.Duty.{tells, events, closes};
 
 use crate::history::accepted;
 use desk_base::{Minute, PersonNo};
 use desk_model::{Cmd, Entry};
-use duty_events::{Event, Stage, allowed};
+use duty_events::{Event, Stage, may_follow};
 
 // The event that the entry tells of this person.
 fn told(entry: &Entry, person: PersonNo) -> Option<Event>
@@ -32,16 +32,6 @@ fn told_of(other: PersonNo, person: PersonNo, event: &Event) -> Option<Event>
     ensures { result ≡ (if nat_eq other person then Some event.now else None) }
 {
     if other == person { Some(*event) } else { None }
-}
-
-// The event may follow events that ended in the stage, with that latest minute.
-fn may_follow(stage: &Stage, last: &Option<Minute>, event: &Event) -> bool
-    ensures { result ≡ may_follow stage.now last.now event.now }
-{
-    let first = event.first_minute();
-    let end = event.last_minute();
-    let is_allowed = allowed(*stage, *event, *last).is_ok();
-    is_allowed && first.is_in_years() && end.is_in_years() && first <= end
 }
 
 /// Puts the person's events into a list that has room for them, and nothing else.

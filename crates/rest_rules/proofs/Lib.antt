@@ -1,4 +1,3 @@
 pub mod ExcessLemmas
-pub mod LongestOffLemmas
 pub mod OffFromLemmas
 pub mod RestLemmas

@@ -1,5 +1,5 @@
 -- Since when someone is off, one event more.
-use Rattle.std.proofs.Common.{◌≡◌, ℕ, zero, suc, ◌+◌, ◌-◌, ◌<◌, ◌≤◌, ◌⊎◌, Bool, true, false, cond, ◌&&◌, nat_lt, inl, inr, Option, List, [], ◌∷◌, ◌++◌, take, length, get_or, refl, sym, subst, ap, ◌∙◌, arith}
+use Rattle.std.proofs.Common.{◌≡◌, ℕ, zero, suc, ◌+◌, ◌-◌, ◌<◌, ◌≤◌, ◌⊎◌, Bool, true, false, cond, ◌&&◌, nat_lt, inl, inr, List, [], ◌∷◌, ◌++◌, take, length, refl, sym, subst, ap, ◌∙◌, arith}
 use Rattle.std.proofs.lemmas.Bool.{cases_lt, cases_eq, lt-ltb, le-ltb}
 use Rattle.std.proofs.lemmas.List.{take_all}
 use Rattle.desk_base.specs.Minute.{IsInYears}
@@ -8,10 +8,10 @@ use Rattle.duty_events.specs.Allowed.{first_minute, last_minute}
 use Rattle.duty_events.specs.Lists.{IsNext, IsLawful, stage_of, last_event, reached}
 use Rattle.duty_events.specs.MinuteKind.{is_worked}
 use Rattle.duty_events.specs.Between.{kind_until}
-use Rattle.duty_events.proofs.ListLemmas.{take-push, lawful-take, lawful-here, last_event-push}
+use Rattle.duty_events.proofs.ListLemmas.{last_event-push}
 use Rattle.duty_events.proofs.EventLemmas.{follows-reached, kind_of-stays, kind_of-until, kind_of-within}
 use Rattle.duty_events.proofs.PointLemmas.{asks-late}
-use Rattle.rest_rules.specs.OffFrom.{works, past_last, off_from, IsOffFrom, end_after}
+use Rattle.rest_rules.specs.OffFrom.{works, past_last, off_from, IsOffFrom, end_after, off_after}
 
 past_last-zero : (holds : ℕ → Bool) → past_last holds 0 ≡ 0
 unfolding past_last
@@ -120,10 +120,7 @@ pub off_from-nil : off_from [] ≡ 0
 unfolding off_from
 off_from-nil = past_last-zero (works [])
 
--- one event more: the minutes up to it count as the two events make them, and its own are other service
-abbrev pub off_after : ℕ → Option Event → Event → ℕ
-off_after end before e = end_after (end_after end (is_worked (kind_until before e)) (reached before) (first_minute e)) true (first_minute e) (last_minute e)
-
+-- one event more
 off_from-last : (es : List Event) (e : Event) → off_from (es ++ e ∷ []) ≡ past_last (works (es ++ e ∷ [])) (last_minute e)
 unfolding off_from
 off_from-last es e = ap (λ o. past_last (works (es ++ e ∷ [])) (reached o)) (last_event-push es e)
@@ -142,11 +139,6 @@ off_from-push es e lawful next =
     ∙ ap (λ end. end_after end true (first_minute e) (last_minute e))
     (past_last-after now (is_worked (kind_until before e)) (reached before) (first_minute e) (follows-reached before (stage_of es) e next) (λ t from to. ap is_worked (kind_of-until es e lawful next t from to))
     ∙ ap (λ end. end_after end (is_worked (kind_until before e)) (reached before) (first_minute e)) (off_from-old es e lawful next))
-
-pub off_from-next : (es : List Event) (i : ℕ) (e : Event) → IsLawful es → i < length es → e ≡ get_or es i e
-    → off_from (take (i + 1) es) ≡ off_after (off_from (take i es)) (last_event (take i es)) e
-off_from-next es i e lawful within is =
-    ap off_from (take-push es i e within is) ∙ off_from-push (take i es) e (lawful-take es i lawful) (lawful-here es i e lawful within is)
 
 pub off_from-whole : (es : List Event) (i : ℕ) → length es ≤ i → off_from (take i es) ≡ off_from es
 off_from-whole es i past = ap off_from (take_all i es past)

@@ -2,12 +2,14 @@
 //! twelve hours, and whether they have rested by a minute.
 #![tactic(auto)]
 
+mod laws;
 mod off_since;
 mod rest;
 mod tour_excess;
 
+pub use laws::{excess_when_an_event_comes, off_when_an_event_comes, rest_in_words};
 pub use off_since::off_from;
-pub use rest::{rest_end, rest_ok};
+pub use rest::{REST, rest_end, rest_ok};
 pub use tour_excess::excess;
 
 #[cfg(test)]

@@ -1,4 +1,4 @@
-ghost use Rattle.std.specs.Prelude.{◌≡◌, ℕ, ◌+◌, ◌<◌, ◌≤◌, ◌^◌, ◌⊎◌, nat_le};
+ghost use Rattle.std.specs.Prelude.{◌≡◌, ℕ, ◌+◌, false, ◌<◌, ◌≤◌, ◌^◌, ◌⊎◌, nat_le};
 ghost use Rattle.std.specs.Bool.{Decides};
 ghost use Rattle.stretches.specs.Stretch.{has_stretch};
 ghost use Rattle.duty_events.specs.declared.stage.Stage.TheVariants as stage;
@@ -10,6 +10,9 @@ use crate::{excess, off_from};
 use desk_base::Minute;
 use duty_events::{Event, kind_behind, kind_until, last_tour};
 use stretches::Gauge;
+
+/// The minutes off that are a rest: ten hours, 49 USC 21103(a)(3).
+pub const REST: u64 = 600;
 
 /// Whether someone has rested at a minute, by a lawful list of events: no minute is worked; or the last worked one is ten
 /// hours ago at least, and they were off for ten hours and so many minutes `more` in one stretch since their last tour
@@ -23,36 +26,37 @@ pub fn rest_ok(events: &[Event], at: Minute, more: u32) -> bool
     if off_from == 0 {
         return true;
     }
-    are_ten_hours(off_from, at.number()) && was_off(events, 600 + u64::from(more), at)
+    are_ten_hours(off_from, at.number()) && was_off(events, REST + u64::from(more), at)
 }
 
 // Ten hours at least lie between a minute and another.
 fn are_ten_hours(from: u64, to: u64) -> bool
     requires { from < 2 ^ 28 }
-    ensures { result ≡ nat_le (from + 600) to }
+    ensures { result ≡ nat_le (from + REST) to }
 {
-    from + 600 <= to
+    from + REST <= to
 }
 
 /// The minute at which rest ends, by a lawful list of events after which no tour runs: 0 where no minute is worked; ten
 /// hours after the last worked minute, where before it ten hours and the excess were taken in one stretch since the last
-/// tour ended; else ten hours and the excess after it.
+/// tour ended; else ten hours and the excess after it. Where someone has not rested at some minute it is not 0.
 pub fn rest_end(events: &[Event]) -> Minute
     requires lawful { IsLawful events.now }
     requires off { stage_of events.now ≡ stage.Off }
     ensures value { result ≡ rest_end events.now }
     ensures law { EndsRest events.now result }
     ensures range { (result ≡ 0) ⊎ (15_778_680 ≤ result) }
+    ensures some { (at more : ℕ) → rest_ok events.now at more ≡ false → 0 < result }
 {
     let off_from = off_from(events);
     if off_from == Minute::FIRST {
         return off_from;
     }
     let excess = u64::from(excess(events));
-    if was_off(events, 600 + excess, off_from) {
-        off_from.after(600)
+    if was_off(events, REST + excess, off_from) {
+        off_from.after(REST)
     } else {
-        off_from.after(600 + excess)
+        off_from.after(REST + excess)
     }
 }
 

@@ -84,3 +84,11 @@ stretch-same was asked many from to end s later same = record {
   ends = omega (arith, s.ends, later);
   each = λ t low high. same t (omega (arith, high, s.ends)) ∙ s.each t low high;
 }
+
+-- there is none where there is no room
+pub has_stretch-none : (asked : ℕ → Bool) (many from to : ℕ) → 0 < many → to < from + many → has_stretch asked many from to ≡ false
+has_stretch-none asked many from to some short = go (has_stretch asked many from to) refl
+  where
+    go : (b : Bool) → has_stretch asked many from to ≡ b → b ≡ false
+    go true is = let s = (has_stretch-decides asked many from to some).0 is in absurd (omega (arith, s.begins, s.ends, short))
+    go false is = refl

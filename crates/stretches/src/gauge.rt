@@ -36,6 +36,18 @@ impl Gauge {
         }
     }
 
+    /// A gauge of the minutes from one on, that was moved on to there.
+    pub fn starting(since: u64) -> Gauge
+        ensures until { result.until ≡ since }
+        ensures tells { (asked : ℕ → Bool) → Tells asked since result }
+    {
+        Gauge {
+            since,
+            longest: 0,
+            until: since,
+        }
+    }
+
     /// The gauge after looking at the minutes up to one, that are all of the kind, or none of them. It stays where it
     /// has looked so far already.
     pub fn pass(self, to: u64, are_asked: bool) -> Gauge

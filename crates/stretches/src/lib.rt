@@ -2,8 +2,10 @@
 #![tactic(auto)]
 
 mod gauge;
+mod laws;
 
 pub use gauge::Gauge;
+pub use laws::a_stretch_is_found_where_there_is_one;
 
 #[cfg(test)]
 mod tests;

@@ -32,3 +32,14 @@ fn longest_stretches(rt: HostRuntime) {
         1
     );
 }
+
+#[test]
+fn stretches_from_a_start(rt: HostRuntime) {
+    assert_eq!(rt; Gauge::starting(4).longest(), 0);
+    assert_eq!(rt; Gauge::starting(4).pass(3, true).longest(), 0);
+    assert_eq!(rt; Gauge::starting(4).pass(10, true).longest(), 6);
+    assert_eq!(rt;
+        Gauge::starting(4).pass(6, false).pass(9, true).longest(),
+        3
+    );
+}

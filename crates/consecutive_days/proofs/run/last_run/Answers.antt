@@ -1,45 +1,56 @@
-use Rattle.std.proofs.Common.{◌≡◌, ◌+◌, Some, None, refl, sym, ap, ◌∙◌, take}
-use Rattle.duty_events.specs.Lists.{stage_of, stage_after}
-use Rattle.duty_events.proofs.ListLemmas.{stage_of-next}
-use Rattle.consecutive_days.specs.Steps.{start_day}
-use Rattle.consecutive_days.proofs.RunLemmas.{Stands, stands-nil, stands-run, stands-order, stands-next_start, stands-next_other, stands-whole, stands-counts, stands-day, stands-is_run}
+use Rattle.std.proofs.Common.{◌≡◌, true, false, [], ◌∷◌, ◌++◌, refl, sym, ap, ◌∙◌, take, arith}
+use Rattle.duty_events.proofs.ListLemmas.{comes, stage_of-push}
+use Rattle.desk_base.specs.Day.{day_of}
+use Rattle.duty_events.specs.Allowed.{first_minute}
+use Rattle.duty_events.specs.Lists.{stage_of}
+use Rattle.duty_events.specs.MinuteKind.{begins}
+use Rattle.consecutive_days.specs.Run.{run_days, last_start}
+use Rattle.consecutive_days.specs.Steps.{last_day}
+use Rattle.consecutive_days.proofs.StartLemmas.{last_start-nil, run_days-nil, last_start-push, run_days-push, last_day-order, run_days-most, run_days-is}
+use Rattle.std.proofs.lemmas.List.{take_all}
 use Rattle.consecutive_days.proofs.run.last_run.Goals as goal
-use Rattle.consecutive_days.proofs.run.last_run.Goals.{in-Some, in_default}
+use Rattle.consecutive_days.proofs.run.last_run.Goals.{then-begins, else-begins}
 
 pub loop-event-init : goal.loop-event-init
-loop-event-init c = record { stands = stands-nil; stage = refl }
+loop-event-init c = record { days = sym run_days-nil; last = rw last_start-nil refl; stage = refl }
 
 pub next_run-days-requires : goal.next_run-days-requires
 next_run-days-requires c =
-    let es = c.args.events.now in
-    let i = c.loop-event.event-index in
     let kept = c.loop-event.invariant in
-    let start : Some c.in-Some.day ≡ start_day (stage_of (take i es)) c.event-item.result = rw (sym kept.stage) c.in-Some.ensures.day in record {
-      days = stands-run (take i es) c.loop-event.days c.loop-event.last kept.stands;
-      day = c.in-Some.ensures.range;
-      order = stands-order es i c.event-item.result c.loop-event.days c.loop-event.last c.in-Some.day c.requires c.loop-event-test.true c.event-item.is start kept.stands;
+    let old = take c.loop-event.event-index c.args.events.now in
+    let e = c.event-item.result in
+    let h = comes c.args.events.now c.loop-event.event-index e c.requires c.loop-event-test.true c.event-item.is in record {
+      days = omega (arith, kept.days, kept.last, run_days-most old h.lawful);
+      day = c.number-day.ensures.range;
+      order = rw (kept.last, c.number-day.ensures.value, c.of.ensures.value, c.first_minute.ensures) (last_day-order old e h.lawful h.next);
     }
 
 pub loop-event-preserved : goal.loop-event-preserved
 loop-event-preserved c =
-    let es = c.args.events.now in
-    let i = c.loop-event.event-index in
-    let e = c.event-item.result in
-    let is = c.event-item.is in
     let kept = c.loop-event.invariant in
-    let within = c.loop-event-test.true in
-    let stage : c.after-stage.result ≡ stage_of (take (i + 1) es) = c.after-stage.ensures ∙ ap (λ s. stage_after s e) kept.stage ∙ sym (stage_of-next es i e within is) in
-    let stands : Stands (take (i + 1) es) c.match-start_day.days c.match-start_day.last =
-    elim c.match-start_day.branch [
-      | in-Some w ↦
-          let start : Some w.in-Some.day ≡ start_day (stage_of (take i es)) e = rw (sym kept.stage) w.in-Some.ensures.day in
-          rw (w.days-is, w.last-is, w.next_run-days.ensures) (stands-next_start es i e c.loop-event.days c.loop-event.last w.in-Some.day c.requires within is start kept.stands)
-      | in_default w ↦
-          let none : None ≡ start_day (stage_of (take i es)) e = rw (sym kept.stage) (sym w.in_default.is ∙ c.start_day.ensures.day) in
-          rw (w.days-is, w.last-is) (stands-next_other es i e c.loop-event.days c.loop-event.last c.requires within is none kept.stands)
-    ] in record { stands = stands; stage = stage }
+    let old = take c.loop-event.event-index c.args.events.now in
+    let e = c.event-item.result in
+    let h = comes c.args.events.now c.loop-event.event-index e c.requires c.loop-event-test.true c.event-item.is in
+    let begun : c.begins.result ≡ begins (stage_of old) e = c.begins.ensures ∙ ap (λ s. begins s e) kept.stage in
+    let both : (c.if-begins.days ≡ run_days (old ++ e ∷ [])) × (c.if-begins.last ≡ last_day (last_start (old ++ e ∷ []))) =
+    elim c.if-begins.branch [
+      | then-begins w ↦
+          let is : begins (stage_of old) e ≡ true = sym begun ∙ w.if-begins.true in
+          let day : w.number-day.result ≡ day_of (first_minute e) = w.number-day.ensures.value ∙ w.of.ensures.value ∙ ap day_of w.first_minute.ensures in (
+            rw (w.days-is, w.next_run-days.ensures, kept.days, kept.last, day) (sym (rw is at (run_days-push old e h.lawful h.next))),
+            w.last-is ∙ day ∙ ap last_day (sym (rw is at (last_start-push old e))),
+          )
+      | else-begins w ↦ let is : begins (stage_of old) e ≡ false = sym begun ∙ w.if-begins.false in (
+        w.days-is ∙ kept.days ∙ sym (rw is at (run_days-push old e h.lawful h.next)),
+        w.last-is ∙ kept.last ∙ ap last_day (sym (rw is at (last_start-push old e))),
+      )
+    ] in
+    rw h.is (record { days = both.0; last = both.1; stage = rw (c.after-stage.ensures, kept.stage) (sym (stage_of-push old e)) })
 
 pub returns : goal.returns
 returns c =
-    let stands = stands-whole c.args.events.now c.loop-event.event-index c.loop-event.days c.loop-event.last c.loop-event-test.false c.loop-event.invariant.stands in
-    record { days = stands-counts c.args.events.now _ _ stands; run = stands-is_run c.args.events.now _ _ stands; last = stands-day c.args.events.now _ _ stands }
+    let es = c.args.events.now in
+    let kept = c.loop-event.invariant in
+    let whole = take_all c.loop-event.event-index es c.loop-event-test.false in
+    let days : c.loop-event.days ≡ run_days es = kept.days ∙ ap run_days whole in
+    record { days = days; run = rw days (run_days-is es c.requires); last = kept.last ∙ ap (λ xs. last_day (last_start xs)) whole }

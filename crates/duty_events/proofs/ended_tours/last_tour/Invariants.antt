@@ -1,7 +1,6 @@
 use Rattle.std.proofs.Common.{◌≡◌, take}
 use Rattle.duty_events.specs.Lists.{stage_of}
-use Rattle.duty_events.specs.EndedTours.{last_tour}
-use Rattle.duty_events.proofs.EndedTourLemmas.{last_begun}
+use Rattle.duty_events.specs.EndedTours.{last_tour, last_begun}
 use Rattle.duty_events.proofs.ended_tours.last_tour.Given as goal
 
 abbrev pub invariant-loop-event : goal.invariant-loop-event

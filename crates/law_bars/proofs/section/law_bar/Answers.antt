@@ -10,7 +10,7 @@ returns-in-Some-clause-value c =
 pub returns-in-Some-clause-free : goal.returns-in-Some-clause-free
 returns-in-Some-clause-free c =
     let parts = law_bar-parts c.args.events.now c.args.home c.args.moment c.args.report c.args.duty c.args.limbo c.rest_bar.result _ _ c.rest_bar.ensures refl refl in
-    free-of (Some c.in-Some.bar) c.args.events.now c.args.home c.args.moment c.args.report c.args.duty c.args.limbo c.requires.lawful (sym (rw c.in-Some.is at parts))
+    free-of c.no_bar_where_the_law_is_kept.ensures (Some c.in-Some.bar) c.args.events.now c.args.home c.args.moment c.args.report c.args.duty c.args.limbo c.requires.lawful (sym (rw c.in-Some.is at parts))
 
 pub returns-in-Some-days_bar-clause-value : goal.returns-in-Some-days_bar-clause-value
 returns-in-Some-days_bar-clause-value c =
@@ -20,7 +20,7 @@ returns-in-Some-days_bar-clause-value c =
 pub returns-in-Some-days_bar-clause-free : goal.returns-in-Some-days_bar-clause-free
 returns-in-Some-days_bar-clause-free c =
     let parts = law_bar-parts c.args.events.now c.args.home c.args.moment c.args.report c.args.duty c.args.limbo c.rest_bar.result c.days_bar.result _ c.rest_bar.ensures c.days_bar.ensures refl in
-    free-of (Some c.in-Some-days_bar.bar) c.args.events.now c.args.home c.args.moment c.args.report c.args.duty c.args.limbo c.requires.lawful (sym (rw (c.in_default.is, c.in-Some-days_bar.is) at parts))
+    free-of c.no_bar_where_the_law_is_kept.ensures (Some c.in-Some-days_bar.bar) c.args.events.now c.args.home c.args.moment c.args.report c.args.duty c.args.limbo c.requires.lawful (sym (rw (c.in_default.is, c.in-Some-days_bar.is) at parts))
 
 pub returns-clause-value : goal.returns-clause-value
 returns-clause-value c =
@@ -30,4 +30,4 @@ returns-clause-value c =
 pub returns-clause-free : goal.returns-clause-free
 returns-clause-free c =
     let parts = law_bar-parts c.args.events.now c.args.home c.args.moment c.args.report c.args.duty c.args.limbo c.rest_bar.result c.days_bar.result c.hours_bar.result c.rest_bar.ensures c.days_bar.ensures c.hours_bar.ensures in
-    free-of c.hours_bar.result c.args.events.now c.args.home c.args.moment c.args.report c.args.duty c.args.limbo c.requires.lawful (sym (rw (c.in_default.is, c.in_default-days_bar.is) at parts))
+    free-of c.no_bar_where_the_law_is_kept.ensures c.hours_bar.result c.args.events.now c.args.home c.args.moment c.args.report c.args.duty c.args.limbo c.requires.lawful (sym (rw (c.in_default.is, c.in_default-days_bar.is) at parts))

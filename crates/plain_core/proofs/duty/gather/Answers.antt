@@ -34,7 +34,7 @@ pub loop-entry-preserved-then-not-may_follow : goal.loop-entry-preserved-then-no
 loop-entry-preserved-then-not-may_follow c =
     let kept = c.loop-entry.invariant in record {
       events = λ o. gathered o c.args.entries.now c.loop-entry.entry-index c.entry-item.result c.args.person c.loop-entry.list.items c.loop-entry.stage c.loop-entry.last c.in-Some.event false
-          c.loop-entry-test.true c.entry-item.is (sym c.told.ensures ∙ c.in-Some.is) kept.stage kept.last (sym c.may_follow.ensures ∙ c.if-not-may_follow.true) (kept.events o);
+          c.loop-entry-test.true c.entry-item.is (sym c.told.ensures ∙ c.in-Some.is) kept.stage kept.last (sym c.may_follow.ensures.value ∙ c.if-not-may_follow.true) (kept.events o);
       stage = kept.stage;
       last = kept.last;
       few = omega (arith, kept.few);
@@ -46,7 +46,7 @@ loop-entry-preserved c =
     let kept = c.loop-entry.invariant in record {
       events = λ o. c.push_reserved.ensures.items
           ∙ gathered o c.args.entries.now c.loop-entry.entry-index c.entry-item.result c.args.person c.loop-entry.list.items c.loop-entry.stage c.loop-entry.last c.in-Some.event true
-          c.loop-entry-test.true c.entry-item.is (sym c.told.ensures ∙ c.in-Some.is) kept.stage kept.last (sym c.may_follow.ensures ∙ c.if-not-may_follow.false) (kept.events o);
+          c.loop-entry-test.true c.entry-item.is (sym c.told.ensures ∙ c.in-Some.is) kept.stage kept.last (sym c.may_follow.ensures.value ∙ c.if-not-may_follow.false) (kept.events o);
       stage = c.after-stage.ensures ∙ ap (λ s. stage_after s c.in-Some.event) kept.stage ∙ sym (fold_push stage_after stage.Off c.loop-entry.list.items c.in-Some.event) ∙ ap stage_of (sym c.push_reserved.ensures.items);
       last = ap Some c.last_minute.ensures.value ∙ sym (ap (option_map last_minute) (fold_push (λ (o : Option Event) (x : Event). Some x) None c.loop-entry.list.items c.in-Some.event)) ∙ ap latest (sym c.push_reserved.ensures.items);
       few = omega (arith, kept.few, c.push_reserved.ensures.len);

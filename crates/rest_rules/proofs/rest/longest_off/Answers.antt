@@ -1,14 +1,13 @@
-use Rattle.std.proofs.Common.{◌≡◌, nat_le, ◌+◌, ◌≤◌, min, [], take, refl, sym, subst, ap, ◌∙◌, arith}
+use Rattle.std.proofs.Common.{◌≡◌, nat_le, ◌≤◌, ◌++◌, ◌∷◌, min, [], take, refl, sym, subst, ap, ◌∙◌, arith}
+use Rattle.std.proofs.lemmas.List.{take_all}
 use Rattle.stretches.specs.Stretch.{has_stretch}
 use Rattle.stretches.specs.Gauge.{Tells}
 use Rattle.duty_events.specs.Allowed.{first_minute, last_minute}
 use Rattle.duty_events.specs.Lists.{last_event, reached, stage_of}
 use Rattle.duty_events.specs.MinuteKind.{is_off_duty}
-use Rattle.duty_events.proofs.ListLemmas.{last_event-next, lawful-here}
-use Rattle.duty_events.proofs.EventLemmas.{follows-reached, kind_of-behind}
-use Rattle.std.proofs.lemmas.List.{take_all}
+use Rattle.duty_events.proofs.ListLemmas.{comes, last_event-push}
+use Rattle.duty_events.proofs.EventLemmas.{follows-reached, kind_of-stays, kind_of-until, kind_of-within, kind_of-behind}
 use Rattle.rest_rules.specs.Rest.{is_off}
-use Rattle.rest_rules.proofs.LongestOffLemmas.{is_off-early, is_off-until, is_off-own}
 use Rattle.rest_rules.proofs.rest.longest_off.Goals as goal
 
 pub loop-event-init : goal.loop-event-init
@@ -23,28 +22,25 @@ loop-event-preserved c =
     let es = c.args.events.now in
     let i = c.loop-event.event-index in
     let e = c.event-item.result in
-    let lawful = c.requires in
-    let within = c.loop-event-test.true in
-    let is = c.event-item.is in
     let kept = c.loop-event.invariant in
-    let now = is_off (take (i + 1) es) in
-    let latest = reached (last_event (take i es)) in
-    let order : latest ≤ first_minute e = follows-reached (last_event (take i es)) (stage_of (take i es)) e (lawful-here es i e lawful within is) in
+    let h = comes es i e c.requires c.loop-event-test.true c.event-item.is in
+    let old = take i es in
+    let now = is_off (old ++ e ∷ []) in
+    let order : reached (last_event old) ≤ first_minute e = follows-reached (last_event old) (stage_of old) e h.next in
     let first : c.min-first.result ≡ min (first_minute e) c.args.to = omega (arith, c.min-first.ensures, c.number.ensures.value, c.first_minute.ensures) in
     let last : c.min-last.result ≡ min (last_minute e) c.args.to = omega (arith, c.min-last.ensures, c.number-in-loop-event.ensures.value, c.last_minute.ensures.value) in
-    let whole : first_minute e ≤ last_minute e = omega (arith, c.last_minute.ensures.whole, c.last_minute.ensures.value) in
-    let reaches : reached (last_event (take (i + 1) es)) ≡ last_minute e = ap reached (last_event-next es i e within is) in
     let passed =
-    c.pass.ensures.tells (is_off (take i es)) now c.args.from kept.tells
-    (λ t early. is_off-early es i e lawful within is t (omega (arith, early, kept.until)))
-    (λ t from to. rw (c.is_off_duty.ensures, c.kind_until.ensures, kept.before) (is_off-until es i e lawful within is t (omega (arith, from, kept.until, to, first)) (omega (arith, to, first))))
-    in record {
-      until = omega (arith, c.pass-gauge.ensures.until, c.pass.ensures.until, kept.until, first, last, order, whole, reaches);
+    c.pass.ensures.tells (is_off old) now c.args.from kept.tells
+    (λ t early. ap is_off_duty (kind_of-stays old e h.lawful h.next t (omega (arith, early, kept.until))))
+    (λ t from to. rw (c.is_off_duty.ensures, c.kind_until.ensures, kept.before) (ap is_off_duty (kind_of-until old e h.lawful h.next t (omega (arith, from, kept.until, to, first)) (omega (arith, to, first)))))
+    in
+    rw h.is (record {
+      until = omega (arith, c.pass-gauge.ensures.until, c.pass.ensures.until, kept.until, first, last, order, h.next.whole, ap reached (last_event-push old e));
       tells =
           c.pass-gauge.ensures.tells now now c.args.from passed (λ t early. refl)
-          (λ t from to. is_off-own es i e lawful within is t (omega (arith, from, c.pass.ensures.until, first, to, last)) (omega (arith, to, last)));
-      before = sym (last_event-next es i e within is);
-    }
+          (λ t from to. ap is_off_duty (kind_of-within old e h.lawful h.next t (omega (arith, from, c.pass.ensures.until, first, to, last)) (omega (arith, to, last))));
+      before = sym (last_event-push old e);
+    })
 
 pub returns : goal.returns
 returns c many some =
