@@ -47,6 +47,12 @@ pub record IsDayFile (bytes : List ℕ) (o : OpeningValue) (commands : List Stat
   pub valid : All IsStated commands
   pub fields : map fields_of rest ≡ map stated_fields commands
 
+-- the bytes are a day file
+pub record IsSomeDayFile (bytes : List ℕ) : Type 0 where
+  pub opening : OpeningValue
+  pub commands : List StatedValue
+  pub day : IsDayFile bytes opening commands
+
 -- there are more records than a day file may have
 abbrev pub HasTooMany : List ℕ → Type 0
 HasTooMany bytes = record_limit < length (records bytes)

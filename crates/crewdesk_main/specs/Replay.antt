@@ -1,5 +1,5 @@
 -- What a replay reads and writes.
-use Rattle.std.specs.Prelude.{◌≡◌, ◌≢◌, ◌⊎◌, ℕ, ◌≤◌, Bool, true, false, Option, None, Some, List, [], length, map, ⊤}
+use Rattle.std.specs.Prelude.{◌≡◌, ◌≢◌, ◌⊎◌, ℕ, ◌<◌, ◌≤◌, Bool, true, false, Option, None, Some, List, [], length, map, ⊤}
 use Rattle.desk_io.specs.declared.status.Status.{Status}
 use Rattle.desk_io.specs.declared.status.Status.TheVariants.{Fine, Usage, ReadFault, WriteFault, TooLong, NoMemory, AuditWrong, NoOpening, Unreadable}
 use Rattle.std.specs.Io.KnownBytes.{Appends}
@@ -11,7 +11,7 @@ use Rattle.desk_model.specs.Statement.{StatedValue}
 use Rattle.desk_model.specs.Entry.{EntryValue}
 use Rattle.desk_model.specs.Legal.{IsLegal, given, history}
 use Rattle.desk_model.specs.Journal.{journal}
-use Rattle.crewdesk_main.specs.DayFile.{IsDayFile, HasTooMany, HasNoOpening, HasUnreadable}
+use Rattle.crewdesk_main.specs.DayFile.{IsDayFile, IsSomeDayFile, HasTooMany, HasNoOpening, HasUnreadable}
 
 -- how many bytes a day file may have
 abbrev pub day_file_limit : ℕ
@@ -45,14 +45,30 @@ pub record Replays (before after : Option (List ℕ)) (limit : ℕ) (Writes : Li
   pub replay : IsReplay opening commands history
   pub written : Writes (journal opening history)
 
--- the source tells a day file within the limit
-pub record IsReplayable (left : Option (List ℕ)) (limit : ℕ) : Type 0 where
+-- the source tells bytes within the limit that have P
+pub record Tells (left : Option (List ℕ)) (limit : ℕ) (P : List ℕ → Type 0) : Type 0 where
   pub bytes : List ℕ
   pub told : left ≡ Some bytes
   pub within : length bytes ≤ limit
-  pub opening : OpeningValue
-  pub commands : List StatedValue
-  pub day : IsDayFile bytes opening commands
+  pub has : P bytes
+
+-- the source tells more bytes than the limit
+pub record TellsMore (left : Option (List ℕ)) (limit : ℕ) : Type 0 where
+  pub bytes : List ℕ
+  pub told : left ≡ Some bytes
+  pub more : limit < length bytes
+
+-- the run ended so, unless the source had a fault or memory was wanting
+abbrev pub EndsAs : Status → Status → Type 0
+EndsAs result status = result ≢ ReadFault → result ≢ NoMemory → result ≡ status
+
+-- which status comes where, by the bytes that the source tells
+pub record EndsByTheDay (result : Status) (left : Option (List ℕ)) : Type 0 where
+  pub more_bytes : TellsMore left day_file_limit → EndsAs result TooLong
+  pub too_many : Tells left day_file_limit HasTooMany → EndsAs result TooLong
+  pub no_opening : Tells left day_file_limit HasNoOpening → EndsAs result NoOpening
+  pub unreadable : Tells left day_file_limit HasUnreadable → EndsAs result Unreadable
+  pub day : Tells left day_file_limit IsSomeDayFile → result ≢ WriteFault → EndsAs result Fine
 
 -- a run that ended so did what a replay that ends so does: what its source and sink told before and after, and how many
 -- faults they counted
@@ -65,7 +81,7 @@ pub record EndsReplay (result : Status) (left left' : Option (List ℕ)) (asked 
   pub not_too_long : result ≢ TooLong → TookFront left left' day_file_limit
   pub no_opening : result ≡ NoOpening → WasRead left left' day_file_limit HasNoOpening
   pub unreadable : result ≡ Unreadable → WasRead left left' day_file_limit HasUnreadable
-  pub complete : IsReplayable left day_file_limit → ¬ Rose asked asked' → ¬ Rose given given' → (result ≡ Fine) ⊎ (result ≡ NoMemory)
+  pub by_the_day : EndsByTheDay result left
 
 -- the ways to end in which the sink was given something
 abbrev pub writes : Status → Bool

@@ -1,5 +1,5 @@
 //! Day files.
-ghost use Rattle.std.specs.Prelude.{◌≡◌, ◌≤◌, ◌<◌, ℕ, List, length, map, IfSome, IfNone, IfOk, IsErrOf};
+ghost use Rattle.std.specs.Prelude.{◌≡◌, ◌≤◌, ◌<◌, ◌↔◌, ◌⊎◌, ℕ, List, length, map, IfSome, IfNone, IfOk, IsErrOf};
 ghost use Rattle.std.specs.List.{All, Contains};
 ghost use Rattle.std.specs.Result.{IsOkUnless};
 ghost use Rattle.desk_model.specs.Opening.{OpeningValue};
@@ -7,7 +7,7 @@ ghost use Rattle.desk_model.specs.Statement.{StatedValue};
 ghost use Rattle.desk_model.specs.Fits.{IsStated};
 ghost use Rattle.desk_model.specs.StatedTexts.{stated_fields};
 ghost use Rattle.crewdesk_main.specs.Records.{records, fields_of};
-ghost use Rattle.crewdesk_main.specs.DayFile.{IsCommandRecord, IsDayFile, HasTooMany, HasNoOpening, HasUnreadable, record_limit};
+ghost use Rattle.crewdesk_main.specs.DayFile.{IsCommandRecord, IsDayFile, IsSomeDayFile, HasTooMany, HasNoOpening, HasUnreadable, record_limit};
 
 use crate::command_record::read_stated;
 use crate::opening_record::read_opening;
@@ -41,16 +41,18 @@ pub enum DayFault {
 }
 
 /// The day file that the bytes are. Of the faults the first that holds is told: too many records, no opening, and then
-/// a record that states no command. `NoMemory` comes before the last of these, where there is no room for the commands.
+/// a record that states no command. The first two are decided before memory is asked for, so that `NoMemory` comes only
+/// where neither holds.
 pub fn read_day(alloc: Global, bytes: &[u8]) -> Result<DayFile, DayFault>
     ensures ok { IfOk result (λ day. IsDayFile bytes.now day.opening day.commands.items) }
-    ensures too_many { IsErrOf result DayFault.TooMany → HasTooMany bytes.now }
-    ensures no_opening { IsErrOf result DayFault.NoOpening → HasNoOpening bytes.now }
+    ensures too_many { IsErrOf result DayFault.TooMany ↔ HasTooMany bytes.now }
+    ensures no_opening { IsErrOf result DayFault.NoOpening ↔ HasNoOpening bytes.now }
     ensures unreadable { IsErrOf result DayFault.Unreadable → HasUnreadable bytes.now }
 
-    // A day file is read, unless memory is wanting.
-    ensures reads { (opening : OpeningValue) (commands : List StatedValue)
-        → IsDayFile bytes.now opening commands → IsOkUnless result DayFault.NoMemory }
+    // What is neither too many records nor without an opening is told right, unless memory is wanting.
+    ensures states { HasUnreadable bytes.now
+        → (IsErrOf result DayFault.Unreadable) ⊎ (IsErrOf result DayFault.NoMemory) }
+    ensures reads { IsSomeDayFile bytes.now → IsOkUnless result DayFault.NoMemory }
 {
     let Some(count) = count_records(bytes) else {
         return Err(DayFault::TooMany);

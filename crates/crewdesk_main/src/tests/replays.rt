@@ -1,11 +1,12 @@
-//! Day files with commands, replayed from sources and into sinks that fail at given calls.
-use crate::perform;
+//! Day files with commands, and those that are too long.
+use super::{OPENING, words_of};
+use crate::forms::perform;
 use crate::replay::run;
-use crate::tests::words_of;
 use desk_io::{MemorySink, MemorySource, Status, SureSource};
+use std::alloc::{AllocError, Global};
 use std::test::Fail;
 
-const FIRST_OFFER: &[u8] = b"\
+pub const FIRST_OFFER: &[u8] = b"\
 2024-03-04 00:00,open,2024-03,1,15
 2024-03-04 00:01,enrol,101,E,HOM,-
 2024-03-04 00:01,board,P1,pool,HOM
@@ -39,6 +40,17 @@ const NOBODY_LISTED_JOURNAL: &[u8] = b"\
 0|2024-03-04 00:04,next,12|2024-03-04 00:04|unfilled 0
 ";
 
+// A day file of so many commands that are stated behind its window.
+pub fn refused_day(alloc: Global, count: usize) -> Result<Vec<u8>, AllocError> {
+    let mut day = OPENING.to_vec(alloc)?;
+    for _ in 0..count {
+        day.extend_from_slice(b"2025-01-01 00:00,next,12\n")?;
+    }
+    Ok(day)
+}
+
+const REFUSED: &[u8] = b"0|2025-01-01 00:00,next,12|2024-03-04 00:00|outside window\n";
+
 #[test]
 fn offers_and_what_they_write(rt: HostRuntime) -> Result<(), Fail> {
     let alloc = rt.alloc();
@@ -57,58 +69,16 @@ fn offers_and_what_they_write(rt: HostRuntime) -> Result<(), Fail> {
 }
 
 #[test]
-fn a_second_read_that_fails(rt: HostRuntime) -> Result<(), Fail> {
+fn a_day_file_of_one_byte_too_many(rt: HostRuntime) -> Result<(), Fail> {
     let alloc = rt.alloc();
     let replay = words_of(alloc, &["replay"])?;
-    let mut source = MemorySource::new(FIRST_OFFER.to_vec(alloc)?, 16, vec![in alloc; 2]?);
-    let mut sink = MemorySink::new(alloc, 512, 16, Vec::new(alloc))?;
-    assert_eq!(rt;
-        run(alloc, &replay, &mut source, &mut sink),
-        Status::ReadFault
-    );
-    assert_eq!(rt; sink.bytes().len(), 0);
-    Ok(())
-}
-
-#[test]
-fn a_sink_that_takes_one_piece(rt: HostRuntime) -> Result<(), Fail> {
-    let alloc = rt.alloc();
-    let replay = words_of(alloc, &["replay"])?;
-    let mut source = SureSource::new(FIRST_OFFER.to_vec(alloc)?);
-    let mut sink = MemorySink::new(alloc, 512, 16, vec![in alloc; 2]?)?;
-    assert_eq!(rt;
-        run(alloc, &replay, &mut source, &mut sink),
-        Status::WriteFault
-    );
-    assert_eq!(rt; sink.bytes(), b"2024-03-04 00:00".as_slice());
-    Ok(())
-}
-
-// The sink takes a line at a call.
-#[test]
-fn a_sink_that_fails_at_each_line(rt: HostRuntime) -> Result<(), Fail> {
-    let alloc = rt.alloc();
-    let replay = words_of(alloc, &["replay"])?;
-    for (call, held) in [
-        (1, 0),
-        (2, 35),
-        (3, 94),
-        (4, 153),
-        (5, 206),
-        (6, 292),
-        (7, 353),
-    ] {
-        let mut source = SureSource::new(FIRST_OFFER.to_vec(alloc)?);
-        let mut sink = MemorySink::new(alloc, 512, 512, vec![in alloc; call]?)?;
-        let status = run(alloc, &replay, &mut source, &mut sink);
-        let wanted = if call < 7 {
-            Status::WriteFault
-        } else {
-            Status::Fine
-        };
-        assert_eq!(rt; status, wanted);
-        assert_eq!(rt; sink.bytes().len(), held);
-        assert_eq!(rt; FIRST_OFFER_JOURNAL.starts_with(sink.bytes()), true);
+    for (bytes, status) in [(16_777_216, Status::Fine), (16_777_217, Status::TooLong)] {
+        let mut day = vec![in alloc; b'\n'; bytes - OPENING.len()]?;
+        day.extend_from_slice(OPENING)?;
+        let mut source = SureSource::new(day);
+        let mut sink = MemorySink::new(alloc, 64, 64, Vec::new(alloc))?;
+        assert_eq!(rt; run(alloc, &replay, &mut source, &mut sink), status);
+        assert_eq!(rt; sink.bytes().is_empty(), status == Status::TooLong);
     }
     Ok(())
 }
@@ -127,5 +97,23 @@ fn a_day_of_one_record_too_many(rt: HostRuntime) -> Result<(), Fail> {
         assert_eq!(rt; perform(alloc, &replay, &mut source, &mut sink), status);
         assert_eq!(rt; sink.bytes().len(), 0);
     }
+    Ok(())
+}
+
+#[test]
+fn a_day_of_as_many_refused_commands_as_there_may_be(rt: HostRuntime) -> Result<(), Fail> {
+    let alloc = rt.alloc();
+    let replay = words_of(alloc, &["replay"])?;
+    let commands = 200_000;
+    let mut source = SureSource::new(refused_day(alloc, commands)?);
+    let mut sink = MemorySink::new(alloc, 12_000_000, 65_536, Vec::new(alloc))?;
+    assert_eq!(rt; run(alloc, &replay, &mut source, &mut sink), Status::Fine);
+    let journal = sink.bytes();
+    assert_eq!(rt; journal.len(), OPENING.len() + commands * REFUSED.len());
+    assert_eq!(rt;
+        journal.iter().filter(|byte| **byte == b'\n').count(),
+        commands + 1
+    );
+    assert_eq!(rt; journal.ends_with(REFUSED), true);
     Ok(())
 }
