@@ -77,6 +77,8 @@ awk -F'\t' '
 crates=$(cut -d' ' -f1 "$work/listed" | sort -u | wc -l)
 apart=$(awk -F'\t' '{ split($1 == "" ? $2 : $1, pair, " "); print pair[1] }' "$work/differs" | sort -u | wc -l)
 
-set -- $(tail -n 1 "$work/promises")
-echo "$(($1 + crates - apart)) passed, $(($2 + apart)) failed"
-[ $(($2 + apart)) = 0 ] && [ "$1" != 0 ]
+tail -n 1 "$work/promises" | {
+    read -r passed failed
+    echo "$((passed + crates - apart)) passed, $((failed + apart)) failed"
+    [ "$passed" != 0 ] && [ $((failed + apart)) = 0 ]
+}

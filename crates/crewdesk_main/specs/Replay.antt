@@ -1,7 +1,7 @@
 -- What a replay reads and writes.
 use Rattle.std.specs.Prelude.{◌≡◌, ◌≢◌, ◌⊎◌, ℕ, ◌<◌, ◌≤◌, Bool, true, false, Option, None, Some, List, [], length, map, ⊤}
 use Rattle.desk_io.specs.declared.status.Status.{Status}
-use Rattle.desk_io.specs.declared.status.Status.TheVariants.{Fine, Usage, ReadFault, WriteFault, TooLong, NoMemory, AuditWrong, NoOpening, Unreadable}
+use Rattle.desk_io.specs.declared.status.Status.TheVariants.{Fine, ReadFault, WriteFault, TooLong, NoMemory, NoOpening, Unreadable}
 use Rattle.std.specs.Io.KnownBytes.{Appends}
 use Rattle.desk_io.specs.Faults.{Rose}
 use Rattle.desk_io.specs.Giving.{AddsFront}
@@ -86,11 +86,5 @@ pub record EndsReplay (result : Status) (left left' : Option (List ℕ)) (asked 
 -- the ways to end in which the sink was given something
 abbrev pub writes : Status → Bool
 writes Fine = true
-writes Usage = false
-writes ReadFault = false
 writes WriteFault = true
-writes TooLong = false
-writes NoMemory = false
-writes AuditWrong = false
-writes NoOpening = false
-writes Unreadable = false
+writes _ = false
