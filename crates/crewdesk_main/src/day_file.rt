@@ -7,16 +7,14 @@ ghost use Rattle.desk_model.specs.Statement.{StatedValue};
 ghost use Rattle.desk_model.specs.Fits.{IsStated};
 ghost use Rattle.desk_model.specs.StatedTexts.{stated_fields};
 ghost use Rattle.crewdesk_main.specs.Records.{records, fields_of};
-ghost use Rattle.crewdesk_main.specs.DayFile.{IsCommandRecord, IsDayFile, IsSomeDayFile, HasTooMany, HasNoOpening, HasUnreadable, record_limit};
+ghost use Rattle.crewdesk_main.specs.DayFile.{IsCommandRecord, IsDayFile, IsSomeDayFile, HasTooMany, HasNoOpening, HasUnreadable};
 
 use crate::command_record::read_stated;
+use crate::limits::RECORD_LIMIT;
 use crate::opening_record::read_opening;
 use crate::records::next_record;
 use desk_model::{Opening, Stated};
 use std::alloc::Global;
-
-/// How many records a day file may have: its opening and 200,000 commands.
-pub const RECORDS: usize = 200_001;
 
 /// A day file: how the desk was opened, and what it was told and asked then, in order.
 #[derive(Drop)]
@@ -76,13 +74,13 @@ pub fn bytes_are_one_day_file()
 // How many records the bytes have; `None` where these are more than a day file may have.
 fn count_records(bytes: &[u8]) -> Option<usize>
     ensures some { IfSome result (λ count. count ≡ length (records bytes.now)) }
-    ensures few { IfSome result (λ count. count ≤ record_limit) }
-    ensures none { IfNone result (record_limit < length (records bytes.now)) }
+    ensures few { IfSome result (λ count. count ≤ RECORD_LIMIT) }
+    ensures none { IfNone result (RECORD_LIMIT < length (records bytes.now)) }
 {
     let mut count = 0;
     let mut rest = bytes;
     while let Some((_, after)) = next_record(rest) {
-        if count == RECORDS {
+        if count == RECORD_LIMIT {
             return None;
         }
         count += 1;

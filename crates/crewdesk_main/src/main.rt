@@ -6,6 +6,7 @@ mod command_record;
 mod day_file;
 mod forms;
 mod journal;
+mod limits;
 mod lines;
 mod opening_record;
 mod records;

@@ -6,20 +6,18 @@ ghost use Rattle.desk_io.specs.Input.{TookMore, TookFront};
 ghost use Rattle.desk_model.specs.Journal.{journal};
 ghost use Rattle.crewdesk_main.specs.DayFile.{HasTooMany, HasNoOpening, HasUnreadable};
 ghost use Rattle.crewdesk_main.specs.Words.{is_replay};
-ghost use Rattle.crewdesk_main.specs.Replay.{Replays, EndsByTheDay, WasRead, day_file_limit, day_history, writes};
+ghost use Rattle.crewdesk_main.specs.Replay.{Replays, EndsByTheDay, WasRead, day_history, writes};
 
 use crate::answers::answer_all;
 use crate::day_file::{DayFault, DayFile, read_day};
 use crate::journal::write_journal;
+use crate::limits::BYTE_LIMIT;
 use crate::words::is_alone;
 use desk_base::NoMemory;
 use desk_io::{Sink, Source, Status, take_all};
 use desk_model::Entry;
 use plain_core::PlainCore;
 use std::alloc::Global;
-
-/// How many bytes a day file may have.
-pub const DAY_FILE_BYTES: usize = 16_777_216;
 
 // How many bytes of the journal are put into the sink at once, at most.
 const BUFFER_BYTES: usize = 65_536;
@@ -40,10 +38,10 @@ pub fn run<S: Source, K: Sink>(
     ensures later_sink { K.faults sink.old ≤ K.faults sink.new }
 
     ensures fine { result ≡ Status.Fine
-        → Replays (S.left source.old) (S.left source.new) day_file_limit
+        → Replays (S.left source.old) (S.left source.new)
         (Appends (K.held sink.old) (K.held sink.new)) }
     ensures write_fault { result ≡ Status.WriteFault
-        → Replays (S.left source.old) (S.left source.new) day_file_limit
+        → Replays (S.left source.old) (S.left source.new)
         (AddsFront (K.held sink.old) (K.held sink.new)) }
     ensures silent { writes result ≡ false → Keeps (K.held sink.old) (K.held sink.new) }
 
@@ -52,14 +50,14 @@ pub fn run<S: Source, K: Sink>(
     ensures read_cause { result ≡ Status.ReadFault
         → Rose (S.faults source.old) (S.faults source.new) }
     ensures too_long { result ≡ Status.TooLong
-        → TookMore (S.left source.old) (S.left source.new) day_file_limit
-        ⊎ WasRead (S.left source.old) (S.left source.new) day_file_limit HasTooMany }
+        → TookMore (S.left source.old) (S.left source.new) BYTE_LIMIT
+        ⊎ WasRead (S.left source.old) (S.left source.new) HasTooMany }
     ensures not_too_long { result ≢ Status.TooLong
-        → TookFront (S.left source.old) (S.left source.new) day_file_limit }
+        → TookFront (S.left source.old) (S.left source.new) BYTE_LIMIT }
     ensures no_opening { result ≡ Status.NoOpening
-        → WasRead (S.left source.old) (S.left source.new) day_file_limit HasNoOpening }
+        → WasRead (S.left source.old) (S.left source.new) HasNoOpening }
     ensures unreadable { result ≡ Status.Unreadable
-        → WasRead (S.left source.old) (S.left source.new) day_file_limit HasUnreadable }
+        → WasRead (S.left source.old) (S.left source.new) HasUnreadable }
     ensures audit_wrong { result ≢ Status.AuditWrong }
 
     // And each of these comes where its cause is, unless memory or a fault is in the way.
@@ -69,7 +67,7 @@ pub fn run<S: Source, K: Sink>(
     if !is_alone(words, "replay") {
         return Status::Usage;
     }
-    let bytes = match take_all(alloc, source, DAY_FILE_BYTES) {
+    let bytes = match take_all(alloc, source, BYTE_LIMIT) {
         Ok(bytes) => bytes,
         Err(fault) => return Status::from(fault),
     };
@@ -95,7 +93,8 @@ fn replay_day<K: Sink>(alloc: Global, day: &DayFile, sink: &mut K) -> Status
         → Rose (K.faults sink.old) (K.faults sink.new) }
     ensures write_count { result ≢ Status.WriteFault → K.faults sink.new ≡ K.faults sink.old }
     ensures later { K.faults sink.old ≤ K.faults sink.new }
-    ensures only { (result ≡ Status.Fine) ⊎ ((result ≡ Status.WriteFault) ⊎ (result ≡ Status.NoMemory)) }
+    ensures only { (result ≡ Status.Fine)
+        ⊎ ((result ≡ Status.WriteFault) ⊎ (result ≡ Status.NoMemory)) }
 {
     let Ok(entries) = day_entries(alloc, day) else {
         return Status::NoMemory;

@@ -6,10 +6,10 @@ use Rattle.crewdesk_main.proofs.replay.run.Goals as goal
 
 pub returns-in-Ok-read_day-clause-fine : goal.returns-in-Ok-read_day-clause-fine
 returns-in-Ok-read_day-clause-fine g c = λ fine.
-    Replays-TookAll _ _ c.in-Ok.bytes.items _ 16_777_216 _ _ (Appends _ _) c.in-Ok.ensures.whole (omega (arith, c.in-Ok.ensures.bounded, c.in-Ok.bytes.ok.0))
+    Replays-TookAll _ _ c.in-Ok.bytes.items _ _ _ (Appends _ _) c.in-Ok.ensures.whole (omega (arith, c.in-Ok.ensures.bounded, c.in-Ok.bytes.ok.0))
     c.deref.ensures.value c.in-Ok-read_day.ensures.ok (c.replay_day.ensures.fine fine)
 
 pub returns-in-Ok-read_day-clause-write_fault : goal.returns-in-Ok-read_day-clause-write_fault
 returns-in-Ok-read_day-clause-write_fault g c = λ fault.
-    Replays-TookAll _ _ c.in-Ok.bytes.items _ 16_777_216 _ _ (AddsFront _ _) c.in-Ok.ensures.whole (omega (arith, c.in-Ok.ensures.bounded, c.in-Ok.bytes.ok.0))
+    Replays-TookAll _ _ c.in-Ok.bytes.items _ _ _ (AddsFront _ _) c.in-Ok.ensures.whole (omega (arith, c.in-Ok.ensures.bounded, c.in-Ok.bytes.ok.0))
     c.deref.ensures.value c.in-Ok-read_day.ensures.ok (c.replay_day.ensures.write_fault fault)
