@@ -1,25 +1,31 @@
-# make        proves and builds the program, and leaves it at build/crewdesk
-# make run    builds it where needed, and replays an example
-# make test   the gate: proofs, must-fail edits and tests, and then the examples
+# make        proves the crates, a line for each, and leaves the program at build/crewdesk
+# make run    does so where needed, and replays an example
+# make try    replays the same example in seconds, for who only wants to look: it proves nothing, and says so
+# make memory refuses that run each allocation in turn; it proves nothing, and takes minutes
+# make test   the gate: proofs, must-fail edits, tests, examples, and the table of promises
 PROGRAM := build/crewdesk
+DAY := examples/first_offer/stdin
 SOURCES := crates.txt HANDLES $(shell find crates -name out -prune -o -type f -print)
 
-.PHONY: all run test clean
+.PHONY: all run try memory test clean
 
 all: $(PROGRAM)
 
 $(PROGRAM): $(SOURCES)
-	cd crates/crewdesk_main && rt run -- --version
-	mkdir -p $(@D)
-	cp crates/crewdesk_main/out/crewdesk_main $@
+	@sh tools/prove.sh $@
 
 run: $(PROGRAM)
-	$(PROGRAM) replay < examples/first_offer/stdin
+	@$(PROGRAM) replay < $(DAY)
+
+try:
+	@echo "This run is not proved: 'make run' proves the program first." >&2
+	@cd crates/crewdesk_main && rt try -- replay < ../../$(DAY)
+
+memory:
+	@sh tools/refused_memory.sh
 
 test:
-	rt ci
-	$(MAKE) $(PROGRAM)
-	sh examples/compare.sh $(PROGRAM)
+	@sh tools/gate.sh
 
 clean:
 	rm -rf build crates/*/out

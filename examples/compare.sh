@@ -1,9 +1,9 @@
 #!/bin/sh
 # compare.sh PROGRAM: runs the program on each folder beside this file, and compares what it does with what the
-# folder says: its words in `args`, one a line; its input in `stdin`, a file or a folder; what it must write in
-# `stdout`; how it must end in `status`; and what must stand on standard error in `stderr`, which is nothing where
-# there is no such file. Where a file `output` names a device, the program writes to that.
-# The last line is 'N passed, M failed'.
+# folder says: what it shows in `about`, one line, which is printed where it differs; its words in `args`, one a line;
+# its input in `stdin`, a file or a folder; what it must write in `stdout`; how it must end in `status`; and what must
+# stand on standard error in `stderr`, which is nothing where there is no such file. Where a file `output` names a
+# device, the program writes to that. The last line is 'N passed, M failed'.
 program=$(realpath "$1") || exit 2
 cd "$(dirname "$0")" || exit 2
 work=$(mktemp -d) || exit 2
@@ -22,6 +22,8 @@ for folder in */; do
     "$program" "$@" < "$folder/stdin" > "$output" 2> "$work/stderr"
     status=$?
     wrong=
+    about=$(cat "$folder/about")
+    [ "$(echo "$about" | wc -l)" = 1 ] && [ -n "$about" ] || wrong="$wrong about"
     [ "$status" = "$(cat "$folder/status")" ] || wrong="$wrong status"
     cmp -s "$work/stdout" "$folder/stdout" || wrong="$wrong stdout"
     stderr=$folder/stderr
@@ -32,6 +34,7 @@ for folder in */; do
     else
         failed=$((failed + 1))
         echo "examples/$folder differs in:$wrong (status $status)"
+        echo "    it shows: $about"
     fi
 done
 echo "$passed passed, $failed failed"

@@ -1,7 +1,7 @@
--- The journal of a replay grows by the lines of the entries, one after another.
+-- The journal of a day grows by the lines of the entries, one after another.
 use Rattle.std.proofs.Common.{◌≡◌, ℕ, ◌<◌, ◌+◌, Option, List, [], ◌∷◌, ◌++◌, length, get_or, take, drop, map, refl, sym, ap, subst, ◌∙◌, arith, append-nil, length-append, append_assoc, take-append-drop}
 use Rattle.std.specs.Io.KnownBytes.{Appends}
-use Rattle.std.proofs.KnownBytes.{Appends-trans}
+use Rattle.std.proofs.KnownBytes.{Appends-trans, Appends-nil}
 use Rattle.std.proofs.lemmas.List.{take_more, take-append-le, map-append}
 use Rattle.std.proofs.Math.Seq.{take-append-add}
 use Rattle.std.proofs.lemmas.Grind.{flat_map-append}
@@ -9,11 +9,52 @@ use Rattle.desk_io.specs.Giving.{AddsFront}
 use Rattle.desk_model.specs.Opening.{OpeningValue}
 use Rattle.desk_model.specs.Statement.{StatedValue}
 use Rattle.desk_model.specs.Entry.{EntryValue}
-use Rattle.desk_model.specs.Journal.{entry_line}
-use Rattle.desk_model.specs.Journal.{opening_line, entry_lines, journal}
+use Rattle.desk_model.specs.Journal.{entry_line, opening_line, entry_lines, journal}
 use Rattle.desk_model.specs.Legal.{next, history_from}
 use Rattle.desk_model.proofs.LegalLemmas.{legal-nil, legal-history_from, given-history_from}
+use Rattle.crewdesk_main.specs.Gathered.{Gathers}
 use Rattle.crewdesk_main.specs.Replay.{by_the_day_file, day_history, IsReplay}
+
+-- ---- the history of a day file's commands
+
+-- no command has no entry
+pub day_history-none : (o : OpeningValue) → day_history o [] ≡ []
+unfolding history_from
+day_history-none o = refl
+
+-- commands after others go on with the history of those
+history_from-append : (o : OpeningValue) (h : List EntryValue) (commands later : List (ℕ × StatedValue)) → history_from o h (commands ++ later) ≡ history_from o (history_from o h commands) later
+unfolding history_from
+history_from-append o h [] later = refl
+history_from-append o h ((caller, s) ∷ rest) later = history_from-append o (h ++ next o h caller s ∷ []) rest later
+
+-- the next command adds the entry that the rules give
+day_history-more : (o : OpeningValue) (commands : List StatedValue) (place : ℕ) (s : StatedValue) → place < length commands → s ≡ get_or commands place s
+    → day_history o (take (place + 1) commands) ≡ day_history o (take place commands) ++ next o (day_history o (take place commands)) 0 s ∷ []
+unfolding history_from
+day_history-more o commands place s within at =
+    ap (day_history o) (take_more commands place s within ∙ ap (λ x. take place commands ++ x ∷ []) (sym at))
+    ∙ ap (history_from o []) (map-append by_the_day_file (take place commands) (s ∷ []))
+    ∙ history_from-append o [] (map by_the_day_file (take place commands)) (by_the_day_file s ∷ [])
+
+-- so a desk that was opened so and stands for the history so far answers by the entry that comes next
+pub day_history-next : (now o : OpeningValue) (commands : List StatedValue) (place : ℕ) (s : StatedValue) (h : List EntryValue) (e : EntryValue)
+    → now ≡ o → h ≡ day_history o (take place commands) → place < length commands → s ≡ get_or commands place s → e ≡ next now h 0 s
+    → h ++ e ∷ [] ≡ day_history o (take (place + 1) commands)
+day_history-next now o commands place s h e same so_far within at answer =
+    let before = day_history o (take place commands) in
+    ap (λ l. l ++ e ∷ []) so_far
+    ∙ ap (λ x. before ++ x ∷ []) (answer ∙ ap (λ x. next x h 0 s) same ∙ ap (λ l. next o l 0 s) so_far)
+    ∙ sym (day_history-more o commands place s within at)
+
+-- the history that the rules give for a day file's commands is their replay
+pub IsReplay-day_history : (o : OpeningValue) (commands : List StatedValue) → IsReplay o commands (day_history o commands)
+IsReplay-day_history o commands = record {
+  legal = legal-history_from o [] (map by_the_day_file commands) (legal-nil o);
+  given = given-history_from o [] (map by_the_day_file commands);
+}
+
+-- ---- text that is gathered
 
 -- after all of one text, a front of the next is a front of both
 AddsFront-after : (a b c : Option (List ℕ)) (text more : List ℕ) → Appends a b text → AddsFront b c more → AddsFront a c (text ++ more)
@@ -31,112 +72,55 @@ AddsFront-longer a b text more front = record {
   added = subst (Appends a b) (sym (take-append-le front.count text more (omega (arith, front.within)))) front.added;
 }
 
--- no command has no entry
-pub day_history-none : (o : OpeningValue) → day_history o [] ≡ []
-unfolding history_from
-day_history-none o = refl
+-- nothing was gathered yet
+pub Gathers-none : (a : Option (List ℕ)) → Gathers a a [] []
+Gathers-none a = record { put = []; added = Appends-nil a; parts = refl }
 
--- commands after others go on with the history of those
-history_from-append : (o : OpeningValue) (h : List EntryValue) (commands later : List (ℕ × StatedValue)) → history_from o h (commands ++ later) ≡ history_from o (history_from o h commands) later
-unfolding history_from
-history_from-append o h [] later = refl
-history_from-append o h ((caller, s) ∷ rest) later = history_from-append o (h ++ next o h caller s ∷ []) rest later
-
--- a history goes on with the entries of further commands
-history_from-grows : (o : OpeningValue) (h : List EntryValue) (commands : List (ℕ × StatedValue)) → (later : List EntryValue) × (history_from o h commands ≡ h ++ later)
-unfolding history_from
-history_from-grows o h [] = ([], sym (append-nil h))
-history_from-grows o h ((caller, s) ∷ rest) =
-    let grown = history_from-grows o (h ++ next o h caller s ∷ []) rest in
-    (next o h caller s ∷ grown.0, grown.1 ∙ append_assoc h (next o h caller s ∷ []) grown.0)
-
--- the next command adds the entry that the rules give
-day_history-more : (o : OpeningValue) (commands : List StatedValue) (place : ℕ) (s : StatedValue) → place < length commands → s ≡ get_or commands place s
-    → day_history o (take (place + 1) commands) ≡ day_history o (take place commands) ++ next o (day_history o (take place commands)) 0 s ∷ []
-unfolding history_from
-day_history-more o commands place s within at =
-    ap (day_history o) (take_more commands place s within ∙ ap (λ x. take place commands ++ x ∷ []) (sym at))
-    ∙ ap (history_from o []) (map-append by_the_day_file (take place commands) (s ∷ []))
-    ∙ history_from-append o [] (map by_the_day_file (take place commands)) (by_the_day_file s ∷ [])
-
--- the lines of the entries of the first commands stand first
-entry_lines-front : (o : OpeningValue) (commands : List StatedValue) (count : ℕ)
-    → (more : List ℕ) × (entry_lines (day_history o commands) ≡ entry_lines (day_history o (take count commands)) ++ more)
-entry_lines-front o commands count =
-    let front = map by_the_day_file (take count commands) in
-    let rest = map by_the_day_file (drop count commands) in
-    let grown = history_from-grows o (history_from o [] front) rest in (
-      entry_lines grown.0,
-      ap (λ all. entry_lines (day_history o all)) (sym (take-append-drop count commands))
-          ∙ ap (λ given. entry_lines (history_from o [] given)) (map-append by_the_day_file (take count commands) (drop count commands))
-          ∙ ap entry_lines (history_from-append o [] front rest ∙ grown.1)
-          ∙ flat_map-append entry_line (history_from o [] front) grown.0,
-    )
-
--- an entry more is its line more
-entry_lines-more : (h : List EntryValue) (e : EntryValue) → entry_lines (h ++ e ∷ []) ≡ entry_lines h ++ entry_line e
-entry_lines-more h e = flat_map-append entry_line h (e ∷ []) ∙ ap (λ line. entry_lines h ++ line) (append-nil (entry_line e))
-
--- a front of the first commands' lines is one of all commands' lines
-AddsFront-commands : (a b : Option (List ℕ)) (o : OpeningValue) (commands : List StatedValue) (count : ℕ)
-    → AddsFront a b (entry_lines (day_history o (take count commands))) → AddsFront a b (entry_lines (day_history o commands))
-AddsFront-commands a b o commands count front =
-    let rest = entry_lines-front o commands count in
-    subst (AddsFront a b) (sym rest.1) (AddsFront-longer a b (entry_lines (day_history o (take count commands))) rest.0 front)
-
--- a desk that was opened so answered the next of the commands by this entry, and this is its line
-pub record IsNext (o : OpeningValue) (commands : List StatedValue) (place : ℕ) (e : EntryValue) (line : List ℕ) : Type 0 where
-  pub now : OpeningValue
-  pub same : now ≡ o
-  pub stated : StatedValue
-  pub within : place < length commands
-  pub at : stated ≡ get_or commands place stated
-  pub entry : e ≡ next now (day_history o (take place commands)) 0 stated
-  pub spelled : line ≡ entry_line e
-
--- the history of the commands so far goes on with it
-pub day_history-next : (o : OpeningValue) (commands : List StatedValue) (place : ℕ) (e : EntryValue) (line : List ℕ) → IsNext o commands place e line
-    → day_history o (take (place + 1) commands) ≡ day_history o (take place commands) ++ e ∷ []
-day_history-next o commands place e line step =
-    let before = day_history o (take place commands) in
-    day_history-more o commands place step.stated step.within step.at
-    ∙ ap (λ x. before ++ x ∷ []) (sym (step.entry ∙ ap (λ x. next x before 0 step.stated) step.same))
-
--- and the lines with its line
-entry_lines-next : (o : OpeningValue) (commands : List StatedValue) (place : ℕ) (e : EntryValue) (line : List ℕ) → IsNext o commands place e line
-    → entry_lines (day_history o (take (place + 1) commands)) ≡ entry_lines (day_history o (take place commands)) ++ line
-entry_lines-next o commands place e line step =
-    let before = day_history o (take place commands) in
-    ap entry_lines (day_history-next o commands place e line step) ∙ entry_lines-more before e ∙ ap (λ t. entry_lines before ++ t) (sym step.spelled)
-
--- where its line was written behind those before it, the lines so far are written
-pub Appends-next : (a b c : Option (List ℕ)) (o : OpeningValue) (commands : List StatedValue) (place : ℕ) (e : EntryValue) (line : List ℕ)
-    → IsNext o commands place e line → Appends a b (entry_lines (day_history o (take place commands))) → Appends b c line
-    → Appends a c (entry_lines (day_history o (take (place + 1) commands)))
-Appends-next a b c o commands place e line step before added =
-    subst (Appends a c) (sym (entry_lines-next o commands place e line step))
-    (Appends-trans a b c (entry_lines (day_history o (take place commands))) line before added)
-
--- and where a front of it was, a front of all lines is
-pub AddsFront-next : (a b c : Option (List ℕ)) (o : OpeningValue) (commands : List StatedValue) (place : ℕ) (e : EntryValue) (line : List ℕ)
-    → IsNext o commands place e line → Appends a b (entry_lines (day_history o (take place commands))) → AddsFront b c line
-    → AddsFront a c (entry_lines (day_history o commands))
-AddsFront-next a b c o commands place e line step before front =
-    AddsFront-commands a c o commands (place + 1)
-    (subst (AddsFront a c) (sym (entry_lines-next o commands place e line step))
-    (AddsFront-after a b c (entry_lines (day_history o (take place commands))) line before front))
-
--- the history that the rules give for a day file's commands is their replay
-pub IsReplay-day_history : (o : OpeningValue) (commands : List StatedValue) → IsReplay o commands (day_history o commands)
-IsReplay-day_history o commands = record {
-  legal = legal-history_from o [] (map by_the_day_file commands) (legal-nil o);
-  given = given-history_from o [] (map by_the_day_file commands);
+-- what is gathered behind what waits is gathered behind all
+Gathers-more : (a b c : Option (List ℕ)) (text waiting line later : List ℕ) → Gathers a b text waiting → Gathers b c (waiting ++ line) later → Gathers a c (text ++ line) later
+Gathers-more a b c text waiting line later before next = record {
+  put = before.put ++ next.put;
+  added = Appends-trans a b c before.put next.put before.added next.added;
+  parts = ap (λ t. t ++ line) before.parts ∙ append_assoc before.put waiting line ∙ ap (λ t. before.put ++ t) next.parts ∙ sym (append_assoc before.put next.put later);
 }
 
--- a front of the entries' lines, after the opening's line, is one of the journal
-pub AddsFront-journal : (a b c : Option (List ℕ)) (now o : OpeningValue) (commands : List StatedValue) (line : List ℕ)
-    → now ≡ o → line ≡ opening_line o → Appends a b line → AddsFront b c (entry_lines (day_history now commands))
-    → AddsFront a c (journal o (day_history o commands))
-AddsFront-journal a b c now o commands line same spelled before front =
-    AddsFront-after a b c (opening_line o) (entry_lines (day_history o commands)) (subst (Appends a b) spelled before)
-    (subst (λ x. AddsFront b c (entry_lines (day_history x commands))) same front)
+-- where what waits was put, all was
+pub Appends-gathered : (a b c : Option (List ℕ)) (text waiting : List ℕ) → Gathers a b text waiting → Appends b c waiting → Appends a c text
+Appends-gathered a b c text waiting before put =
+    subst (Appends a c) (sym before.parts) (Appends-trans a b c before.put waiting before.added put)
+
+-- and where a front of it was, a front of all was
+pub AddsFront-gathered : (a b c : Option (List ℕ)) (text waiting : List ℕ) → Gathers a b text waiting → AddsFront b c waiting → AddsFront a c text
+AddsFront-gathered a b c text waiting before front =
+    subst (AddsFront a c) (sym before.parts) (AddsFront-after a b c before.put waiting before.added front)
+
+-- ---- the journal
+
+-- the line of the next entry stands behind those before it
+journal-next : (o : OpeningValue) (h : List EntryValue) (place : ℕ) (e : EntryValue) → place < length h → e ≡ get_or h place e
+    → (opening_line o ++ entry_lines (take place h)) ++ entry_line e ≡ opening_line o ++ entry_lines (take (place + 1) h)
+journal-next o h place e within at =
+    append_assoc (opening_line o) (entry_lines (take place h)) (entry_line e)
+    ∙ ap (λ t. opening_line o ++ t) (sym (
+    ap entry_lines (take_more h place e within ∙ ap (λ x. take place h ++ x ∷ []) (sym at))
+    ∙ flat_map-append entry_line (take place h) (e ∷ [])
+    ∙ ap (λ line. entry_lines (take place h) ++ line) (append-nil (entry_line e))))
+
+-- so what was gathered with it is the opening's line and the lines of one entry more
+pub Gathers-journal : (a b c : Option (List ℕ)) (o : OpeningValue) (h : List EntryValue) (place : ℕ) (e : EntryValue) (line waiting later : List ℕ)
+    → place < length h → e ≡ get_or h place e → line ≡ entry_line e
+    → Gathers a b (opening_line o ++ entry_lines (take place h)) waiting → Gathers b c (waiting ++ line) later
+    → Gathers a c (opening_line o ++ entry_lines (take (place + 1) h)) later
+Gathers-journal a b c o h place e line waiting later within at spelled before next =
+    subst (λ t. Gathers a c t later)
+    (ap (λ l. (opening_line o ++ entry_lines (take place h)) ++ l) spelled ∙ journal-next o h place e within at)
+    (Gathers-more a b c (opening_line o ++ entry_lines (take place h)) waiting line later before next)
+
+-- a front of the opening's line and the first entries' lines is one of the journal
+pub AddsFront-journal : (a b : Option (List ℕ)) (o : OpeningValue) (h : List EntryValue) (place : ℕ)
+    → AddsFront a b (opening_line o ++ entry_lines (take place h)) → AddsFront a b (journal o h)
+AddsFront-journal a b o h place front =
+    subst (AddsFront a b)
+    (append_assoc (opening_line o) (entry_lines (take place h)) (entry_lines (drop place h))
+    ∙ ap (λ t. opening_line o ++ t) (sym (flat_map-append entry_line (take place h) (drop place h)) ∙ ap entry_lines (take-append-drop place h)))
+    (AddsFront-longer a b (opening_line o ++ entry_lines (take place h)) (entry_lines (drop place h)) front)

@@ -1,40 +1,33 @@
 -- What is said of bytes that were taken whole.
-use Rattle.std.proofs.Common.{◌≡◌, ℕ, ◌≤◌, Option, None, Some, List, length, sym, subst}
+use Rattle.std.proofs.Common.{◌≡◌, ℕ, ◌≤◌, Option, None, Some, List, length, subst}
 use Rattle.desk_io.specs.Input.{TookAll}
 use Rattle.desk_model.specs.Opening.{OpeningValue}
 use Rattle.desk_model.specs.Statement.{StatedValue}
 use Rattle.desk_model.specs.Journal.{journal}
+use Rattle.crewdesk_main.specs.declared.limits.TheConstants.{BYTE_LIMIT}
 use Rattle.crewdesk_main.specs.DayFile.{IsDayFile}
-use Rattle.crewdesk_main.specs.Replay.{WasRead, Replays, IsReplayable, day_history}
+use Rattle.crewdesk_main.specs.Replay.{WasRead, Replays, day_history}
 use Rattle.crewdesk_main.proofs.JournalLemmas.{IsReplay-day_history}
 
-pub WasRead-TookAll : (before after : Option (List ℕ)) (bytes : List ℕ) (limit : ℕ) (P : List ℕ → Type 0) → TookAll before after bytes → length bytes ≤ limit → P bytes → WasRead before after limit P
-WasRead-TookAll None after bytes limit P took within p = tt
-WasRead-TookAll (Some left) after bytes limit P took within p =
-    (subst (λ b. length b ≤ limit) took.0 within, took.1, subst P took.0 p)
+pub WasRead-TookAll : (before after : Option (List ℕ)) (bytes : List ℕ) (P : List ℕ → Type 0) → TookAll before after bytes → length bytes ≤ BYTE_LIMIT → P bytes → WasRead before after P
+WasRead-TookAll None after bytes P took within p = tt
+WasRead-TookAll (Some left) after bytes P took within p =
+    (subst (λ b. length b ≤ BYTE_LIMIT) took.0 within, took.1, subst P took.0 p)
 
 -- what was taken whole is what the source told
 TookAll-told : (before after : Option (List ℕ)) (bytes told : List ℕ) → TookAll before after bytes → before ≡ Some told → told ≡ bytes
 TookAll-told None after bytes told took e = cc
 TookAll-told (Some left) after bytes told took e = let same = took.0 in cc
 
--- where a day file was told, what was taken whole is none that has such a fault
-pub IsReplayable-without : (before after : Option (List ℕ)) (bytes : List ℕ) (limit : ℕ) (Fault : List ℕ → Type 0)
-    → ((told : List ℕ) (o : OpeningValue) (commands : List StatedValue) → IsDayFile told o commands → ¬ Fault told)
-    → TookAll before after bytes → IsReplayable before limit → ¬ Fault bytes
-IsReplayable-without before after bytes limit Fault without took day fault =
-    let same = TookAll-told before after bytes day.bytes took day.told in
-    without day.bytes day.opening day.commands day.day (subst Fault (sym same) fault)
-
 -- a day file was taken whole and read, and this was done with its journal
-pub Replays-TookAll : (before after : Option (List ℕ)) (bytes seen : List ℕ) (limit : ℕ) (o : OpeningValue) (commands : List StatedValue) (Writes : List ℕ → Type 0)
-    → TookAll before after bytes → length bytes ≤ limit → seen ≡ bytes → IsDayFile seen o commands → Writes (journal o (day_history o commands))
-    → Replays before after limit Writes
-Replays-TookAll before after bytes seen limit o commands Writes took within same day written = record {
+pub Replays-TookAll : (before after : Option (List ℕ)) (bytes seen : List ℕ) (o : OpeningValue) (commands : List StatedValue) (Writes : List ℕ → Type 0)
+    → TookAll before after bytes → length bytes ≤ BYTE_LIMIT → seen ≡ bytes → IsDayFile seen o commands → Writes (journal o (day_history o commands))
+    → Replays before after Writes
+Replays-TookAll before after bytes seen o commands Writes took within same day written = record {
   opening = o;
   valid = day.opening.valid;
   commands = commands;
-  read = WasRead-TookAll before after bytes limit (λ b. IsDayFile b o commands) took within (subst (λ b. IsDayFile b o commands) same day);
+  read = WasRead-TookAll before after bytes (λ b. IsDayFile b o commands) took within (subst (λ b. IsDayFile b o commands) same day);
   history = day_history o commands;
   replay = IsReplay-day_history o commands;
   written = written;

@@ -8,11 +8,8 @@ use Rattle.desk_model.specs.Opening.{OpeningValue, IsOpening, opening_fields}
 use Rattle.desk_model.specs.Statement.{StatedValue}
 use Rattle.desk_model.specs.Fits.{IsStated}
 use Rattle.desk_model.specs.StatedTexts.{stated_fields}
+use Rattle.crewdesk_main.specs.declared.limits.TheConstants.{RECORD_LIMIT}
 use Rattle.crewdesk_main.specs.Records.{records, fields_of}
-
--- how many records a day file may have: its opening and 200,000 commands
-abbrev pub record_limit : ℕ
-record_limit = 200_001
 
 -- the record is this opening's
 pub record IsOpeningRecord (bytes : List ℕ) (o : OpeningValue) : Type 0 where
@@ -42,18 +39,24 @@ pub record IsDayFile (bytes : List ℕ) (o : OpeningValue) (commands : List Stat
   pub first : List ℕ
   pub rest : List (List ℕ)
   pub parts : records bytes ≡ first ∷ rest
-  pub few : length (records bytes) ≤ record_limit
+  pub few : length (records bytes) ≤ RECORD_LIMIT
   pub opening : IsOpeningRecord first o
   pub valid : All IsStated commands
   pub fields : map fields_of rest ≡ map stated_fields commands
 
+-- the bytes are a day file
+pub record IsSomeDayFile (bytes : List ℕ) : Type 0 where
+  pub opening : OpeningValue
+  pub commands : List StatedValue
+  pub day : IsDayFile bytes opening commands
+
 -- there are more records than a day file may have
 abbrev pub HasTooMany : List ℕ → Type 0
-HasTooMany bytes = record_limit < length (records bytes)
+HasTooMany bytes = RECORD_LIMIT < length (records bytes)
 
 -- the first record is no opening's, or there is none
 pub record HasNoOpening (bytes : List ℕ) : Type 0 where
-  pub few : length (records bytes) ≤ record_limit
+  pub few : length (records bytes) ≤ RECORD_LIMIT
   pub none : (first : List ℕ) (rest : List (List ℕ)) → records bytes ≡ first ∷ rest → (o : OpeningValue) → ¬ IsOpeningRecord first o
 
 -- a record after the opening states no command
@@ -61,7 +64,7 @@ pub record HasUnreadable (bytes : List ℕ) : Type 0 where
   pub first : List ℕ
   pub rest : List (List ℕ)
   pub parts : records bytes ≡ first ∷ rest
-  pub few : length (records bytes) ≤ record_limit
+  pub few : length (records bytes) ≤ RECORD_LIMIT
   pub o : OpeningValue
   pub opening : IsOpeningRecord first o
   pub bad : List ℕ

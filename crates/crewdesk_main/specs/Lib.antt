@@ -1,4 +1,6 @@
 pub mod Records
 pub mod DayFile
 pub mod Words
+pub mod Texts
 pub mod Replay
+pub mod Gathered

@@ -1,7 +1,7 @@
 -- What a replay reads and writes.
-use Rattle.std.specs.Prelude.{◌≡◌, ◌≢◌, ◌⊎◌, ℕ, ◌≤◌, Bool, true, false, Option, None, Some, List, [], length, map, ⊤}
+use Rattle.std.specs.Prelude.{◌≡◌, ◌≢◌, ◌⊎◌, ℕ, ◌<◌, ◌≤◌, Bool, true, false, Option, None, Some, List, [], length, map, ⊤}
 use Rattle.desk_io.specs.declared.status.Status.{Status}
-use Rattle.desk_io.specs.declared.status.Status.TheVariants.{Fine, Usage, ReadFault, WriteFault, TooLong, NoMemory, AuditWrong, NoOpening, Unreadable}
+use Rattle.desk_io.specs.declared.status.Status.TheVariants.{Fine, ReadFault, WriteFault, TooLong, NoMemory, NoOpening, Unreadable}
 use Rattle.std.specs.Io.KnownBytes.{Appends}
 use Rattle.desk_io.specs.Faults.{Rose}
 use Rattle.desk_io.specs.Giving.{AddsFront}
@@ -11,16 +11,13 @@ use Rattle.desk_model.specs.Statement.{StatedValue}
 use Rattle.desk_model.specs.Entry.{EntryValue}
 use Rattle.desk_model.specs.Legal.{IsLegal, given, history}
 use Rattle.desk_model.specs.Journal.{journal}
-use Rattle.crewdesk_main.specs.DayFile.{IsDayFile, HasTooMany, HasNoOpening, HasUnreadable}
-
--- how many bytes a day file may have
-abbrev pub day_file_limit : ℕ
-day_file_limit = 16_777_216
+use Rattle.crewdesk_main.specs.declared.limits.TheConstants.{BYTE_LIMIT}
+use Rattle.crewdesk_main.specs.DayFile.{IsDayFile, IsSomeDayFile, HasTooMany, HasNoOpening, HasUnreadable}
 
 -- a source that told its bytes told some within the limit that have P, and has none left
-abbrev pub WasRead : Option (List ℕ) → Option (List ℕ) → ℕ → (List ℕ → Type 0) → Type 0
-WasRead None left limit P = ⊤
-WasRead (Some bytes) left limit P = (length bytes ≤ limit) × (left ≡ Some []) × P bytes
+abbrev pub WasRead : Option (List ℕ) → Option (List ℕ) → (List ℕ → Type 0) → Type 0
+WasRead None left P = ⊤
+WasRead (Some bytes) left P = (length bytes ≤ BYTE_LIMIT) × (left ≡ Some []) × P bytes
 
 -- stated by caller 0, as a day file's commands are
 abbrev pub by_the_day_file : StatedValue → ℕ × StatedValue
@@ -36,45 +33,55 @@ pub record IsReplay (o : OpeningValue) (commands : List StatedValue) (h : List E
   pub given : map given h ≡ map by_the_day_file commands
 
 -- a day file was read, and this was done with the journal of its replay
-pub record Replays (before after : Option (List ℕ)) (limit : ℕ) (Writes : List ℕ → Type 0) : Type 0 where
+pub record Replays (before after : Option (List ℕ)) (Writes : List ℕ → Type 0) : Type 0 where
   pub opening : OpeningValue
   pub valid : IsOpening opening
   pub commands : List StatedValue
-  pub read : WasRead before after limit (λ bytes. IsDayFile bytes opening commands)
+  pub read : WasRead before after (λ bytes. IsDayFile bytes opening commands)
   pub history : List EntryValue
   pub replay : IsReplay opening commands history
   pub written : Writes (journal opening history)
 
--- the source tells a day file within the limit
-pub record IsReplayable (left : Option (List ℕ)) (limit : ℕ) : Type 0 where
+-- the source tells bytes within the limit that have P
+pub record Tells (left : Option (List ℕ)) (P : List ℕ → Type 0) : Type 0 where
   pub bytes : List ℕ
   pub told : left ≡ Some bytes
-  pub within : length bytes ≤ limit
-  pub opening : OpeningValue
-  pub commands : List StatedValue
-  pub day : IsDayFile bytes opening commands
+  pub within : length bytes ≤ BYTE_LIMIT
+  pub has : P bytes
+
+-- the source tells more bytes than the limit
+pub record TellsMore (left : Option (List ℕ)) : Type 0 where
+  pub bytes : List ℕ
+  pub told : left ≡ Some bytes
+  pub more : BYTE_LIMIT < length bytes
+
+-- the run ended so, unless the source had a fault or memory was wanting
+abbrev pub EndsAs : Status → Status → Type 0
+EndsAs result status = result ≢ ReadFault → result ≢ NoMemory → result ≡ status
+
+-- which status comes where, by the bytes that the source tells
+pub record EndsByTheDay (result : Status) (left : Option (List ℕ)) : Type 0 where
+  pub more_bytes : TellsMore left → EndsAs result TooLong
+  pub too_many : Tells left HasTooMany → EndsAs result TooLong
+  pub no_opening : Tells left HasNoOpening → EndsAs result NoOpening
+  pub unreadable : Tells left HasUnreadable → EndsAs result Unreadable
+  pub day : Tells left IsSomeDayFile → result ≢ WriteFault → EndsAs result Fine
 
 -- a run that ended so did what a replay that ends so does: what its source and sink told before and after, and how many
 -- faults they counted
 pub record EndsReplay (result : Status) (left left' : Option (List ℕ)) (asked asked' : ℕ) (held held' : Option (List ℕ)) (given given' : ℕ) : Type 0 where
-  pub fine : result ≡ Fine → Replays left left' day_file_limit (Appends held held')
-  pub write_fault : result ≡ WriteFault → Replays left left' day_file_limit (AddsFront held held')
+  pub fine : result ≡ Fine → Replays left left' (Appends held held')
+  pub write_fault : result ≡ WriteFault → Replays left left' (AddsFront held held')
   pub write_cause : result ≡ WriteFault → Rose given given'
   pub read_cause : result ≡ ReadFault → Rose asked asked'
-  pub too_long : result ≡ TooLong → TookMore left left' day_file_limit ⊎ WasRead left left' day_file_limit HasTooMany
-  pub not_too_long : result ≢ TooLong → TookFront left left' day_file_limit
-  pub no_opening : result ≡ NoOpening → WasRead left left' day_file_limit HasNoOpening
-  pub unreadable : result ≡ Unreadable → WasRead left left' day_file_limit HasUnreadable
-  pub complete : IsReplayable left day_file_limit → ¬ Rose asked asked' → ¬ Rose given given' → (result ≡ Fine) ⊎ (result ≡ NoMemory)
+  pub too_long : result ≡ TooLong → TookMore left left' BYTE_LIMIT ⊎ WasRead left left' HasTooMany
+  pub not_too_long : result ≢ TooLong → TookFront left left' BYTE_LIMIT
+  pub no_opening : result ≡ NoOpening → WasRead left left' HasNoOpening
+  pub unreadable : result ≡ Unreadable → WasRead left left' HasUnreadable
+  pub by_the_day : EndsByTheDay result left
 
 -- the ways to end in which the sink was given something
 abbrev pub writes : Status → Bool
 writes Fine = true
-writes Usage = false
-writes ReadFault = false
 writes WriteFault = true
-writes TooLong = false
-writes NoMemory = false
-writes AuditWrong = false
-writes NoOpening = false
-writes Unreadable = false
+writes _ = false

@@ -1,5 +1,5 @@
 //! Day files.
-ghost use Rattle.std.specs.Prelude.{◌≡◌, ◌≤◌, ◌<◌, ℕ, List, length, map, IfSome, IfNone, IfOk, IsErrOf};
+ghost use Rattle.std.specs.Prelude.{◌≡◌, ◌≤◌, ◌<◌, ◌↔◌, ◌⊎◌, ℕ, List, length, map, IfSome, IfNone, IfOk, IsErrOf};
 ghost use Rattle.std.specs.List.{All, Contains};
 ghost use Rattle.std.specs.Result.{IsOkUnless};
 ghost use Rattle.desk_model.specs.Opening.{OpeningValue};
@@ -7,16 +7,14 @@ ghost use Rattle.desk_model.specs.Statement.{StatedValue};
 ghost use Rattle.desk_model.specs.Fits.{IsStated};
 ghost use Rattle.desk_model.specs.StatedTexts.{stated_fields};
 ghost use Rattle.crewdesk_main.specs.Records.{records, fields_of};
-ghost use Rattle.crewdesk_main.specs.DayFile.{IsCommandRecord, IsDayFile, HasTooMany, HasNoOpening, HasUnreadable, record_limit};
+ghost use Rattle.crewdesk_main.specs.DayFile.{IsCommandRecord, IsDayFile, IsSomeDayFile, HasTooMany, HasNoOpening, HasUnreadable};
 
 use crate::command_record::read_stated;
+use crate::limits::RECORD_LIMIT;
 use crate::opening_record::read_opening;
 use crate::records::next_record;
 use desk_model::{Opening, Stated};
 use std::alloc::Global;
-
-/// How many records a day file may have: its opening and 200,000 commands.
-pub const RECORDS: usize = 200_001;
 
 /// A day file: how the desk was opened, and what it was told and asked then, in order.
 #[derive(Drop)]
@@ -41,16 +39,18 @@ pub enum DayFault {
 }
 
 /// The day file that the bytes are. Of the faults the first that holds is told: too many records, no opening, and then
-/// a record that states no command. `NoMemory` comes before the last of these, where there is no room for the commands.
+/// a record that states no command. The first two are decided before memory is asked for, so that `NoMemory` comes only
+/// where neither holds.
 pub fn read_day(alloc: Global, bytes: &[u8]) -> Result<DayFile, DayFault>
     ensures ok { IfOk result (λ day. IsDayFile bytes.now day.opening day.commands.items) }
-    ensures too_many { IsErrOf result DayFault.TooMany → HasTooMany bytes.now }
-    ensures no_opening { IsErrOf result DayFault.NoOpening → HasNoOpening bytes.now }
+    ensures too_many { IsErrOf result DayFault.TooMany ↔ HasTooMany bytes.now }
+    ensures no_opening { IsErrOf result DayFault.NoOpening ↔ HasNoOpening bytes.now }
     ensures unreadable { IsErrOf result DayFault.Unreadable → HasUnreadable bytes.now }
 
-    // A day file is read, unless memory is wanting.
-    ensures reads { (opening : OpeningValue) (commands : List StatedValue)
-        → IsDayFile bytes.now opening commands → IsOkUnless result DayFault.NoMemory }
+    // What is neither too many records nor without an opening is told right, unless memory is wanting.
+    ensures states { HasUnreadable bytes.now
+        → (IsErrOf result DayFault.Unreadable) ⊎ (IsErrOf result DayFault.NoMemory) }
+    ensures reads { IsSomeDayFile bytes.now → IsOkUnless result DayFault.NoMemory }
 {
     let Some(count) = count_records(bytes) else {
         return Err(DayFault::TooMany);
@@ -74,13 +74,13 @@ pub fn bytes_are_one_day_file()
 // How many records the bytes have; `None` where these are more than a day file may have.
 fn count_records(bytes: &[u8]) -> Option<usize>
     ensures some { IfSome result (λ count. count ≡ length (records bytes.now)) }
-    ensures few { IfSome result (λ count. count ≤ record_limit) }
-    ensures none { IfNone result (record_limit < length (records bytes.now)) }
+    ensures few { IfSome result (λ count. count ≤ RECORD_LIMIT) }
+    ensures none { IfNone result (RECORD_LIMIT < length (records bytes.now)) }
 {
     let mut count = 0;
     let mut rest = bytes;
     while let Some((_, after)) = next_record(rest) {
-        if count == RECORDS {
+        if count == RECORD_LIMIT {
             return None;
         }
         count += 1;

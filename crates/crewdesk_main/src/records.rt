@@ -5,11 +5,9 @@ ghost use Rattle.std.specs.Str.Lines.{lines, strip_carriage_return};
 ghost use Rattle.arrayvec.specs.ArrayVec.{array_vec_len};
 ghost use Rattle.crewdesk_main.specs.Records.{records, fields_of};
 
+use crate::limits::FIELD_LIMIT;
 use arrayvec::ArrayVec;
 use desk_base::split_once;
-
-/// How many fields a record may have and still be read.
-pub const FIELDS: usize = 12;
 
 /// The next record, and the bytes behind its line; `None` where no record is left.
 pub fn next_record(bytes: &[u8]) -> Option<(&[u8], &[u8])>
@@ -27,10 +25,10 @@ pub fn next_record(bytes: &[u8]) -> Option<(&[u8], &[u8])>
 }
 
 /// The fields of a record; `None` where it has more than 12.
-pub fn fields_of(text: &[u8]) -> Option<ArrayVec<&[u8], FIELDS>>
+pub fn fields_of(text: &[u8]) -> Option<ArrayVec<&[u8], FIELD_LIMIT>>
     ensures some { IfSome result (λ fields.
         map (λ field. field.now) fields.items ≡ fields_of text.now) }
-    ensures none { IfNone result (12 < length (fields_of text.now)) }
+    ensures none { IfNone result (FIELD_LIMIT < length (fields_of text.now)) }
 {
     let mut fields = ArrayVec::new();
     let mut rest = Some(text);

@@ -1,4 +1,4 @@
-ghost use Rattle.std.specs.Prelude.{◌≡◌, ◌≢◌, ◌≤◌, ◌⊎◌, ◌↔◌, false, true};
+ghost use Rattle.std.specs.Prelude.{◌≡◌, ◌≢◌, ◌≤◌, ◌⊎◌, ◌↔◌, false, true, IfOk};
 ghost use Rattle.std.specs.Io.KnownBytes.{Appends, Keeps};
 ghost use Rattle.desk_io.specs.Faults.{Rose};
 ghost use Rattle.desk_io.specs.Giving.{AddsFront};
@@ -6,17 +6,21 @@ ghost use Rattle.desk_io.specs.Input.{TookMore, TookFront};
 ghost use Rattle.desk_model.specs.Journal.{journal};
 ghost use Rattle.crewdesk_main.specs.DayFile.{HasTooMany, HasNoOpening, HasUnreadable};
 ghost use Rattle.crewdesk_main.specs.Words.{is_replay};
-ghost use Rattle.crewdesk_main.specs.Replay.{Replays, IsReplayable, WasRead, day_file_limit, day_history, writes};
+ghost use Rattle.crewdesk_main.specs.Replay.{Replays, EndsByTheDay, WasRead, day_history, writes};
 
+use crate::answers::answer_all;
 use crate::day_file::{DayFault, DayFile, read_day};
 use crate::journal::write_journal;
+use crate::limits::BYTE_LIMIT;
 use crate::words::is_alone;
+use desk_base::NoMemory;
 use desk_io::{Sink, Source, Status, take_all};
+use desk_model::Entry;
 use plain_core::PlainCore;
 use std::alloc::Global;
 
-/// How many bytes a day file may have.
-pub const DAY_FILE_BYTES: usize = 16_777_216;
+// How many bytes of the journal are put into the sink at once, at most.
+const BUFFER_BYTES: usize = 65_536;
 
 /// Runs the desk. With the word `replay` alone it reads a day file from the source, replays its commands and writes
 /// the journal to the sink. It reads all of its input, and takes all memory for the replay, before it writes anything.
@@ -28,45 +32,42 @@ pub fn run<S: Source, K: Sink>(
 ) -> Status
     ensures usage { result ≡ Status.Usage ↔ (is_replay words.now ≡ false) }
     ensures unasked_left { result ≡ Status.Usage → S.left source.new ≡ S.left source.old }
-    ensures unasked_faults { result ≡ Status.Usage → S.faults source.new ≡ S.faults source.old }
-
-    ensures fine { result ≡ Status.Fine
-        → Replays (S.left source.old) (S.left source.new) day_file_limit
-        (Appends (K.held sink.old) (K.held sink.new)) }
-    ensures write_fault { result ≡ Status.WriteFault
-        → Replays (S.left source.old) (S.left source.new) day_file_limit
-        (AddsFront (K.held sink.old) (K.held sink.new)) }
-    ensures silent { writes result ≡ false → Keeps (K.held sink.old) (K.held sink.new) }
-    ensures silent_faults { writes result ≡ false → K.faults sink.new ≡ K.faults sink.old }
-
+    ensures read_count { result ≢ Status.ReadFault → S.faults source.new ≡ S.faults source.old }
+    ensures write_count { result ≢ Status.WriteFault → K.faults sink.new ≡ K.faults sink.old }
     ensures later_source { S.faults source.old ≤ S.faults source.new }
     ensures later_sink { K.faults sink.old ≤ K.faults sink.new }
+
+    ensures fine { result ≡ Status.Fine
+        → Replays (S.left source.old) (S.left source.new)
+        (Appends (K.held sink.old) (K.held sink.new)) }
+    ensures write_fault { result ≡ Status.WriteFault
+        → Replays (S.left source.old) (S.left source.new)
+        (AddsFront (K.held sink.old) (K.held sink.new)) }
+    ensures silent { writes result ≡ false → Keeps (K.held sink.old) (K.held sink.new) }
+
     ensures write_cause { result ≡ Status.WriteFault
         → Rose (K.faults sink.old) (K.faults sink.new) }
     ensures read_cause { result ≡ Status.ReadFault
         → Rose (S.faults source.old) (S.faults source.new) }
     ensures too_long { result ≡ Status.TooLong
-        → TookMore (S.left source.old) (S.left source.new) day_file_limit
-        ⊎ WasRead (S.left source.old) (S.left source.new) day_file_limit HasTooMany }
+        → TookMore (S.left source.old) (S.left source.new) BYTE_LIMIT
+        ⊎ WasRead (S.left source.old) (S.left source.new) HasTooMany }
     ensures not_too_long { result ≢ Status.TooLong
-        → TookFront (S.left source.old) (S.left source.new) day_file_limit }
+        → TookFront (S.left source.old) (S.left source.new) BYTE_LIMIT }
     ensures no_opening { result ≡ Status.NoOpening
-        → WasRead (S.left source.old) (S.left source.new) day_file_limit HasNoOpening }
+        → WasRead (S.left source.old) (S.left source.new) HasNoOpening }
     ensures unreadable { result ≡ Status.Unreadable
-        → WasRead (S.left source.old) (S.left source.new) day_file_limit HasUnreadable }
+        → WasRead (S.left source.old) (S.left source.new) HasUnreadable }
     ensures audit_wrong { result ≢ Status.AuditWrong }
 
-    // A day file is replayed, unless memory or a fault is in the way.
-    ensures complete { is_replay words.now ≡ true
-        → IsReplayable (S.left source.old) day_file_limit
-        → ¬ Rose (S.faults source.old) (S.faults source.new)
-        → ¬ Rose (K.faults sink.old) (K.faults sink.new)
-        → (result ≡ Status.Fine) ⊎ (result ≡ Status.NoMemory) }
+    // And each of these comes where its cause is, unless memory or a fault is in the way.
+    ensures by_the_day { is_replay words.now ≡ true
+        → EndsByTheDay result (S.left source.old) }
 {
     if !is_alone(words, "replay") {
         return Status::Usage;
     }
-    let bytes = match take_all(alloc, source, DAY_FILE_BYTES) {
+    let bytes = match take_all(alloc, source, BYTE_LIMIT) {
         Ok(bytes) => bytes,
         Err(fault) => return Status::from(fault),
     };
@@ -79,7 +80,8 @@ pub fn run<S: Source, K: Sink>(
     }
 }
 
-// Replays the day file's commands on a new desk and writes the journal. `NoMemory` comes before anything is written.
+// Replays the day file's commands on a new desk and writes the journal. All memory is taken, and all commands are
+// answered, before anything is written.
 fn replay_day<K: Sink>(alloc: Global, day: &DayFile, sink: &mut K) -> Status
     ensures fine { result ≡ Status.Fine → Appends (K.held sink.old) (K.held sink.new)
         (journal day.now.opening (day_history day.now.opening day.now.commands.items)) }
@@ -87,19 +89,31 @@ fn replay_day<K: Sink>(alloc: Global, day: &DayFile, sink: &mut K) -> Status
         → AddsFront (K.held sink.old) (K.held sink.new)
         (journal day.now.opening (day_history day.now.opening day.now.commands.items)) }
     ensures silent { result ≡ Status.NoMemory → Keeps (K.held sink.old) (K.held sink.new) }
-    ensures silent_faults { result ≡ Status.NoMemory → K.faults sink.new ≡ K.faults sink.old }
-    ensures later { K.faults sink.old ≤ K.faults sink.new }
     ensures write_cause { result ≡ Status.WriteFault
         → Rose (K.faults sink.old) (K.faults sink.new) }
-    ensures only { (result ≡ Status.Fine) ⊎ ((result ≡ Status.WriteFault) ⊎ (result ≡ Status.NoMemory)) }
+    ensures write_count { result ≢ Status.WriteFault → K.faults sink.new ≡ K.faults sink.old }
+    ensures later { K.faults sink.old ≤ K.faults sink.new }
+    ensures only { (result ≡ Status.Fine)
+        ⊎ ((result ≡ Status.WriteFault) ⊎ (result ≡ Status.NoMemory)) }
 {
-    let steps = day.commands.len() as u64;
-    let Ok(mut core) = PlainCore::new(alloc, day.opening, steps) else {
+    let Ok(entries) = day_entries(alloc, day) else {
         return Status::NoMemory;
     };
-    if write_journal(&mut core, &day.opening, &day.commands, sink) {
+    let Ok(mut buffer) = Vec::with_capacity(alloc, BUFFER_BYTES) else {
+        return Status::NoMemory;
+    };
+    if write_journal(&day.opening, &entries, &mut buffer, sink) {
         Status::Fine
     } else {
         Status::WriteFault
     }
+}
+
+// The entries of a new desk that is given the day file's commands.
+fn day_entries(alloc: Global, day: &DayFile) -> Result<Vec<Entry>, NoMemory>
+    ensures { IfOk result (λ entries.
+        entries.items ≡ day_history day.now.opening day.now.commands.items) }
+{
+    let mut core = PlainCore::new(alloc, day.opening, day.commands.len() as u64)?;
+    answer_all(alloc, &mut core, &day.commands)
 }

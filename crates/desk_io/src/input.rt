@@ -21,6 +21,8 @@ pub fn take_all<S: Source>(
 
     ensures read_fault { IsErrOf result InputFault.ReadFault
         → Rose (S.faults source.old) (S.faults source.new) }
+    ensures no_fault { ¬ IsErrOf result InputFault.ReadFault
+        → S.faults source.new ≡ S.faults source.old }
     ensures too_long { IsErrOf result InputFault.TooLong
         → TookMore (S.left source.old) (S.left source.new) limit }
     ensures not_too_long { ¬ IsErrOf result InputFault.TooLong

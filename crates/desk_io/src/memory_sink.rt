@@ -1,4 +1,4 @@
-ghost use Rattle.std.specs.Prelude.{◌≡◌, ◌<◌, ◌≤◌, length, IfOk};
+ghost use Rattle.std.specs.Prelude.{◌≡◌, ◌≢◌, ◌<◌, ◌≤◌, length, IfOk};
 ghost use Rattle.desk_io.specs.Faults.{Rose};
 ghost use Rattle.desk_io.specs.Giving.{TakesPiece, Adds};
 
@@ -82,6 +82,7 @@ impl Sink for MemorySink {
         ensures adds { Adds (Some self.old.held) (Some self.new.held) result from.now }
         ensures later { self.old.faults ≤ self.new.faults }
         ensures cause { result ≡ Giving.Failed → Rose self.old.faults self.new.faults }
+        ensures no_fault { result ≢ Giving.Failed → self.new.faults ≡ self.old.faults }
 
         ensures answer { result ≡ write_answer self.old (length from.now) }
         ensures after { self.new ≡ after_write self.old result from.now }

@@ -1,4 +1,4 @@
-ghost use Rattle.std.specs.Prelude.{◌≡◌, ◌<◌, ◌≤◌, length};
+ghost use Rattle.std.specs.Prelude.{◌≡◌, ◌≢◌, ◌<◌, ◌≤◌, length};
 ghost use Rattle.desk_io.specs.Faults.{Rose};
 ghost use Rattle.desk_io.specs.Taking.{TakesPiece, Moves};
 
@@ -67,6 +67,7 @@ impl Source for MemorySource {
         ensures moves { Moves (Some self.old.left) (Some self.new.left) result into.new }
         ensures later { self.old.faults ≤ self.new.faults }
         ensures cause { result ≡ Taking.Failed → Rose self.old.faults self.new.faults }
+        ensures no_fault { result ≢ Taking.Failed → self.new.faults ≡ self.old.faults }
 
         ensures answer { result ≡ read_answer self.old (length into.new) }
         ensures after { self.new ≡ after_read self.old result }

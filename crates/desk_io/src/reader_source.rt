@@ -1,4 +1,4 @@
-ghost use Rattle.std.specs.Prelude.{◌≡◌, ◌≤◌, None, length};
+ghost use Rattle.std.specs.Prelude.{◌≡◌, ◌≢◌, ◌≤◌, None, length};
 ghost use Rattle.desk_io.specs.Faults.{Rose};
 ghost use Rattle.desk_io.specs.Taking.{TakesPiece, Moves, faults_after};
 
@@ -40,6 +40,7 @@ impl<R: Read> Source for ReaderSource<R> {
         ensures moves { Moves None None result into.new }
         ensures later { self.old.faults ≤ self.new.faults }
         ensures cause { result ≡ Taking.Failed → Rose self.old.faults self.new.faults }
+        ensures no_fault { result ≢ Taking.Failed → self.new.faults ≡ self.old.faults }
 
         ensures count { self.new.faults ≡ faults_after result self.old.faults }
 

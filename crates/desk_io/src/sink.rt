@@ -1,4 +1,4 @@
-ghost use Rattle.std.specs.Prelude.{◌≡◌, ℕ, ◌≤◌, List, length};
+ghost use Rattle.std.specs.Prelude.{◌≡◌, ◌≢◌, ℕ, ◌≤◌, List, length};
 ghost use Rattle.std.specs.declared.option.Option.{Option};
 ghost use Rattle.desk_io.specs.Faults.{Rose};
 ghost use Rattle.desk_io.specs.Giving.{TakesPiece, Adds};
@@ -18,5 +18,6 @@ pub trait Sink {
         ensures piece { TakesPiece result (length from.now) }
         ensures adds { Adds (held self.old) (held self.new) result from.now }
         ensures later { faults self.old ≤ faults self.new }
-        ensures cause { result ≡ Giving.Failed → Rose (faults self.old) (faults self.new) };
+        ensures cause { result ≡ Giving.Failed → Rose (faults self.old) (faults self.new) }
+        ensures no_fault { result ≢ Giving.Failed → faults self.new ≡ faults self.old };
 }

@@ -1,4 +1,4 @@
-ghost use Rattle.std.specs.Prelude.{◌≡◌, ℕ, ◌≤◌, List, length};
+ghost use Rattle.std.specs.Prelude.{◌≡◌, ◌≢◌, ℕ, ◌≤◌, List, length};
 ghost use Rattle.std.specs.declared.option.Option.{Option};
 ghost use Rattle.desk_io.specs.Faults.{Rose};
 ghost use Rattle.desk_io.specs.Taking.{TakesPiece, Moves};
@@ -18,5 +18,6 @@ pub trait Source {
         ensures piece { TakesPiece result (length into.new) }
         ensures moves { Moves (left self.old) (left self.new) result into.new }
         ensures later { faults self.old ≤ faults self.new }
-        ensures cause { result ≡ Taking.Failed → Rose (faults self.old) (faults self.new) };
+        ensures cause { result ≡ Taking.Failed → Rose (faults self.old) (faults self.new) }
+        ensures no_fault { result ≢ Taking.Failed → faults self.new ≡ faults self.old };
 }

@@ -1,4 +1,4 @@
-ghost use Rattle.std.specs.Prelude.{◌≡◌, ◌≤◌, None, length};
+ghost use Rattle.std.specs.Prelude.{◌≡◌, ◌≢◌, ◌≤◌, None, length};
 ghost use Rattle.desk_io.specs.Faults.{Rose};
 ghost use Rattle.desk_io.specs.Giving.{TakesPiece, Adds, faults_after};
 
@@ -42,6 +42,7 @@ impl<W: Write> Sink for WriterSink<W> {
         ensures adds { Adds None None result from.now }
         ensures later { self.old.faults ≤ self.new.faults }
         ensures cause { result ≡ Giving.Failed → Rose self.old.faults self.new.faults }
+        ensures no_fault { result ≢ Giving.Failed → self.new.faults ≡ self.old.faults }
 
         ensures count { self.new.faults ≡ faults_after result self.old.faults }
 

@@ -1,22 +1,15 @@
-use Rattle.std.proofs.Common.{ap, subst, Err, arith}
+use Rattle.std.proofs.Common.{arith}
 use Rattle.std.specs.Io.KnownBytes.{Appends}
 use Rattle.desk_io.specs.Giving.{AddsFront}
-use Rattle.crewdesk_main.specs.DayFile.{HasUnreadable}
-use Rattle.crewdesk_main.proofs.DayLemmas.{IsDayFile-readable}
-use Rattle.crewdesk_main.proofs.ReplayLemmas.{Replays-TookAll, IsReplayable-without}
+use Rattle.crewdesk_main.proofs.ReplayLemmas.{Replays-TookAll}
 use Rattle.crewdesk_main.proofs.replay.run.Goals as goal
 
 pub returns-in-Ok-read_day-clause-fine : goal.returns-in-Ok-read_day-clause-fine
 returns-in-Ok-read_day-clause-fine g c = λ fine.
-    Replays-TookAll _ _ c.in-Ok.bytes.items _ 16_777_216 _ _ (Appends _ _) c.in-Ok.ensures.whole (omega (arith, c.in-Ok.ensures.bounded, c.in-Ok.bytes.ok.0))
+    Replays-TookAll _ _ c.in-Ok.bytes.items _ _ _ (Appends _ _) c.in-Ok.ensures.whole (omega (arith, c.in-Ok.ensures.bounded, c.in-Ok.bytes.ok.0))
     c.deref.ensures.value c.in-Ok-read_day.ensures.ok (c.replay_day.ensures.fine fine)
 
 pub returns-in-Ok-read_day-clause-write_fault : goal.returns-in-Ok-read_day-clause-write_fault
 returns-in-Ok-read_day-clause-write_fault g c = λ fault.
-    Replays-TookAll _ _ c.in-Ok.bytes.items _ 16_777_216 _ _ (AddsFront _ _) c.in-Ok.ensures.whole (omega (arith, c.in-Ok.ensures.bounded, c.in-Ok.bytes.ok.0))
+    Replays-TookAll _ _ c.in-Ok.bytes.items _ _ _ (AddsFront _ _) c.in-Ok.ensures.whole (omega (arith, c.in-Ok.ensures.bounded, c.in-Ok.bytes.ok.0))
     c.deref.ensures.value c.in-Ok-read_day.ensures.ok (c.replay_day.ensures.write_fault fault)
-
-pub returns-in-Err-Unreadable-clause-complete : goal.returns-in-Err-Unreadable-clause-complete
-returns-in-Err-Unreadable-clause-complete g c = λ words day source sink.
-    let unreadable = c.in-Err-Unreadable.ensures.unreadable (ap Err c.in-Err-Unreadable.field-0-is) in
-    absurd (IsReplayable-without _ _ _ _ HasUnreadable IsDayFile-readable c.in-Ok.ensures.whole day (subst HasUnreadable c.deref.ensures.value unreadable))

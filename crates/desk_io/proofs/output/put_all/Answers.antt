@@ -1,4 +1,4 @@
-use Rattle.std.proofs.Common.{arith}
+use Rattle.std.proofs.Common.{◌∙◌, arith}
 use Rattle.std.proofs.KnownBytes.{Appends-trans}
 use Rattle.std.proofs.Math.Seq.{take-add}
 use Rattle.std.proofs.lemmas.List.{take_rest}
@@ -11,5 +11,5 @@ loop-at-preserved g c =
       in_range = grind arith;
       given = rw (take-add c.loop-at.at c.in-Took.count c.args.bytes.now)
           (Appends-trans _ _ _ _ _ c.loop-at.invariant.given added);
-      later = omega arith;
+      unfaulted = c.in-Took.ensures.no_fault (λ failed. cc) ∙ c.loop-at.invariant.unfaulted;
     }

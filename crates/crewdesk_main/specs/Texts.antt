@@ -1,0 +1,29 @@
+-- The texts that the program prints of itself.
+use Rattle.std.specs.Prelude.{◌≡◌, ◌⊎◌, ℕ, Option, List, [], ◌∷◌, ◌++◌, codes}
+use Rattle.std.specs.Io.KnownBytes.{Appends}
+use Rattle.desk_io.specs.declared.status.Status.{Status}
+use Rattle.desk_io.specs.declared.status.Status.TheVariants.{Fine, WriteFault}
+use Rattle.desk_io.specs.Faults.{Rose}
+use Rattle.desk_io.specs.Giving.{AddsFront}
+
+-- a line of ASCII
+abbrev pub line : List ℕ → List ℕ
+line text = text ++ 10 ∷ []
+
+-- the forms of the command line, one a line
+abbrev pub help_text : List ℕ
+help_text =
+    line (codes "crewdesk replay     reads a day file from standard input and writes its journal to standard output")
+    ++ line (codes "crewdesk --help     prints these lines")
+    ++ line (codes "crewdesk --version  prints the program's name and version")
+
+-- the program's name and version
+abbrev pub version_text : List ℕ
+version_text = line (codes "crewdesk 0.1.0")
+
+-- a run that ended so printed this text; or it had a write fault, and printed a front of it
+pub record EndsPrint (result : Status) (text : List ℕ) (held held' : Option (List ℕ)) (given given' : ℕ) : Type 0 where
+  pub fine : result ≡ Fine → Appends held held' text
+  pub write_fault : result ≡ WriteFault → AddsFront held held' text
+  pub write_cause : result ≡ WriteFault → Rose given given'
+  pub either : (result ≡ Fine) ⊎ (result ≡ WriteFault)

@@ -1,0 +1,84 @@
+#!/bin/sh
+# promises.sh: compares two documents with the sources. Every function, clause and definition that a row of the table in
+# docs/PROVED.md names is there, and the column 'Stands on' of docs/ARCHITECTURE.md is what crates.txt says.
+# A row names functions as `crate::function` or `crate::Type::function`, a trait as `crate::Trait`, each followed by a
+# colon and its clauses where these have names, and definitions as `crate.File.name`.
+# The last line is 'N passed, M failed': rows of both tables.
+cd "$(dirname "$0")/.." || exit 2
+work=$(mktemp -d) || exit 2
+trap 'rm -rf "$work"' EXIT
+
+# What the sources have: a line 'function' for each function with an `ensures`, and 'function clause' for each clause.
+find crates -path '*/src/*.rt' ! -path '*/out/*' ! -name 'tests.rt' ! -path '*/tests/*' | sort | xargs awk '
+    FNR == 1 { split(FILENAME, part, "/"); crate = part[2]; types = ""; is_trait = 0; name = "" }
+    /^(pub )?(unsafe )?(impl|trait)[ <]/ {
+        types = $0; gsub(/[^A-Za-z0-9_]+/, " ", types); is_trait = /^(pub )?(unsafe )?trait /; name = ""
+        if (is_trait) { trait_name = $0; sub(/^(pub )?(unsafe )?trait /, "", trait_name); sub(/[^A-Za-z0-9_].*/, "", trait_name) }
+    }
+    /^}/ { types = ""; is_trait = 0; name = "" }
+    is_trait && /^ *ghost [a-z_]+:/ { print crate "::" trait_name " " substr($2, 1, length($2) - 1) }
+    /^ *(pub(\([a-z]+\))? )?(final )?(unsafe )?fn / { name = $0; sub(/^.*fn /, "", name); sub(/[^A-Za-z0-9_].*/, "", name) }
+    name != "" && /^ *ensures\*? / {
+        clause = ($2 == "{") ? "" : " " $2
+        count = split(types, type, " ")
+        for (i = count ? 1 : 0; i <= count; i++) {
+            path = crate "::" (i ? type[i] "::" : "") name
+            print path
+            if (clause != "") print path clause
+        }
+    }
+' | sort -u > "$work/functions"
+
+# And a line 'crate.File.name' for each definition.
+find crates -path '*/specs/*.antt' ! -path '*/out/*' | sort | xargs awk '
+    FNR == 1 { split(FILENAME, part, "/"); file = part[4]; sub(/\.antt$/, "", file); crate = part[2] }
+    /^(abbrev pub|unfoldable pub|pub record|pub data) / { print crate "." file "." $3 }
+    /^pub [^ ]+ :/ { print crate "." file "." $2 }
+' | sort -u > "$work/definitions"
+
+# The rows of the table of promises, each with what it names that is not there.
+awk -v functions="$work/functions" -v definitions="$work/definitions" '
+    BEGIN {
+        while ((getline line < functions) > 0) there[line] = 1
+        while ((getline line < definitions) > 0) there[line] = 1
+        FS = "|"
+    }
+    function bad(what) { print "docs/PROVED.md:" FNR ": there is no " what; wrong = 1 }
+    !/^\|/ || /^\|[- |]*$/ { next }
+    /^\| Promise / { next }
+    {
+        wrong = 0
+        count = split($3, entry, ";")
+        for (i = 1; i <= count; i++) {
+            marks = split(entry[i], word, "`")
+            if (marks < 3) { bad("function in this row"); continue }
+            if (marks == 3 && !(word[2] in there)) bad("function with an `ensures` `" word[2] "`")
+            for (j = 4; j <= marks; j += 2) if (!((word[2] " " word[j]) in there)) bad("clause `" word[j] "` of `" word[2] "`")
+        }
+        marks = split($4, word, "`")
+        for (j = 2; j <= marks; j += 2) if (!(word[j] in there)) bad("definition `" word[j] "`")
+        if (wrong) failed++; else passed++
+    }
+    END { print passed + 0, failed + 0 }
+' docs/PROVED.md > "$work/promises"
+sed '$d' "$work/promises"
+
+# The crates, each with those of this repository that it stands on, by crates.txt and by the table.
+sed 's/#.*//' crates.txt | awk -F: 'NF == 2 { split($1, name, " "); own[name[1]] = 1; order[++n] = name[1]; deps[name[1]] = $2 }
+    END { for (i = 1; i <= n; i++) { count = split(deps[order[i]], dep, " "); for (j = 1; j <= count; j++) if (dep[j] in own) print order[i], dep[j]; print order[i], "-" } }' | sort > "$work/listed"
+awk -F'|' '/^\| `/ { split($2, name, "`"); count = split($4, dep, "`"); for (j = 2; j <= count; j += 2) print name[2], dep[j]; print name[2], "-" }' docs/ARCHITECTURE.md | sort > "$work/told"
+comm -3 "$work/listed" "$work/told" > "$work/differs"
+awk -F'\t' '
+    { split($1 == "" ? $2 : $1, pair, " ") }
+    pair[2] == "-" { print "docs/ARCHITECTURE.md: `" pair[1] "` " ($1 == "" ? "is no crate of crates.txt" : "has no row"); next }
+    $1 == "" { print "docs/ARCHITECTURE.md: `" pair[1] "` does not stand on `" pair[2] "` in crates.txt"; next }
+    { print "docs/ARCHITECTURE.md: `" pair[1] "` stands on `" pair[2] "` in crates.txt" }
+' "$work/differs"
+crates=$(cut -d' ' -f1 "$work/listed" | sort -u | wc -l)
+apart=$(awk -F'\t' '{ split($1 == "" ? $2 : $1, pair, " "); print pair[1] }' "$work/differs" | sort -u | wc -l)
+
+tail -n 1 "$work/promises" | {
+    read -r passed failed
+    echo "$((passed + crates - apart)) passed, $((failed + apart)) failed"
+    [ "$passed" != 0 ] && [ $((failed + apart)) = 0 ]
+}
