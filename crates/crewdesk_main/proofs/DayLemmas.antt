@@ -4,8 +4,7 @@ use Rattle.std.proofs.lemmas.List.{map-append, length-map, get_or-map}
 use Rattle.std.proofs.lemmas.List.Elements.{Contains-append_right, All-append, All-cons, All-nil, All-head, All-tail}
 use Rattle.std.proofs.lemmas.Fmt.{decimal_injective}
 use Rattle.std.specs.List.{All, Contains}
-use Rattle.desk_base.specs.Month.{IsMonthInYears}
-use Rattle.desk_base.specs.Window.{WindowValue, IsWindow, window_of}
+use Rattle.desk_base.specs.Window.{window_of}
 use Rattle.desk_model.specs.Opening.{OpeningValue, IsOpening, opening_of, opening_fields}
 use Rattle.desk_model.specs.declared.command.Cmd.TheVariants as cmd
 use Rattle.desk_model.specs.Statement.{StatedValue, stated_of}
@@ -67,14 +66,11 @@ IsDayFile-readable bytes o commands day un =
 opening_fields-one : (o p : OpeningValue) → IsOpening o → IsOpening p → opening_fields o ≡ opening_fields p → o ≡ p
 opening_fields-one o p ho hp e =
     let start = minute_text-one o.start p.start (ap (λ l. get_or l 0 []) e) in
-    let first = month_text-one o.window.first p.window.first (in_years o.window ho.window) (in_years p.window hp.window) (ap (λ l. get_or l 2 []) e) in
+    let first = month_text-one o.window.first p.window.first (ap (λ l. get_or l 2 []) e) in
     let months = decimal_injective o.window.months p.window.months (omega (arith, ho.window.most)) (omega (arith, hp.window.most)) (ap (λ l. get_or l 3 []) e) in
     let answer = decimal_injective o.answer p.answer (omega (arith, ho.most)) (omega (arith, hp.most)) (ap (λ l. get_or l 4 []) e) in
     let same : opening_of o.start (window_of o.window.first o.window.months) o.answer ≡ opening_of p.start (window_of p.window.first p.window.months) p.answer = rw (start, first, months, answer) refl in
     same
-  where
-    in_years : (w : WindowValue) → IsWindow w → IsMonthInYears w.first
-    in_years w is = (is.begins, omega (arith, is.some, is.ends))
 
 commands-one : (cs ds : List StatedValue) → All IsStated cs → All IsStated ds → map stated_fields cs ≡ map stated_fields ds → cs ≡ ds
 commands-one [] [] hc hd e = refl

@@ -6,8 +6,7 @@ use Rattle.desk_model.specs.Statement.{StatedValue}
 use Rattle.desk_model.specs.Journal.{journal}
 use Rattle.crewdesk_main.specs.declared.limits.TheConstants.{BYTE_LIMIT}
 use Rattle.crewdesk_main.specs.DayFile.{IsDayFile}
-use Rattle.crewdesk_main.specs.Replay.{WasRead, Replays, day_history}
-use Rattle.crewdesk_main.proofs.JournalLemmas.{IsReplay-day_history}
+use Rattle.crewdesk_main.specs.Replay.{WasRead, IsReplay, Replays, day_history}
 
 pub WasRead-TookAll : (before after : Option (List ℕ)) (bytes : List ℕ) (P : List ℕ → Type 0) → TookAll before after bytes → length bytes ≤ BYTE_LIMIT → P bytes → WasRead before after P
 WasRead-TookAll None after bytes P took within p = tt
@@ -21,14 +20,15 @@ TookAll-told (Some left) after bytes told took e = let same = took.0 in cc
 
 -- a day file was taken whole and read, and this was done with its journal
 pub Replays-TookAll : (before after : Option (List ℕ)) (bytes seen : List ℕ) (o : OpeningValue) (commands : List StatedValue) (Writes : List ℕ → Type 0)
-    → TookAll before after bytes → length bytes ≤ BYTE_LIMIT → seen ≡ bytes → IsDayFile seen o commands → Writes (journal o (day_history o commands))
+    → TookAll before after bytes → length bytes ≤ BYTE_LIMIT → seen ≡ bytes → IsDayFile seen o commands → IsReplay o commands (day_history o commands)
+    → Writes (journal (day_history o commands))
     → Replays before after Writes
-Replays-TookAll before after bytes seen o commands Writes took within same day written = record {
+Replays-TookAll before after bytes seen o commands Writes took within same day replay written = record {
   opening = o;
   valid = day.opening.valid;
   commands = commands;
   read = WasRead-TookAll before after bytes (λ b. IsDayFile b o commands) took within (subst (λ b. IsDayFile b o commands) same day);
   history = day_history o commands;
-  replay = IsReplay-day_history o commands;
+  replay = replay;
   written = written;
 }

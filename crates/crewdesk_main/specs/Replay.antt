@@ -8,7 +8,7 @@ use Rattle.desk_io.specs.Giving.{AddsFront}
 use Rattle.desk_io.specs.Input.{TookMore, TookFront}
 use Rattle.desk_model.specs.Opening.{OpeningValue, IsOpening}
 use Rattle.desk_model.specs.Statement.{StatedValue}
-use Rattle.desk_model.specs.Entry.{EntryValue}
+use Rattle.desk_model.specs.History.{History}
 use Rattle.desk_model.specs.Legal.{IsLegal, given, history}
 use Rattle.desk_model.specs.Journal.{journal}
 use Rattle.crewdesk_main.specs.declared.limits.TheConstants.{BYTE_LIMIT}
@@ -24,13 +24,14 @@ abbrev pub by_the_day_file : StatedValue → ℕ × StatedValue
 by_the_day_file s = (0, s)
 
 -- the history of a desk that was opened so and is given these commands by the day file
-abbrev pub day_history : OpeningValue → List StatedValue → List EntryValue
+abbrev pub day_history : OpeningValue → List StatedValue → History
 day_history o commands = history o (map by_the_day_file commands)
 
 -- a legal history of a desk that was opened so, whose entries have these commands in order, each once, with caller 0
-pub record IsReplay (o : OpeningValue) (commands : List StatedValue) (h : List EntryValue) : Type 0 where
-  pub legal : IsLegal o h
-  pub given : map given h ≡ map by_the_day_file commands
+pub record IsReplay (o : OpeningValue) (commands : List StatedValue) (h : History) : Type 0 where
+  pub opened : h.opening ≡ o
+  pub legal : IsLegal h
+  pub given : map given h.entries ≡ map by_the_day_file commands
 
 -- a day file was read, and this was done with the journal of its replay
 pub record Replays (before after : Option (List ℕ)) (Writes : List ℕ → Type 0) : Type 0 where
@@ -38,9 +39,9 @@ pub record Replays (before after : Option (List ℕ)) (Writes : List ℕ → Typ
   pub valid : IsOpening opening
   pub commands : List StatedValue
   pub read : WasRead before after (λ bytes. IsDayFile bytes opening commands)
-  pub history : List EntryValue
+  pub history : History
   pub replay : IsReplay opening commands history
-  pub written : Writes (journal opening history)
+  pub written : Writes (journal history)
 
 -- the source tells bytes within the limit that have P
 pub record Tells (left : Option (List ℕ)) (P : List ℕ → Type 0) : Type 0 where

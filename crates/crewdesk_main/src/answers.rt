@@ -1,4 +1,5 @@
-ghost use Rattle.std.specs.Prelude.{◌≡◌, ◌≤◌, [], length, IfOk};
+ghost use Rattle.std.specs.Prelude.{◌≡◌, ◌≤◌, length, IfOk};
+ghost use Rattle.desk_model.specs.History.{history_of, opened};
 ghost use Rattle.crewdesk_main.specs.Replay.{day_history};
 
 use desk_base::NoMemory;
@@ -13,9 +14,9 @@ pub fn answer_all<C: DeskCore>(
     commands: &[Stated],
 ) -> Result<Vec<Entry>, NoMemory>
     requires room { length commands.now ≤ C.room core.old }
-    requires start { C.stands core.old [] }
-    ensures { IfOk result (λ entries.
-        entries.items ≡ day_history (C.opening core.old) commands.now) }
+    requires start { C.stands core.old (opened (C.opening core.old)) }
+    ensures { IfOk result (λ entries. history_of (C.opening core.old) entries.items
+        ≡ day_history (C.opening core.old) commands.now) }
 {
     let mut entries = Vec::with_capacity(alloc, commands.len())?;
     for stated in commands {

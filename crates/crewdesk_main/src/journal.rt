@@ -3,6 +3,7 @@ ghost use Rattle.std.specs.Bool.{OnTrue, OnFalse};
 ghost use Rattle.std.specs.Io.KnownBytes.{Appends};
 ghost use Rattle.desk_io.specs.Faults.{Rose};
 ghost use Rattle.desk_io.specs.Giving.{AddsFront};
+ghost use Rattle.desk_model.specs.History.{history_of};
 ghost use Rattle.desk_model.specs.Journal.{journal};
 
 use crate::lines::gather;
@@ -22,9 +23,9 @@ pub fn write_journal<K: Sink>(
     requires room { 512 ≤ vec_capacity buffer.old }
 
     ensures all { OnTrue result (Appends (K.held sink.old) (K.held sink.new)
-        (journal opening.now entries.now)) }
+        (journal (history_of opening.now entries.now))) }
     ensures front { OnFalse result (AddsFront (K.held sink.old) (K.held sink.new)
-        (journal opening.now entries.now)) }
+        (journal (history_of opening.now entries.now))) }
     ensures later { K.faults sink.old ≤ K.faults sink.new }
     ensures cause { OnFalse result (Rose (K.faults sink.old) (K.faults sink.new)) }
     ensures no_fault { OnTrue result (K.faults sink.new ≡ K.faults sink.old) }

@@ -3,6 +3,7 @@ ghost use Rattle.std.specs.Io.KnownBytes.{Appends, Keeps};
 ghost use Rattle.desk_io.specs.Faults.{Rose};
 ghost use Rattle.desk_io.specs.Giving.{AddsFront};
 ghost use Rattle.desk_io.specs.Input.{TookMore, TookFront};
+ghost use Rattle.desk_model.specs.History.{history_of};
 ghost use Rattle.desk_model.specs.Journal.{journal};
 ghost use Rattle.crewdesk_main.specs.DayFile.{HasTooMany, HasNoOpening, HasUnreadable};
 ghost use Rattle.crewdesk_main.specs.Words.{is_replay};
@@ -15,7 +16,7 @@ use crate::limits::BYTE_LIMIT;
 use crate::words::is_alone;
 use desk_base::NoMemory;
 use desk_io::{Sink, Source, Status, take_all};
-use desk_model::Entry;
+use desk_model::{Entry, one_history_is_legal};
 use plain_core::PlainCore;
 use std::alloc::Global;
 
@@ -71,6 +72,8 @@ pub fn run<S: Source, K: Sink>(
         Ok(bytes) => bytes,
         Err(fault) => return Status::from(fault),
     };
+    // What the desk answers is a legal history.
+    one_history_is_legal();
     match read_day(alloc, &bytes) {
         Ok(day) => replay_day(alloc, &day, sink),
         Err(DayFault::TooMany) => Status::TooLong,
@@ -84,10 +87,10 @@ pub fn run<S: Source, K: Sink>(
 // answered, before anything is written.
 fn replay_day<K: Sink>(alloc: Global, day: &DayFile, sink: &mut K) -> Status
     ensures fine { result ≡ Status.Fine → Appends (K.held sink.old) (K.held sink.new)
-        (journal day.now.opening (day_history day.now.opening day.now.commands.items)) }
+        (journal (day_history day.now.opening day.now.commands.items)) }
     ensures write_fault { result ≡ Status.WriteFault
         → AddsFront (K.held sink.old) (K.held sink.new)
-        (journal day.now.opening (day_history day.now.opening day.now.commands.items)) }
+        (journal (day_history day.now.opening day.now.commands.items)) }
     ensures silent { result ≡ Status.NoMemory → Keeps (K.held sink.old) (K.held sink.new) }
     ensures write_cause { result ≡ Status.WriteFault
         → Rose (K.faults sink.old) (K.faults sink.new) }
@@ -111,8 +114,8 @@ fn replay_day<K: Sink>(alloc: Global, day: &DayFile, sink: &mut K) -> Status
 
 // The entries of a new desk that is given the day file's commands.
 fn day_entries(alloc: Global, day: &DayFile) -> Result<Vec<Entry>, NoMemory>
-    ensures { IfOk result (λ entries.
-        entries.items ≡ day_history day.now.opening day.now.commands.items) }
+    ensures { IfOk result (λ entries. history_of day.now.opening entries.items
+        ≡ day_history day.now.opening day.now.commands.items) }
 {
     let mut core = PlainCore::new(alloc, day.opening, day.commands.len() as u64)?;
     answer_all(alloc, &mut core, &day.commands)

@@ -1,0 +1,49 @@
+-- The history of a day file's commands.
+use Rattle.std.proofs.Common.{◌≡◌, ℕ, ◌<◌, ◌+◌, List, [], ◌∷◌, ◌++◌, length, get_or, take, map, refl, sym, ap, ◌∙◌, arith}
+use Rattle.std.specs.List.{All}
+use Rattle.std.proofs.lemmas.List.{take_more, map-append}
+use Rattle.std.proofs.lemmas.List.Elements.{All-cons, All-nil, All-head, All-tail}
+use Rattle.desk_model.specs.Opening.{OpeningValue}
+use Rattle.desk_model.specs.Statement.{StatedValue}
+use Rattle.desk_model.specs.Fits.{IsStated}
+use Rattle.desk_model.specs.Entry.{EntryValue}
+use Rattle.desk_model.specs.History.{History, history_of, opened, with_entry}
+use Rattle.desk_model.specs.Legal.{next, history_from, MayState}
+use Rattle.crewdesk_main.specs.Replay.{by_the_day_file, day_history}
+
+-- no command has no entry
+pub day_history-none : (o : OpeningValue) → day_history o [] ≡ opened o
+unfolding history_from
+day_history-none o = refl
+
+-- commands after others go on with the history of those
+history_from-append : (h : History) (commands later : List (ℕ × StatedValue)) → history_from h (commands ++ later) ≡ history_from (history_from h commands) later
+unfolding history_from
+history_from-append h [] later = refl
+history_from-append h ((caller, s) ∷ rest) later = history_from-append (with_entry h (next h caller s)) rest later
+
+-- the next command adds the entry that the rules give
+day_history-more : (o : OpeningValue) (commands : List StatedValue) (place : ℕ) (s : StatedValue) → place < length commands → s ≡ get_or commands place s
+    → day_history o (take (place + 1) commands) ≡ with_entry (day_history o (take place commands)) (next (day_history o (take place commands)) 0 s)
+unfolding history_from
+day_history-more o commands place s within at =
+    ap (day_history o) (take_more commands place s within ∙ ap (λ x. take place commands ++ x ∷ []) (sym at))
+    ∙ ap (history_from (opened o)) (map-append by_the_day_file (take place commands) (s ∷ []))
+    ∙ history_from-append (opened o) (map by_the_day_file (take place commands)) (by_the_day_file s ∷ [])
+
+-- so a desk that stands for the history so far answers by the entry that comes next
+pub day_history-next : (o : OpeningValue) (commands : List StatedValue) (place : ℕ) (s : StatedValue) (es : List EntryValue) (e : EntryValue)
+    → history_of o es ≡ day_history o (take place commands) → place < length commands → s ≡ get_or commands place s → e ≡ next (history_of o es) 0 s
+    → history_of o (es ++ e ∷ []) ≡ day_history o (take (place + 1) commands)
+day_history-next o commands place s es e so_far within at answer =
+    ap (λ x. history_of o (es ++ x ∷ [])) answer
+    ∙ ap (λ h. with_entry h (next h 0 s)) so_far
+    ∙ sym (day_history-more o commands place s within at)
+
+-- the day file's commands may be stated by caller 0
+pub day-MayState : (commands : List StatedValue) → All IsStated commands → All (λ c. MayState c.0 c.1) (map by_the_day_file commands)
+day-MayState [] all = All-nil (λ c. MayState c.0 c.1)
+day-MayState (s ∷ rest) all =
+    All-cons (λ c. MayState c.0 c.1) (by_the_day_file s) (map by_the_day_file rest)
+    (record { caller_in = omega arith; stated = All-head IsStated s rest all })
+    (day-MayState rest (All-tail IsStated s rest all))
