@@ -7,7 +7,9 @@ mod laws;
 mod rest;
 mod section;
 
-pub use laws::{no_bar_where_the_law_is_kept, who_is_rested_was_off_ten_hours};
+pub use laws::{
+    no_bar_where_the_law_is_kept, what_a_bar_of_the_law_keeps, who_is_rested_was_off_ten_hours,
+};
 pub use section::law_bar;
 
 #[cfg(test)]

@@ -1,0 +1,220 @@
+-- Each value that a bar of the law keeps is in its range.
+use Rattle.std.proofs.Common.{◌≡◌, ℕ, ◌+◌, ◌-◌, ◌<◌, ◌≤◌, ◌^◌, ◌⊎◌, inl, inr, ◌==◌, ◌&&◌, Bool, true, false, cond, not, nat_eq, nat_lt, Option, None, Some, IfSome, List, [], ◌∷◌, ◌++◌, refl, sym, subst, ap, ◌∙◌, arith}
+use Rattle.std.specs.Option.{option_map}
+use Rattle.std.proofs.lemmas.Bool.{cases_lt}
+use Rattle.std.proofs.lemmas.Bool.Decides.{nat_tests}
+use Rattle.desk_base.specs.declared.minute.TheConstants.{YEARS_BEGIN, YEARS_END}
+use Rattle.desk_base.specs.Minute.{IsInYears}
+use Rattle.desk_base.specs.Month.{IsMonthInYears, first_minute as month_start, minutes_of}
+use Rattle.desk_base.proofs.MonthLemmas.{first_day_mono, first_day-2000, first_day-2100, length_of_bounds}
+use Rattle.duty_events.specs.declared.event.Event.{Event}
+use Rattle.duty_events.specs.declared.tour.Tour.{Tour}
+use Rattle.duty_events.specs.Allowed.{first_minute, last_minute}
+use Rattle.duty_events.specs.Between.{kind_until}
+use Rattle.duty_events.specs.EndedTours.{last_tour}
+use Rattle.duty_events.specs.Lists.{IsNext, IsLawful, stage_of, last_event, reached}
+use Rattle.duty_events.specs.MinuteKind.{begins, is_worked, kind_of}
+use Rattle.duty_events.specs.Tours.{is_in_tour}
+use Rattle.duty_events.proofs.CountLemmas.{minutes_where-most}
+use Rattle.duty_events.proofs.ListLemmas.{lawful-induction, last_event-push}
+use Rattle.rest_rules.specs.declared.rest.TheConstants.{REST}
+use Rattle.rest_rules.specs.OffFrom.{off_from}
+use Rattle.rest_rules.specs.Excess.{over_limit, excess}
+use Rattle.rest_rules.specs.Rest.{was_off, rest_ok, rest_end}
+use Rattle.rest_rules.proofs.OffFromLemmas.{end_after-range, off_from-nil, off_from-push}
+use Rattle.rest_rules.proofs.RestLemmas.{off_from-some, end-taken, end-owed}
+use Rattle.month_hours.specs.declared.limit.Limit.{Limit}
+use Rattle.month_hours.specs.declared.limit.Limit.TheVariants as limit
+use Rattle.month_hours.specs.declared.over.Over.{Over}
+use Rattle.month_hours.specs.declared.plan.Plan.{Plan}
+use Rattle.month_hours.specs.Used.{used}
+use Rattle.month_hours.specs.Plan.{plan_of, planned, planned_capped, is_planned, is_planned_capped}
+use Rattle.month_hours.specs.Over.{first_over, total, TellsFirst, IsMonthOfPlan}
+use Rattle.month_hours.proofs.CappedLemmas.{capped_minutes-most}
+use Rattle.month_hours.proofs.OverLemmas.{first_over-tells, first_over-month}
+use Rattle.consecutive_days.specs.declared.run.TheConstants.{OFF_AFTER_SEVEN_DAYS, OFF_AFTER_SIX_DAYS, SIX_DAYS}
+use Rattle.consecutive_days.specs.Run.{last_start, run_days, need}
+use Rattle.consecutive_days.specs.Days.{days_ok}
+use Rattle.consecutive_days.specs.Steps.{last_day}
+use Rattle.consecutive_days.proofs.StartLemmas.{last_start-push, last_start-nil, run_days-most}
+use Rattle.denial_rules.specs.declared.bar.Bar.{Bar}
+use Rattle.denial_rules.specs.declared.bar.Bar.TheVariants as bar
+use Rattle.denial_rules.specs.Bar.{FitsBar}
+use Rattle.denial_rules.specs.Table.{first_some}
+use Rattle.law_bars.specs.Law.{rest_row, more_rest_row, undisturbed_row, six_days_row, seven_days_row, month_row, limbo_row, law_rows, law_bar}
+
+-- ---- rest
+
+-- the last tour that has ended did so by the latest minute
+abbrev pub EndsTours : Type 0
+EndsTours = (es : List Event) (tour : Tour) → IsLawful es → last_tour es ≡ Some tour → tour.end ≤ reached (last_event es)
+
+off_from-range : (es : List Event) → IsLawful es → (off_from es ≡ 0) ⊎ IsInYears (off_from es)
+off_from-range es lawful = lawful-induction (λ past. (off_from past ≡ 0) ⊎ IsInYears (off_from past)) (inl off_from-nil) more es lawful
+  where
+    more : (past : List Event) (e : Event) → IsLawful past → IsNext past e → (off_from past ≡ 0) ⊎ IsInYears (off_from past)
+        → (off_from (past ++ e ∷ []) ≡ 0) ⊎ IsInYears (off_from (past ++ e ∷ []))
+    more past e fine next was =
+        rw (off_from-push past e fine next)
+        (end_after-range _ true (first_minute e) (last_minute e) next.last_in
+        (end_after-range (off_from past) (is_worked (kind_until (last_event past) e)) (reached (last_event past)) (first_minute e) next.first_in was))
+
+reached-range : (es : List Event) → IsLawful es → reached (last_event es) < YEARS_END
+reached-range es lawful = lawful-induction (λ past. reached (last_event past) < YEARS_END) (omega arith) more es lawful
+  where
+    more : (past : List Event) (e : Event) → IsLawful past → IsNext past e → reached (last_event past) < YEARS_END → reached (last_event (past ++ e ∷ [])) < YEARS_END
+    more past e fine next was = subst (λ last. reached last < YEARS_END) (sym (last_event-push past e)) next.last_in.1
+
+excess-range : EndsTours → (es : List Event) → IsLawful es → excess es < YEARS_END
+unfolding excess
+excess-range ends es lawful = go (last_tour es) refl
+  where
+    go : (tour : Option Tour) → last_tour es ≡ tour → over_limit es tour < YEARS_END
+    go None is = omega arith
+    go (Some tour) is =
+        omega (arith, minutes_where-most (λ t. is_in_tour (kind_of es t)) tour.start (tour.end - tour.start), ends es tour lawful is, reached-range es lawful)
+
+-- who has not rested, and when their rest ends
+rest-owed : (es : List Event) (at more : ℕ) → IsLawful es → rest_ok es at more ≡ false → IsInYears (off_from es)
+rest-owed es at more lawful not = elim (off_from-range es lawful) [
+  | inl none ↦ absurd (omega (arith, none, off_from-some es at more not))
+  | inr in_years ↦ in_years
+]
+
+rest_end-range : EndsTours → (es : List Event) → IsLawful es → IsInYears (off_from es) → (YEARS_BEGIN ≤ rest_end es) × (rest_end es < 2 ^ 28)
+rest_end-range ends es lawful in_years = go (was_off es (REST + excess es) (off_from es)) refl
+  where
+    some : 0 < off_from es
+    some = omega (arith, in_years.0)
+
+    go : (b : Bool) → was_off es (REST + excess es) (off_from es) ≡ b → (YEARS_BEGIN ≤ rest_end es) × (rest_end es < 2 ^ 28)
+    go true is = let same = end-taken es some is in (omega (arith, same, in_years.0), omega (arith, same, in_years.1))
+    go false is =
+        let same = end-owed es some is in
+        let few = excess-range ends es lawful in
+        (omega (arith, same, in_years.0), omega (arith, same, in_years.1, few))
+
+rest_row-fits : (es : List Event) (report : ℕ) → IsLawful es → IfSome (rest_row es report) FitsBar
+rest_row-fits es report lawful = go (rest_ok es report 0) refl
+  where
+    go : (b : Bool) → rest_ok es report 0 ≡ b → IfSome (cond b None (Some (bar.Rest (off_from es + REST)))) FitsBar
+    go true is = tt
+    go false is = let owed = rest-owed es report 0 lawful is in (omega (arith, owed.0), omega (arith, owed.1))
+
+more_rest_row-fits : EndsTours → (es : List Event) (report : ℕ) → IsLawful es → IfSome (more_rest_row es report) FitsBar
+more_rest_row-fits ends es report lawful = go (rest_ok es report (excess es)) refl
+  where
+    go : (b : Bool) → rest_ok es report (excess es) ≡ b → IfSome (cond b None (Some (bar.MoreRest (rest_end es)))) FitsBar
+    go true is = tt
+    go false is = rest_end-range ends es lawful (rest-owed es report (excess es) lawful is)
+
+undisturbed_row-fits : EndsTours → (es : List Event) (moment : ℕ) → IsLawful es → IfSome (undisturbed_row es moment) FitsBar
+undisturbed_row-fits ends es moment lawful = go (rest_ok es moment (excess es)) refl
+  where
+    go : (b : Bool) → rest_ok es moment (excess es) ≡ b → IfSome (cond b None (Some (bar.Undisturbed (rest_end es)))) FitsBar
+    go true is = tt
+    go false is = rest_end-range ends es lawful (rest-owed es moment (excess es) lawful is)
+
+-- ---- days
+
+last_day-range : (es : List Event) → IsLawful es → last_day (last_start es) < YEARS_END
+last_day-range es lawful = lawful-induction (λ past. last_day (last_start past) < YEARS_END) (rw last_start-nil (omega arith)) more es lawful
+  where
+    more : (past : List Event) (e : Event) → IsLawful past → IsNext past e → last_day (last_start past) < YEARS_END → last_day (last_start (past ++ e ∷ [])) < YEARS_END
+    more past e fine next was = rw (last_start-push past e) (go (begins (stage_of past) e))
+      where
+        go : (b : Bool) → last_day (cond b (Some (first_minute e)) (last_start past)) < YEARS_END
+        go true = omega (arith, next.first_in.1)
+        go false = was
+
+need-range : (run : ℕ) → need run < 2 ^ 32
+need-range run = go (nat_lt run SIX_DAYS) (run == SIX_DAYS)
+  where
+    go : (few six : Bool) → cond few 0 (cond six OFF_AFTER_SIX_DAYS OFF_AFTER_SEVEN_DAYS) < 2 ^ 32
+    go true six = omega arith
+    go false true = omega arith
+    go false false = omega arith
+
+days-fit : (es : List Event) → IsLawful es → (run_days es < 2 ^ 32) × (need (run_days es) < 2 ^ 32)
+days-fit es lawful = (omega (arith, run_days-most es lawful, last_day-range es lawful), need-range (run_days es))
+
+six_days_row-fits : (es : List Event) (home : List ℕ) (report : ℕ) → IsLawful es → IfSome (six_days_row es home report) FitsBar
+six_days_row-fits es home report lawful = go (not (days_ok es home report) && (need (run_days es) == OFF_AFTER_SIX_DAYS))
+  where
+    go : (b : Bool) → IfSome (cond b (Some (bar.SixDays (run_days es) (need (run_days es)))) None) FitsBar
+    go true = days-fit es lawful
+    go false = tt
+
+seven_days_row-fits : (es : List Event) (home : List ℕ) (report : ℕ) → IsLawful es → IfSome (seven_days_row es home report) FitsBar
+seven_days_row-fits es home report lawful = go (not (days_ok es home report) && (need (run_days es) == OFF_AFTER_SEVEN_DAYS))
+  where
+    go : (b : Bool) → IfSome (cond b (Some (bar.SevenDays (run_days es) (need (run_days es)))) None) FitsBar
+    go true = days-fit es lawful
+    go false = tt
+
+-- ---- months
+
+-- a month of a plan in the years 2000 to 2099 lies in these
+month-in_years : (m report end : ℕ) → IsInYears report → end ≤ YEARS_END → report < month_start (m + 1) → month_start m < end → IsMonthInYears m
+month-in_years m report end in_years by from to = (low, high)
+  where
+    low : 360 ≤ m
+    low = elim (cases_lt m 360) [
+      | inl early ↦ absurd (omega (arith, in_years.0, from, first_day_mono (m + 1) 360 (omega (arith, early)), first_day-2000))
+      | inr late ↦ late
+    ]
+
+    high : m < 1560
+    high = elim (cases_lt m 1560) [
+      | inl early ↦ early
+      | inr late ↦ absurd (omega (arith, by, to, first_day_mono 1560 m late, first_day-2100))
+    ]
+
+total-range : (l : Limit) (es : List Event) (p : Plan) (m : ℕ) → total l es p m < 2 ^ 32
+unfolding used planned planned_capped
+total-range limit.Hours es p m =
+    omega (arith, minutes_where-most (λ t. is_worked (kind_of es t)) (month_start m) (minutes_of m), minutes_where-most (is_planned p) (month_start m) (minutes_of m), (length_of_bounds m).1)
+total-range limit.Limbo es p m =
+    omega (arith, capped_minutes-most es (month_start m) (minutes_of m), minutes_where-most (is_planned_capped p) (month_start m) (minutes_of m), (length_of_bounds m).1)
+
+over-fits : (l : Limit) (es : List Event) (p : Plan) (o : Option Over) → IsInYears p.report → p.report + p.duty + p.limbo ≤ YEARS_END
+    → TellsFirst l es p o → IfSome o (λ over. IsMonthOfPlan p over.month) → IfSome o (λ over. IsMonthInYears over.month × (over.total < 2 ^ 32))
+over-fits l es p None in_years ends tells month = tt
+over-fits l es p (Some over) in_years ends tells month =
+    (month-in_years over.month p.report (p.report + p.duty + p.limbo) in_years ends month.from month.to, omega (arith, tells.counts, total-range l es p over.month))
+
+first_over-fits : (l : Limit) (es : List Event) (p : Plan) → IsInYears p.report → p.report + p.duty + p.limbo ≤ YEARS_END
+    → IfSome (first_over l es p) (λ over. IsMonthInYears over.month × (over.total < 2 ^ 32))
+first_over-fits l es p in_years ends = over-fits l es p (first_over l es p) in_years ends (first_over-tells l es p) (first_over-month l es p)
+
+month_row-fits : (es : List Event) (report duty limbo : ℕ) → IsInYears report → report + duty + limbo ≤ YEARS_END → IfSome (month_row es report duty limbo) FitsBar
+month_row-fits es report duty limbo in_years ends = go (first_over limit.Hours es (plan_of report duty limbo)) (first_over-fits limit.Hours es (plan_of report duty limbo) in_years ends)
+  where
+    go : (o : Option Over) → IfSome o (λ over. IsMonthInYears over.month × (over.total < 2 ^ 32)) → IfSome (option_map (λ over. bar.MonthHours over.month over.total) o) FitsBar
+    go None fits = tt
+    go (Some over) fits = fits
+
+limbo_row-fits : (es : List Event) (report duty limbo : ℕ) → IsInYears report → report + duty + limbo ≤ YEARS_END → IfSome (limbo_row es report duty limbo) FitsBar
+limbo_row-fits es report duty limbo in_years ends = go (first_over limit.Limbo es (plan_of report duty limbo)) (first_over-fits limit.Limbo es (plan_of report duty limbo) in_years ends)
+  where
+    go : (o : Option Over) → IfSome o (λ over. IsMonthInYears over.month × (over.total < 2 ^ 32)) → IfSome (option_map (λ over. bar.LimboHours over.month over.total) o) FitsBar
+    go None fits = tt
+    go (Some over) fits = fits
+
+-- ---- the first row
+
+row-fits : (row : Option Bar) (rows : List (Option Bar)) → IfSome row FitsBar → IfSome (first_some rows) FitsBar → IfSome (first_some (row ∷ rows)) FitsBar
+row-fits None rows row rest = rest
+row-fits (Some b) rows row rest = row
+
+pub law_bar-fits : EndsTours → (es : List Event) (home : List ℕ) (moment report duty limbo : ℕ) → IsLawful es → IsInYears report → report + duty + limbo ≤ YEARS_END
+    → IfSome (law_bar es home moment report duty limbo) FitsBar
+unfolding law_bar
+law_bar-fits ends es home moment report duty limbo lawful in_years by =
+    row-fits (rest_row es report) _ (rest_row-fits es report lawful)
+    (row-fits (more_rest_row es report) _ (more_rest_row-fits ends es report lawful)
+    (row-fits (undisturbed_row es moment) _ (undisturbed_row-fits ends es moment lawful)
+    (row-fits (six_days_row es home report) _ (six_days_row-fits es home report lawful)
+    (row-fits (seven_days_row es home report) _ (seven_days_row-fits es home report lawful)
+    (row-fits (month_row es report duty limbo) _ (month_row-fits es report duty limbo in_years by)
+    (row-fits (limbo_row es report duty limbo) [] (limbo_row-fits es report duty limbo in_years by) tt))))))
