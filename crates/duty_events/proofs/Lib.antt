@@ -2,6 +2,7 @@ pub mod AskedLemmas
 pub mod CountLemmas
 pub mod EndedTourLemmas
 pub mod EventLemmas
+pub mod FollowLemmas
 pub mod LastTourLemmas
 pub mod ListLemmas
 pub mod MarkLemmas

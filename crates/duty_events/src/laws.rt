@@ -1,16 +1,18 @@
-ghost use Rattle.std.specs.Prelude.{◌≡◌, ◌≢◌, ℕ, ◌+◌, ◌-◌, ◌<◌, ◌≤◌, if◌then◌else◌, true, false, Some, List, [], ◌∷◌, ◌++◌, take};
+ghost use Rattle.std.specs.Prelude.{◌≡◌, ◌≢◌, ℕ, ◌+◌, ◌-◌, ◌<◌, ◌≤◌, if◌then◌else◌, true, false, Option, Some, List, [], ◌∷◌, ◌++◌, take};
+ghost use Rattle.std.specs.Bool.{Decides};
 ghost use Rattle.std.specs.Option.{option_or};
 ghost use Rattle.duty_events.specs.declared.asked.Asked.{Asked};
 ghost use Rattle.duty_events.specs.declared.asked.Asked.TheVariants as asked;
 ghost use Rattle.duty_events.specs.declared.event.Event.{Event};
 ghost use Rattle.duty_events.specs.declared.minute_kind.MinuteKind.TheVariants.{Open, Other};
+ghost use Rattle.duty_events.specs.declared.stage.Stage.{Stage};
 ghost use Rattle.duty_events.specs.declared.stage.Stage.TheVariants as stage;
 ghost use Rattle.duty_events.specs.declared.tour.Tour.{Tour};
 ghost use Rattle.duty_events.specs.Allowed.{first_minute, last_minute};
 ghost use Rattle.duty_events.specs.Asked.{asked_minutes, asked_between, asked_own};
 ghost use Rattle.duty_events.specs.Between.{kind_until, kind_behind};
 ghost use Rattle.duty_events.specs.EndedTours.{begun, ended, last_begun, last_tour};
-ghost use Rattle.duty_events.specs.Lists.{IsNext, IsLawful, stage_of, stage_after, last_event, reached};
+ghost use Rattle.duty_events.specs.Lists.{Follows, may_follow, IsNext, IsLawful, stage_of, stage_after, last_event, reached};
 ghost use Rattle.duty_events.specs.MinuteKind.{begins, kind_of, is_worked, is_off_duty};
 ghost use Rattle.duty_events.specs.Places.{place_of, place_until, place_behind};
 ghost use Rattle.duty_events.specs.Tours.{tour_start, starts, sum_so_far, tour_minutes, tour_minutes_between, more_until};
@@ -18,6 +20,12 @@ ghost use Rattle.duty_events.specs.Tours.{tour_start, starts, sum_so_far, tour_m
 /// A lawful list and an event that may follow it are a lawful list. It does nothing: its clause is the law.
 pub fn a_next_event_is_lawful()
     ensures { (es : List Event) (e : Event) → IsLawful es → IsNext es e → IsLawful (es ++ e ∷ []) }
+{}
+
+/// The test of whether an event may follow a stage and a latest minute tells just that. It does nothing: its clause is the
+/// law.
+pub fn may_follow_in_words()
+    ensures { (s : Stage) (last : Option ℕ) (e : Event) → Decides (may_follow s last e) (Follows s last e) }
 {}
 
 /// The first events of a lawful list are one. It does nothing: its clause is the law.
