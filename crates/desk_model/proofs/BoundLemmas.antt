@@ -18,7 +18,7 @@ use Rattle.desk_model.specs.Boards.{puts, is_on, boards_of, is_at, released, sen
 use Rattle.desk_model.specs.ListAnswer.{list_answer}
 use Rattle.desk_model.specs.Legal.{answer_to, IsNext, IsLegal}
 use Rattle.desk_model.proofs.OrderLemmas.{order-silent, order-sent, length-order-sent}
-use Rattle.desk_model.proofs.RankLemmas.{length-order-moved}
+use Rattle.desk_model.proofs.OnBoardLemmas.{length-order-moved}
 use Rattle.desk_model.proofs.LegalLemmas.{legal-induction, done-answer}
 
 -- where `list` is done there was room

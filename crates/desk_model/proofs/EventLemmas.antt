@@ -1,21 +1,20 @@
 -- The events of a person are a lawful list, and none that was told and accepted is left out.
-use Rattle.std.proofs.Common.{◌≡◌, ℕ, ◌≤◌, Bool, true, false, cond, ◌&&◌, nat_eq, nat_le, nat_lt, Option, None, Some, Result, Ok, Err, is_ok, is_none, List, [], ◌∷◌, ◌++◌, fold, length, refl, sym, ap, subst, ◌∙◌, arith, append-nil}
+use Rattle.std.proofs.Common.{◌≡◌, ℕ, ◌≤◌, Bool, true, false, cond, nat_eq, nat_lt, Option, None, Some, Result, Ok, Err, is_ok, is_none, List, [], ◌∷◌, ◌++◌, fold, length, refl, sym, ap, subst, ◌∙◌, arith, append-nil}
 use Rattle.std.specs.Option.{option_map}
 use Rattle.std.specs.List.{cons_option, filter_map}
 use Rattle.std.proofs.lemmas.Bool.{false≢true}
-use Rattle.std.proofs.lemmas.Bool.Decides.{nat_tests}
 use Rattle.std.proofs.lemmas.List.{map-append}
 use Rattle.std.proofs.lemmas.List.Sums.{fold_push}
 use Rattle.std.proofs.lemmas.Option.{slice_get_within}
-use Rattle.desk_base.specs.declared.minute.TheConstants.{YEARS_BEGIN, YEARS_END}
-use Rattle.desk_base.specs.Minute.{IsInYears, is_in_years}
+use Rattle.desk_base.specs.Minute.{IsInYears}
 use Rattle.desk_base.specs.Window.{start_of}
 use Rattle.duty_events.specs.declared.event.Event.{Event}
 use Rattle.duty_events.specs.declared.event.Event.TheVariants as event
 use Rattle.duty_events.specs.declared.stage.Stage.{Stage}
 use Rattle.duty_events.specs.declared.event_fault.EventFault.{EventFault}
 use Rattle.duty_events.specs.Allowed.{first_minute, last_minute, judge}
-use Rattle.duty_events.specs.Lists.{stage_of, latest, may_follow, Follows, IsLawful}
+use Rattle.duty_events.specs.Lists.{stage_of, latest, may_follow, IsLawful}
+use Rattle.duty_events.proofs.FollowLemmas.{may_follow-decides}
 use Rattle.duty_events.proofs.ListLemmas.{lawful-push}
 use Rattle.desk_model.specs.declared.command.Cmd.{Cmd}
 use Rattle.desk_model.specs.declared.command.Cmd.TheVariants as cmd
@@ -35,30 +34,6 @@ use Rattle.desk_model.proofs.LegalLemmas.{legal-induction, said-next}
 
 -- ---- a lawful list
 
-both : (a b : Bool) → (a && b) ≡ true → (a ≡ true) × (b ≡ true)
-both true b is = (refl, is)
-both false b is = absurd (false≢true is)
-
-in_years : (minute : ℕ) → is_in_years minute ≡ true → IsInYears minute
-in_years minute is =
-    let bounds = both (nat_le YEARS_BEGIN minute) (nat_lt minute YEARS_END) is in
-    (grind (arith, nat_tests, bounds.0), grind (arith, nat_tests, bounds.1))
-
-follows : (s : Stage) (last : Option ℕ) (e : Event) → may_follow s last e ≡ true → Follows s last e
-follows s last e may =
-    let allowed = is_ok (judge s e last) in
-    let first = is_in_years (first_minute e) in
-    let last_in = is_in_years (last_minute e) in
-    let whole = both (allowed && first && last_in) (nat_le (first_minute e) (last_minute e)) may in
-    let years = both (allowed && first) last_in whole.0 in
-    let begun = both allowed first years.0 in
-    record {
-      allowed = begun.0;
-      first_in = in_years (first_minute e) begun.1;
-      last_in = in_years (last_minute e) years.1;
-      whole = grind (arith, nat_tests, whole.1);
-    }
-
 lawful-nil : IsLawful []
 lawful-nil = record { each = λ place e found. absurd (omega (arith, slice_get_within [] place e found)) }
 
@@ -70,7 +45,7 @@ lawful-keep xs x lawful = go (may_come (events_in xs) x.event) refl
   where
     go : (may : Bool) → may_come (events_in xs) x.event ≡ may → IsLawful (events_in (cond may (xs ++ x ∷ []) xs))
     go true may =
-        subst IsLawful (sym (events_in-push xs x)) (lawful-push (events_in xs) x.event lawful (follows (stage_of (events_in xs)) (latest (events_in xs)) x.event may))
+        subst IsLawful (sym (events_in-push xs x)) (lawful-push (events_in xs) x.event lawful ((may_follow-decides (stage_of (events_in xs)) (latest (events_in xs)) x.event).0 may))
     go false may = lawful
 
 lawful-fold : (xs more : List Told) → IsLawful (events_in xs) → IsLawful (events_in (fold keep xs more))
@@ -113,17 +88,10 @@ event-years (event.Final t place) is = (is.0, (is.0, omega arith))
 event-years (event.Other span place) is = (is.0, (is.1, omega (arith, is.2)))
 event-years other is = (is, (is, omega arith))
 
-is_in_years-true : (minute : ℕ) → IsInYears minute → is_in_years minute ≡ true
-is_in_years-true minute is =
-    let low : nat_le YEARS_BEGIN minute ≡ true = grind (arith, nat_tests, is.0) in
-    let high : nat_lt minute YEARS_END ≡ true = grind (arith, nat_tests, is.1) in
-    rw (low, high) refl
-
 may_follow-allowed : (s : Stage) (last : Option ℕ) (e : Event) → IsEvent e → is_ok (judge s e last) ≡ true → may_follow s last e ≡ true
 may_follow-allowed s last e is allowed =
     let years = event-years e is in
-    let whole : nat_le (first_minute e) (last_minute e) ≡ true = grind (arith, nat_tests, years.1.1) in
-    rw (allowed, is_in_years-true (first_minute e) years.0, is_in_years-true (last_minute e) years.1.0, whole) refl
+    (may_follow-decides s last e).1 (record { allowed = allowed; first_in = years.0; last_in = years.1.0; whole = years.1.1 })
 
 -- what is told and done was allowed
 told-done : (o : OpeningValue) (es : List Event) (m : ℕ) (e : Event) → is_done (told_answer o es m e) ≡ true → is_ok (judge (stage_of es) e (latest es)) ≡ true

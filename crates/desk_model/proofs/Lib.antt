@@ -3,6 +3,7 @@ pub mod InsideLemmas
 pub mod SaidLemmas
 pub mod LegalLemmas
 pub mod OrderLemmas
+pub mod OnBoardLemmas
 pub mod RankLemmas
 pub mod MovedLemmas
 pub mod BoundLemmas

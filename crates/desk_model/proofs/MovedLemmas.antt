@@ -10,7 +10,7 @@ use Rattle.desk_model.specs.History.{History, with_entry, said}
 use Rattle.desk_model.specs.Boards.{puts, is_on, sends, order}
 use Rattle.desk_model.proofs.SaidLemmas.{said-some}
 use Rattle.desk_model.proofs.OrderLemmas.{without, same_number, nat_eq-same, order-silent, order-sent, order-moved}
-use Rattle.desk_model.proofs.RankLemmas.{any-order, said-puts-sends}
+use Rattle.desk_model.proofs.OnBoardLemmas.{any-order, said-puts-sends}
 
 -- who says that a person is on a board says that they are
 puts-true : (b : List ℕ) (p : ℕ) (c : Cmd) (on : Bool) → puts b p c ≡ Some on → on ≡ true
