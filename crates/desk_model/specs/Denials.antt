@@ -64,4 +64,4 @@ pub record IsRightOffer (h : History) (m v : ℕ) (link : Link) : Type 0 where
 -- where the entry's reply makes an offer, it is right
 pub record OffersRightly (s : Step) : Type 0 where
   pub each : (p k : ℕ) (b : List ℕ) → s.entry.reply ≡ reply.Offered p b k
-    → (v : ℕ) × ((asks_for s.entry.stated.cmd ≡ Some v) × IsRightOffer s.before s.entry.moment v (record { board = b; position = k; person = p }))
+      → (v : ℕ) × ((asks_for s.entry.stated.cmd ≡ Some v) × IsRightOffer s.before s.entry.moment v (record { board = b; position = k; person = p }))

@@ -9,9 +9,7 @@ ghost use Rattle.duty_events.specs.Lists.{IsLawful, stage_of};
 ghost use Rattle.law_bars.specs.Law.{law_bar, LawInWords, WasOffTenHours};
 
 use consecutive_days::days_in_words;
-use duty_events::{
-    a_minute_that_is_not_worked_is_off, the_last_tour_ends_by_the_latest_minute,
-};
+use duty_events::{a_minute_that_is_not_worked_is_off, the_last_tour_ends_by_the_latest_minute};
 use month_hours::hours_in_words;
 use rest_rules::rest_in_words;
 

@@ -136,9 +136,13 @@ impl Kept {
         let chain = job.chain();
         for board in chain.codes() {
             self.fill_members(board, &mut lists.members);
-            if let Some(link) =
-                self.first_free_on(&mut lists.events, moment, job, board, &lists.members)
-            {
+            if let Some(link) = self.first_free_on(
+                &mut lists.events,
+                moment,
+                job,
+                board,
+                &lists.members,
+            ) {
                 return Some(link);
             }
         }
