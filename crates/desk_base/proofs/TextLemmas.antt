@@ -5,7 +5,7 @@ use Rattle.jiff_core.specs.Date.{epoch_day}
 use Rattle.jiff_core.specs.declared.civil.date.Date.{Date}
 use Rattle.jiff_core.proofs.SignedLemmas.{signed_arith}
 use Rattle.jiff_core.proofs.DateLemmas.{civil}
-use Rattle.desk_base.specs.Month.{year_of, place_in_year, first_day, month_text, IsMonthInYears}
+use Rattle.desk_base.specs.Month.{year_of, place_in_year, first_day, month_text}
 use Rattle.desk_base.specs.Day.{day_of, day_text, place_in_month}
 use Rattle.desk_base.specs.Minute.{month_of, minute_text}
 use Rattle.desk_base.specs.Civil.{IsMinuteAt, IsMonthAt, civil_text}

@@ -82,7 +82,7 @@ events-snoc h e p =
 
 -- ---- none is left out
 
-event-years : (e : Event) → IsEvent e → IsInYears (first_minute e) × (IsInYears (last_minute e) × (first_minute e ≤ last_minute e))
+pub event-years : (e : Event) → IsEvent e → IsInYears (first_minute e) × (IsInYears (last_minute e) × (first_minute e ≤ last_minute e))
 event-years (event.Interim t k place) is = (is.0, (is.0, omega arith))
 event-years (event.Final t place) is = (is.0, (is.0, omega arith))
 event-years (event.Other span place) is = (is.0, (is.1, omega (arith, is.2)))

@@ -15,3 +15,8 @@ pub mod OnOfferLemmas
 pub mod EnrolledLemmas
 pub mod DenialLemmas
 pub mod OfferLemmas
+pub mod FoundLemmas
+pub mod PlanLemmas
+pub mod FitEventLemmas
+pub mod FitBarLemmas
+pub mod FitLemmas

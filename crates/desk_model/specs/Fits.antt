@@ -11,7 +11,7 @@ use Rattle.duty_events.specs.declared.stage.Stage.{Stage}
 use Rattle.duty_events.specs.declared.stage.Stage.TheVariants as stage
 use Rattle.duty_events.specs.declared.event_fault.EventFault.{EventFault}
 use Rattle.duty_events.specs.declared.event_fault.EventFault.TheVariants as fault
-use Rattle.duty_events.specs.Allowed.{first_minute, last_minute}
+use Rattle.duty_events.specs.Allowed.{first_minute}
 use Rattle.denial_rules.specs.Bar.{FitsBar}
 use Rattle.desk_model.specs.declared.limits.TheConstants.{LAST_CALLER}
 use Rattle.desk_model.specs.declared.command.Cmd.{Cmd}
@@ -58,18 +58,6 @@ IsCommand (cmd.Explain vac person) = IsNumber vac × IsNumber person
 pub record IsStated (s : StatedValue) : Type 0 where
   pub minute : IsInYears s.minute
   pub cmd : IsCommand s.cmd
-
--- the minutes and the month that a command tells lie in the years 2000 to 2099
-abbrev pub TellsYears : Cmd → Type 0
-TellsYears (cmd.Past person event) = IsInYears (first_minute event) × IsInYears (last_minute event)
-TellsYears (cmd.Happened person event) = IsInYears (first_minute event) × IsInYears (last_minute event)
-TellsYears (cmd.Hours person month) = IsMonthInYears month
-TellsYears other = ⊤
-
--- a statement's minute, and those that its command tells, lie in these years
-pub record IsInItsYears (s : StatedValue) : Type 0 where
-  pub minute : IsInYears s.minute
-  pub cmd : TellsYears s.cmd
 
 -- ---- what is answered
 

@@ -30,7 +30,7 @@ pub use laws::{
     a_refusal_changes_nothing, each_offer_is_right, no_event_is_left_out, one_offer_to_a_person,
     order_is_by_rank, unfilled_where_all_are_barred,
 };
-pub use legal::{boards_and_chains_are_bounded, one_history_is_legal};
+pub use legal::{a_legal_history_fits, boards_and_chains_are_bounded, one_history_is_legal};
 pub use limits::{
     BOARD_LIMIT, CHAIN_LIMIT, LAST_CALLER, LIST_LIMIT, MEMBER_LIMIT, PERSON_LIMIT, PLAN_LIMIT,
     VACANCY_LIMIT,

@@ -1,8 +1,7 @@
 -- Each value that a bar of the law keeps is in its range.
-use Rattle.std.proofs.Common.{◌≡◌, ℕ, ◌+◌, ◌-◌, ◌<◌, ◌≤◌, ◌^◌, ◌⊎◌, inl, inr, ◌==◌, ◌&&◌, Bool, true, false, cond, not, nat_eq, nat_lt, Option, None, Some, IfSome, List, [], ◌∷◌, ◌++◌, refl, sym, subst, ap, ◌∙◌, arith}
+use Rattle.std.proofs.Common.{◌≡◌, ℕ, ◌+◌, ◌-◌, ◌<◌, ◌≤◌, ◌^◌, ◌⊎◌, inl, inr, ◌==◌, ◌&&◌, Bool, true, false, cond, not, nat_lt, Option, None, Some, IfSome, List, [], ◌∷◌, ◌++◌, refl, sym, subst, arith}
 use Rattle.std.specs.Option.{option_map}
 use Rattle.std.proofs.lemmas.Bool.{cases_lt}
-use Rattle.std.proofs.lemmas.Bool.Decides.{nat_tests}
 use Rattle.desk_base.specs.declared.minute.TheConstants.{YEARS_BEGIN, YEARS_END}
 use Rattle.desk_base.specs.Minute.{IsInYears}
 use Rattle.desk_base.specs.Month.{IsMonthInYears, first_minute as month_start, minutes_of}
@@ -41,7 +40,7 @@ use Rattle.denial_rules.specs.declared.bar.Bar.{Bar}
 use Rattle.denial_rules.specs.declared.bar.Bar.TheVariants as bar
 use Rattle.denial_rules.specs.Bar.{FitsBar}
 use Rattle.denial_rules.specs.Table.{first_some}
-use Rattle.law_bars.specs.Law.{rest_row, more_rest_row, undisturbed_row, six_days_row, seven_days_row, month_row, limbo_row, law_rows, law_bar}
+use Rattle.law_bars.specs.Law.{rest_row, more_rest_row, undisturbed_row, six_days_row, seven_days_row, month_row, limbo_row, law_bar}
 
 -- ---- rest
 

@@ -1,5 +1,5 @@
 -- When no qualification that is asked is missing, and which numbers are told as missing.
-use Rattle.std.proofs.Common.{◌≡◌, ℕ, zero, suc, ◌<◌, ◌≤◌, inl, inr, Bool, true, false, not, ◌&&◌, cond, if◌then◌else◌, Option, None, Some, IsNone, IfSome, refl, sym, subst, ap, ◌∙◌, arith, ◌↔◌, IsTrue}
+use Rattle.std.proofs.Common.{◌≡◌, ℕ, zero, suc, ◌<◌, ◌≤◌, inl, inr, Bool, true, false, not, ◌&&◌, cond, if◌then◌else◌, Option, None, Some, IsNone, IfSome, refl, sym, ap, ◌∙◌, arith, ◌↔◌, IsTrue}
 use Rattle.std.specs.Option.{option_or}
 use Rattle.std.proofs.lemmas.Bool.{cases_order}
 use Rattle.qualifications.specs.Quals.{has, lowest, lowest_missing, HasAll}

@@ -1,4 +1,4 @@
-use Rattle.std.proofs.Common.{◌∙◌, arith, pos, ◌+ℤ◌, FitsSigned, w64}
+use Rattle.std.proofs.Common.{◌∙◌, arith, pos, FitsSigned, w64}
 use Rattle.std.proofs.lemmas.Int.{to_z-of_z}
 use Rattle.jiff_core.specs.declared.unit.Unit.TheVariants.{Day}
 use Rattle.jiff_core.specs.Span.{IsOnly}

@@ -1,6 +1,5 @@
-use Rattle.std.proofs.Common.{◌≡◌, arith}
+use Rattle.std.proofs.Common.{arith}
 use Rattle.jiff_core.proofs.SignedLemmas.{signed_arith}
-use Rattle.desk_base.specs.Month.{place_in_year}
 use Rattle.desk_base.specs.Civil.{IsMonthAt}
 use Rattle.desk_base.proofs.CivilLemmas.{day_of_month}
 use Rattle.desk_base.proofs.civil.first_day_of.Goals as goal

@@ -1,7 +1,7 @@
-use Rattle.std.proofs.Common.{◌≤◌, refl, sym, ap, subst, ◌∙◌, arith, take}
+use Rattle.std.proofs.Common.{refl, sym, ap, ◌∙◌, arith, take}
 use Rattle.std.proofs.lemmas.List.{take_all}
 use Rattle.std.specs.Option.{option_or}
-use Rattle.desk_model.specs.History.{history_of, with_entry, said}
+use Rattle.desk_model.specs.History.{history_of, said}
 use Rattle.desk_model.specs.Register.{sets_up, board_of}
 use Rattle.desk_model.specs.Boards.{order}
 use Rattle.desk_model.proofs.SaidLemmas.{first_of-snoc}

@@ -1,10 +1,5 @@
-use Rattle.std.proofs.Common.{◌≡◌, ◌∷◌, ◌++◌, [], Bool, true, false, ◌||◌, cond, unwrap_or, sym, ap, ◌∙◌}
-use Rattle.std.specs.List.{list_any}
-use Rattle.desk_model.specs.History.{History, with_entry, said}
-use Rattle.desk_model.specs.Register.{board_of}
-use Rattle.desk_model.specs.Boards.{puts, order}
-use Rattle.desk_model.proofs.OrderLemmas.{without}
-use Rattle.desk_model.proofs.MovedLemmas.{order-unsent, order-sends}
+use Rattle.std.proofs.Common.{false, unwrap_or, sym, ap, ◌∙◌}
+use Rattle.desk_model.proofs.MovedLemmas.{order-unsent}
 use Rattle.plain_core.proofs.MemberLemmas.{moved-put, moved-member, unmoved}
 use Rattle.plain_core.proofs.boards.follow.Goals as goal
 use Rattle.plain_core.proofs.boards.follow.Goals.{then-is_put-via-then-is_put, then-is_put-via-else-is_put+then-contains}

@@ -3,7 +3,7 @@ use Rattle.desk_base.specs.Month.{month_text, month_of_day}
 use Rattle.desk_base.specs.Day.{day_of, day_text, place_in_month}
 use Rattle.desk_base.specs.Minute.{minute_text, month_of}
 use Rattle.desk_base.specs.Civil.{IsMonthAt}
-use Rattle.desk_base.proofs.MonthLemmas.{month_of_day_is, month_in_years, first_day-next, length_of_bounds}
+use Rattle.desk_base.proofs.MonthLemmas.{month_of_day_is, first_day-next, length_of_bounds}
 use Rattle.desk_base.proofs.TextLemmas.{minute_text-civil}
 use Rattle.desk_base.proofs.minute.Minute.write.Goals as goal
 use Rattle.desk_base.proofs.minute.Minute.write.Goals.{After-write}

@@ -1,7 +1,6 @@
-use Rattle.std.proofs.Common.{◌≡◌, ◌∙◌, ap, arith, pos}
-use Rattle.jiff_core.specs.Calendar.{days_in_month}
+use Rattle.std.proofs.Common.{◌≡◌, arith, pos}
 use Rattle.jiff_core.proofs.SignedLemmas.{signed_arith, signed_casts}
-use Rattle.desk_base.specs.Month.{year_of, place_in_year}
+use Rattle.desk_base.specs.Month.{place_in_year}
 use Rattle.desk_base.proofs.MonthLemmas.{first_day-next, length_of, length_of_bounds}
 use Rattle.desk_base.proofs.month.Month.minutes.Goals as goal
 use Rattle.desk_base.proofs.month.Month.minutes.Goals.{After-days_in_month}

@@ -1,4 +1,4 @@
-use Rattle.std.proofs.Common.{◌≡◌, ◌≤◌, sym, ap, subst, ◌∙◌, arith, length}
+use Rattle.std.proofs.Common.{◌≡◌, sym, ap, ◌∙◌, arith, length}
 use Rattle.desk_model.specs.History.{history_of}
 use Rattle.desk_model.specs.Boards.{order}
 use Rattle.plain_core.proofs.KeptLemmas.{length-kept}

@@ -1,4 +1,4 @@
-use Rattle.std.proofs.Common.{◌≡◌, nat_eq, sym, ap, ◌∙◌, arith}
+use Rattle.std.proofs.Common.{nat_eq, sym, ap, ◌∙◌, arith}
 use Rattle.desk_model.specs.Boards.{links, chain}
 use Rattle.desk_model.specs.ExplainAnswer.{place_in}
 use Rattle.plain_core.proofs.ChainLemmas.{find-chain-here, find-chain-past}

@@ -1,4 +1,4 @@
-use Rattle.std.proofs.Common.{[], sym, subst}
+use Rattle.std.proofs.Common.{sym, subst}
 use Rattle.desk_model.specs.History.{history_of, opened}
 use Rattle.desk_model.specs.Legal.{IsLegal}
 use Rattle.desk_model.proofs.LegalLemmas.{legal-opened}

@@ -1,4 +1,4 @@
-use Rattle.std.proofs.Common.{[], ◌∷◌, ◌++◌, sym, subst, arith}
+use Rattle.std.proofs.Common.{sym, subst, arith}
 use Rattle.desk_model.specs.History.{history_of, with_entry}
 use Rattle.desk_model.specs.Legal.{IsLegal, MayState}
 use Rattle.plain_core.specs.Kept.{IsKept}
