@@ -1,3 +1,4 @@
 pub mod Marked
 pub mod Word
 pub mod Spelled
+pub mod Line

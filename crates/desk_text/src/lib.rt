@@ -3,6 +3,7 @@
 
 mod bar_line;
 mod command_record;
+mod each_line;
 mod entry_line;
 mod field;
 mod line_text;
@@ -15,6 +16,7 @@ mod stated_line;
 mod word;
 
 pub use command_record::read_command;
+pub use each_line::each_line_ends_once;
 pub use entry_line::write_entry;
 pub use line_text::LineText;
 pub use one_statement::a_record_states_one_command;

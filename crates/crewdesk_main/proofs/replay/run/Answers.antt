@@ -1,7 +1,7 @@
 use Rattle.std.proofs.Common.{arith}
 use Rattle.std.specs.Io.KnownBytes.{Appends}
 use Rattle.desk_io.specs.Giving.{AddsFront}
-use Rattle.crewdesk_main.specs.Replay.{IsReplay, by_the_day_file, day_history}
+use Rattle.crewdesk_main.specs.Replay.{IsReplay, day_history}
 use Rattle.crewdesk_main.proofs.HistoryLemmas.{day-MayState}
 use Rattle.crewdesk_main.proofs.ReplayLemmas.{Replays-TookAll}
 use Rattle.crewdesk_main.proofs.replay.run.Goals as goal

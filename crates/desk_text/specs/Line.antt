@@ -1,0 +1,13 @@
+-- Lines of a journal.
+use Rattle.std.specs.Prelude.{◌≡◌, ℕ, true, nat_le, List, [], ◌∷◌, ◌++◌}
+use Rattle.std.specs.List.{list_all}
+
+-- each byte is 32 or above, so that none is a line feed or a carriage return
+pub record IsPlain (text : List ℕ) : Type 0 where
+  pub above : list_all (λ b. nat_le 32 b) text ≡ true
+
+-- such a text, and a line feed behind it
+pub record IsLine (line : List ℕ) : Type 0 where
+  pub text : List ℕ
+  pub plain : IsPlain text
+  pub is : line ≡ text ++ 10 ∷ []
