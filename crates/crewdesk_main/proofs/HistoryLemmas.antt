@@ -3,13 +3,13 @@ use Rattle.std.proofs.Common.{◌≡◌, ℕ, ◌<◌, ◌+◌, List, [], ◌∷
 use Rattle.std.specs.List.{All}
 use Rattle.std.proofs.lemmas.List.{take_more, map-append}
 use Rattle.std.proofs.lemmas.List.Elements.{All-cons, All-nil, All-head, All-tail}
-use Rattle.desk_model.specs.Opening.{OpeningValue}
+use Rattle.desk_model.specs.Opening.{OpeningValue, IsOpening}
 use Rattle.desk_model.specs.Statement.{StatedValue}
 use Rattle.desk_model.specs.Fits.{IsStated}
 use Rattle.desk_model.specs.Entry.{EntryValue}
 use Rattle.desk_model.specs.History.{History, history_of, opened, with_entry}
-use Rattle.desk_model.specs.Legal.{next, history_from, MayState}
-use Rattle.crewdesk_main.specs.Replay.{by_the_day_file, day_history}
+use Rattle.desk_model.specs.Legal.{next, given, history_from, history, MayState, IsLegal}
+use Rattle.crewdesk_main.specs.Replay.{by_the_day_file, day_history, IsReplay}
 
 -- no command has no entry
 pub day_history-none : (o : OpeningValue) → day_history o [] ≡ opened o
@@ -41,9 +41,20 @@ day_history-next o commands place s es e so_far within at answer =
     ∙ sym (day_history-more o commands place s within at)
 
 -- the day file's commands may be stated by caller 0
-pub day-MayState : (commands : List StatedValue) → All IsStated commands → All (λ c. MayState c.0 c.1) (map by_the_day_file commands)
+day-MayState : (commands : List StatedValue) → All IsStated commands → All (λ c. MayState c.0 c.1) (map by_the_day_file commands)
 day-MayState [] all = All-nil (λ c. MayState c.0 c.1)
 day-MayState (s ∷ rest) all =
     All-cons (λ c. MayState c.0 c.1) (by_the_day_file s) (map by_the_day_file rest)
     (record { caller_in = omega arith; stated = All-head IsStated s rest all })
     (day-MayState rest (All-tail IsStated s rest all))
+
+-- by the laws of legal histories, the history that the rules give for a day file's commands is their replay
+pub IsReplay-day : ((o : OpeningValue) (commands : List (ℕ × StatedValue)) → (history o commands).opening ≡ o)
+    → ((o : OpeningValue) (commands : List (ℕ × StatedValue)) → IsOpening o → All (λ c. MayState c.0 c.1) commands → IsLegal (history o commands))
+    → ((o : OpeningValue) (commands : List (ℕ × StatedValue)) → map given (history o commands).entries ≡ commands)
+    → (o : OpeningValue) (commands : List StatedValue) → IsOpening o → All IsStated commands → IsReplay o commands (day_history o commands)
+IsReplay-day opening legal given_is o commands valid all = record {
+  opened = opening o (map by_the_day_file commands);
+  legal = legal o (map by_the_day_file commands) valid (day-MayState commands all);
+  given = given_is o (map by_the_day_file commands);
+}

@@ -1,8 +1,7 @@
 use Rattle.std.proofs.Common.{arith}
 use Rattle.std.specs.Io.KnownBytes.{Appends}
 use Rattle.desk_io.specs.Giving.{AddsFront}
-use Rattle.crewdesk_main.specs.Replay.{IsReplay, day_history}
-use Rattle.crewdesk_main.proofs.HistoryLemmas.{day-MayState}
+use Rattle.crewdesk_main.proofs.HistoryLemmas.{IsReplay-day}
 use Rattle.crewdesk_main.proofs.ReplayLemmas.{Replays-TookAll}
 use Rattle.crewdesk_main.proofs.replay.run.Goals as goal
 
@@ -10,11 +9,7 @@ pub returns-in-Ok-read_day-clause-fine : goal.returns-in-Ok-read_day-clause-fine
 returns-in-Ok-read_day-clause-fine g c = λ fine.
     let law = c.one_history_is_legal.ensures in
     let day = c.in-Ok-read_day.ensures.ok in
-    let replay : IsReplay c.in-Ok-read_day.day.opening c.in-Ok-read_day.day.commands.items (day_history c.in-Ok-read_day.day.opening c.in-Ok-read_day.day.commands.items) = record {
-      opened = law.opening _ _;
-      legal = law.legal _ _ day.opening.valid (day-MayState _ day.valid);
-      given = law.given _ _;
-    } in
+    let replay = IsReplay-day law.opening law.legal law.given _ _ day.opening.valid day.valid in
     Replays-TookAll _ _ c.in-Ok.bytes.items _ _ _ (Appends _ _) c.in-Ok.ensures.whole (omega (arith, c.in-Ok.ensures.bounded, c.in-Ok.bytes.ok.0))
     c.deref.ensures.value day replay (c.replay_day.ensures.fine fine)
 
@@ -22,10 +17,6 @@ pub returns-in-Ok-read_day-clause-write_fault : goal.returns-in-Ok-read_day-clau
 returns-in-Ok-read_day-clause-write_fault g c = λ fault.
     let law = c.one_history_is_legal.ensures in
     let day = c.in-Ok-read_day.ensures.ok in
-    let replay : IsReplay c.in-Ok-read_day.day.opening c.in-Ok-read_day.day.commands.items (day_history c.in-Ok-read_day.day.opening c.in-Ok-read_day.day.commands.items) = record {
-      opened = law.opening _ _;
-      legal = law.legal _ _ day.opening.valid (day-MayState _ day.valid);
-      given = law.given _ _;
-    } in
+    let replay = IsReplay-day law.opening law.legal law.given _ _ day.opening.valid day.valid in
     Replays-TookAll _ _ c.in-Ok.bytes.items _ _ _ (AddsFront _ _) c.in-Ok.ensures.whole (omega (arith, c.in-Ok.ensures.bounded, c.in-Ok.bytes.ok.0))
     c.deref.ensures.value day replay (c.replay_day.ensures.write_fault fault)
