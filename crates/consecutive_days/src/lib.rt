@@ -14,3 +14,5 @@ pub use run::{
 
 #[cfg(test)]
 mod tests;
+#[cfg(test)]
+mod time_off_tests;

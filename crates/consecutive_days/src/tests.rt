@@ -10,7 +10,7 @@ use std::test::Fail;
 type Row = (u8, u16, u16, &'static [u8]);
 
 // Five days that end at home.
-const FIVE: [Row; 5] = [
+pub(crate) const FIVE: [Row; 5] = [
     (4, 8_00, 16_00, b"HOM"),
     (5, 8_00, 16_00, b"HOM"),
     (6, 8_00, 16_00, b"HOM"),
@@ -19,26 +19,30 @@ const FIVE: [Row; 5] = [
 ];
 
 // The time on the clock of a day of March 2024; day 0 is 29 February.
-fn march(day: u8, clock: u16) -> Option<Minute> {
+pub(crate) fn march(day: u8, clock: u16) -> Option<Minute> {
     let midnight = Minute::read(b"2024-02-29 00:00")?.number() + 1440 * u64::from(day);
     Minute::new(midnight + u64::from(60 * (clock / 100)) + u64::from(clock % 100))
 }
 
-fn final_at(day: u8, clock: u16, place: &[u8]) -> Option<Event> {
+pub(crate) fn final_at(day: u8, clock: u16, place: &[u8]) -> Option<Event> {
     Some(Event::Final(march(day, clock)?, Code::read(place)?))
 }
 
-fn service(day: u8, from: u16, to: u16, place: &[u8]) -> Option<Event> {
+pub(crate) fn service(day: u8, from: u16, to: u16, place: &[u8]) -> Option<Event> {
     let span = Span::new(march(day, from)?, march(day, to)?)?;
     Some(Event::Other(span, Code::read(place)?))
 }
 
-fn interim(day: u8, clock: u16, place: &[u8]) -> Option<Event> {
+pub(crate) fn interim(day: u8, clock: u16, place: &[u8]) -> Option<Event> {
     Some(Event::Interim(march(day, clock)?, Kind::O, Code::read(place)?))
 }
 
 // These tours, and then these events.
-fn told(alloc: Global, tours: &[Row], more: &[Option<Event>]) -> Result<Vec<Event>, Fail> {
+pub(crate) fn told(
+    alloc: Global,
+    tours: &[Row],
+    more: &[Option<Event>],
+) -> Result<Vec<Event>, Fail> {
     let mut events = Vec::new(alloc);
     for (day, begun, ended, place) in tours {
         events.push(Event::Duty(march(*day, *begun).ok_or("no minute")?))?;
@@ -58,7 +62,7 @@ fn run(events: &[Event]) -> Option<u32> {
 }
 
 // The first of these reports, each a day and a time, that is answered otherwise than is wanted.
-fn wrong(events: &[Event], reports: &[(u8, u16, bool)]) -> Option<(u8, u16)> {
+pub(crate) fn wrong(events: &[Event], reports: &[(u8, u16, bool)]) -> Option<(u8, u16)> {
     for (day, clock, wanted) in reports {
         if ok_at(events, *day, *clock) != Some(*wanted) {
             return Some((*day, *clock));
@@ -222,123 +226,5 @@ fn seven_days(rt: HostRuntime) -> Result<(), Fail> {
     ];
     assert_eq!(rt; run(&events), Some(7));
     assert_eq!(rt; wrong(&events, &reports), None);
-    Ok(())
-}
-
-#[test]
-fn six_days_at_home(rt: HostRuntime) -> Result<(), Fail> {
-    let alloc = rt.alloc();
-    let duty = march(9, 8_00).map(Event::Duty);
-    let home = final_at(9, 16_00, b"HOM");
-    let once = [duty, home];
-    let twice = [
-        duty,
-        home,
-        march(9, 18_00).map(Event::Duty),
-        final_at(9, 20_00, b"HOM"),
-    ];
-    let later = [duty, home, march(17, 8_00).map(Event::Duty)];
-    let reports = [(10, 8_00, false), (11, 15_59, false), (11, 16_00, true)];
-    assert_eq!(rt; wrong(&told(alloc, &FIVE, &once)?, &reports), None);
-    let reports = [(10, 8_00, false), (11, 19_59, false), (11, 20_00, true)];
-    assert_eq!(rt; wrong(&told(alloc, &FIVE, &twice)?, &reports), None);
-    // a free week, and a start after it
-    assert_eq!(rt;
-        wrong(&told(alloc, &FIVE, &later)?, &[(17, 9_00, true)]),
-        None
-    );
-    Ok(())
-}
-
-// The last tour that has ended decides whether the sixth day ended away.
-#[test]
-fn a_second_tour_on_the_sixth_day(rt: HostRuntime) -> Result<(), Fail> {
-    let alloc = rt.alloc();
-    let duty = march(9, 8_00).map(Event::Duty);
-    let second = march(9, 18_00).map(Event::Duty);
-    let out = [
-        duty,
-        final_at(9, 16_00, b"HOM"),
-        second,
-        final_at(9, 20_00, b"ALT"),
-    ];
-    let back = [
-        duty,
-        final_at(9, 16_00, b"ALT"),
-        second,
-        final_at(9, 20_00, b"HOM"),
-    ];
-    assert_eq!(rt;
-        wrong(&told(alloc, &FIVE, &out)?, &[(10, 8_00, true)]),
-        None
-    );
-    assert_eq!(rt;
-        wrong(&told(alloc, &FIVE, &back)?, &[(10, 8_00, false)]),
-        None
-    );
-    Ok(())
-}
-
-#[test]
-fn time_off_that_is_broken(rt: HostRuntime) -> Result<(), Fail> {
-    let alloc = rt.alloc();
-    let duty = march(9, 8_00).map(Event::Duty);
-    let home = final_at(9, 16_00, b"HOM");
-    let broken = [duty, home, service(11, 10_00, 11_00, b"HOM")];
-    let gone = [duty, home, service(11, 10_00, 11_00, b"ALT")];
-    let whole = [duty, home, service(11, 16_00, 17_00, b"ALT")];
-    let reports = [(11, 16_00, false), (13, 10_59, false), (13, 11_00, true)];
-    assert_eq!(rt; wrong(&told(alloc, &FIVE, &broken)?, &reports), None);
-    let reports = [(11, 16_00, false), (14, 16_00, false)];
-    assert_eq!(rt; wrong(&told(alloc, &FIVE, &gone)?, &reports), None);
-    // service behind it breaks nothing, whether the report is before that or after
-    let reports = [(11, 15_59, false), (11, 16_00, true), (11, 17_30, true)];
-    assert_eq!(rt; wrong(&told(alloc, &FIVE, &whole)?, &reports), None);
-    Ok(())
-}
-
-// Off since 16:00 of the ninth, but back at home only at 17:00 of the tenth.
-#[test]
-fn time_off_of_which_some_is_away(rt: HostRuntime) -> Result<(), Fail> {
-    let duty = march(9, 8_00).map(Event::Duty);
-    let back = [
-        duty,
-        final_at(9, 16_00, b"ALT"),
-        service(10, 16_00, 17_00, b"HOM"),
-    ];
-    let events = told(rt.alloc(), &FIVE, &back)?;
-    let reports = [(11, 16_00, false), (12, 16_59, false), (12, 17_00, true)];
-    assert_eq!(rt; wrong(&events, &reports), None);
-    Ok(())
-}
-
-// Of a tour that was told no further than its start its minutes are off, since no more is known of them; an interim that
-// has not ended is not off. The last tour that has ended is the fifth.
-#[test]
-fn a_sixth_tour_that_has_not_ended(rt: HostRuntime) -> Result<(), Fail> {
-    let alloc = rt.alloc();
-    let duty = march(9, 8_00).map(Event::Duty);
-    let begun = [duty];
-    let open = [duty, interim(9, 12_00, b"HOM")];
-    let reports = [(8, 20_00, false), (10, 15_59, false), (10, 16_00, true)];
-    assert_eq!(rt; wrong(&told(alloc, &FIVE, &begun)?, &reports), None);
-    let reports = [(10, 8_00, false), (13, 8_00, false)];
-    assert_eq!(rt; wrong(&told(alloc, &FIVE, &open)?, &reports), None);
-    Ok(())
-}
-
-// A final release during an interim ends the tour, and moves the person, to where that began.
-#[test]
-fn releases_during_an_interim(rt: HostRuntime) -> Result<(), Fail> {
-    let alloc = rt.alloc();
-    let duty = march(9, 8_00).map(Event::Duty);
-    let mut tours = FIVE;
-    tours[4].3 = b"NEAR";
-    let home = [duty, interim(9, 12_00, b"HOM"), final_at(9, 16_00, b"HOM")];
-    let reports = [(10, 8_00, false), (11, 11_59, false), (11, 12_00, true)];
-    assert_eq!(rt; wrong(&told(alloc, &tours, &home)?, &reports), None);
-    let away = [duty, interim(9, 12_00, b"ALT"), final_at(9, 16_00, b"ALT")];
-    let reports = [(10, 8_00, true), (11, 8_00, false), (11, 16_00, false)];
-    assert_eq!(rt; wrong(&told(alloc, &tours, &away)?, &reports), None);
     Ok(())
 }

@@ -41,6 +41,8 @@ pub use stage::Stage;
 pub use tour::Tour;
 
 #[cfg(test)]
+mod list_tests;
+#[cfg(test)]
 mod tests;
 #[cfg(test)]
 mod tour_tests;
