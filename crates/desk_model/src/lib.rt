@@ -33,7 +33,7 @@ pub use laws::{
 pub use legal::{a_legal_history_fits, boards_and_chains_are_bounded, one_history_is_legal};
 pub use limits::{
     BOARD_LIMIT, CHAIN_LIMIT, LAST_CALLER, LIST_LIMIT, MEMBER_LIMIT, PERSON_LIMIT, PLAN_LIMIT,
-    VACANCY_LIMIT,
+    VACANCY_LIMIT, the_numbers_of_the_desk, the_numbers_of_the_law,
 };
 pub use link::Link;
 pub use offer::Offer;

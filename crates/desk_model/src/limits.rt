@@ -1,4 +1,11 @@
 //! How much a desk takes.
+ghost use Rattle.std.specs.Prelude.{◌≡◌};
+
+use consecutive_days::{OFF_AFTER_SEVEN_DAYS, OFF_AFTER_SIX_DAYS, SIX_DAYS};
+use desk_base::{MONTHS_BEGIN, MONTHS_END, WINDOW_MONTHS, YEARS_BEGIN, YEARS_END};
+use duty_events::{DUTY_LIMIT, INTERIM_LIMIT, OFF_DUTY_INTERIM};
+use month_hours::{LIMBO_LIMIT, MONTH_LIMIT};
+use rest_rules::REST;
 
 /// How many persons may be enrolled.
 pub const PERSON_LIMIT: usize = 1_000;
@@ -23,3 +30,37 @@ pub const PLAN_LIMIT: u16 = 720;
 
 /// The highest number of a caller; 0 is the day file's.
 pub const LAST_CALLER: u8 = 63;
+
+/// What the names of the law's numbers stand for, all in minutes but the days: ten hours of rest, (a)(3) of 49 USC 21103;
+/// twelve hours of duty, (a)(2); 276 hours of a month, (a)(1), and 30 of limbo, (c)(1); six days in a row, and the 48 and
+/// 72 hours off behind six and seven of them, (a)(4)(A); and an interim's four hours and ten, (b)(5) to (7). It does
+/// nothing: its clauses are the law.
+pub fn the_numbers_of_the_law()
+    ensures rest { REST ≡ 600 }
+    ensures duty { DUTY_LIMIT ≡ 720 }
+    ensures plan { PLAN_LIMIT ≡ 720 }
+    ensures month { MONTH_LIMIT ≡ 16_560 }
+    ensures limbo { LIMBO_LIMIT ≡ 1_800 }
+    ensures days { SIX_DAYS ≡ 6 }
+    ensures after_six { OFF_AFTER_SIX_DAYS ≡ 2_880 }
+    ensures after_seven { OFF_AFTER_SEVEN_DAYS ≡ 4_320 }
+    ensures interim { OFF_DUTY_INTERIM ≡ 240 }
+    ensures long_interim { INTERIM_LIMIT ≡ 600 }
+{}
+
+/// What the names of the desk's numbers stand for: the minutes of the years 2000 to 2099 and their months, counted from 1970;
+/// the months of a window; and how much a desk takes. It does nothing: its clauses are the law.
+pub fn the_numbers_of_the_desk()
+    ensures years_begin { YEARS_BEGIN ≡ 15_778_080 }
+    ensures years_end { YEARS_END ≡ 68_374_080 }
+    ensures months_begin { MONTHS_BEGIN ≡ 360 }
+    ensures months_end { MONTHS_END ≡ 1_560 }
+    ensures window { WINDOW_MONTHS ≡ 24 }
+    ensures persons { PERSON_LIMIT ≡ 1_000 }
+    ensures boards { BOARD_LIMIT ≡ 64 }
+    ensures lists { LIST_LIMIT ≡ 4 }
+    ensures members { MEMBER_LIMIT ≡ 500 }
+    ensures vacancies { VACANCY_LIMIT ≡ 20_000 }
+    ensures chain { CHAIN_LIMIT ≡ 4 }
+    ensures callers { LAST_CALLER ≡ 63 }
+{}
