@@ -150,7 +150,7 @@ makes-vac v (cmd.Vacancy other) job made = go (nat_eq other.vac v) refl made
     go false is made = cc
 makes-vac v other job made = cc
 
-made-vac : (v : ℕ) (es : List EntryValue) (job : JobValue) → first_of (said (makes v)) es ≡ Some job → job.vac ≡ v
+pub made-vac : (v : ℕ) (es : List EntryValue) (job : JobValue) → first_of (said (makes v)) es ≡ Some job → job.vac ≡ v
 made-vac v [] job made = cc
 made-vac v (e ∷ later) job made = go (said (makes v) e) refl made (made-vac v later job)
   where

@@ -1,6 +1,7 @@
 -- Which commands are answered with an offer, and what such an answer says.
-use Rattle.std.proofs.Common.{◌≡◌, inl, inr, ℕ, Bool, true, false, cond, nat_lt, Option, None, Some, Result, Ok, Err, List, length, refl, sym, ap, ◌∙◌}
+use Rattle.std.proofs.Common.{◌≡◌, ◌≤◌, inl, inr, ℕ, Bool, true, false, cond, nat_lt, Option, None, Some, Result, Ok, Err, List, length, refl, sym, ap, ◌∙◌, arith}
 use Rattle.std.proofs.lemmas.Bool.{false≢true}
+use Rattle.std.proofs.lemmas.Bool.Decides.{nat_tests}
 use Rattle.duty_events.specs.declared.event.Event.{Event}
 use Rattle.duty_events.specs.declared.stage.Stage.{Stage}
 use Rattle.duty_events.specs.declared.event_fault.EventFault.{EventFault}
@@ -101,10 +102,12 @@ asked h m other is = absurd (false≢true (sym (other-no h m other (λ v same. c
 abbrev pub link_of : List ℕ → ℕ → ℕ → Link
 link_of b k p = record { board = b; position = k; person = p }
 
--- the vacancy was made as a job, and this place is the first of its chain whose person is free
+-- the vacancy was made as a job; it is vacant, and the moment is not after its report; and this place is the first of its chain whose person is free
 pub record WasOffered (h : History) (m v : ℕ) (link : Link) : Type 0 where
   pub job : JobValue
   pub made : vacancy_of h v ≡ Some job
+  pub vacant : state_of h job.vac ≡ state.Vacant
+  pub in_time : m ≤ job.report
   pub first : first_free h m job ≡ Some link
 
 next-offered : (h : History) (m v p k : ℕ) (b : List ℕ) → next_answer h m v ≡ reply.Offered p b k → WasOffered h m v (link_of b k p)
@@ -118,13 +121,14 @@ next-offered h m v p k b is = known (vacancy_of h v) refl is
         let person : link.person ≡ p = cc in
         ap Some (ap (λ x. link_of x link.position link.person) board ∙ ap (λ x. link_of b x link.person) position ∙ ap (link_of b k) person)
 
-    vacant : (job : JobValue) (late : Bool) → cond late (reply.Lapsed job.report) (choice_answer (length (chain h job.chain)) (first_free h m job)) ≡ reply.Offered p b k
-        → first_free h m job ≡ Some (link_of b k p)
-    vacant job true is = cc
-    vacant job false is = chosen job (first_free h m job) is
+    vacant : (job : JobValue) (late : Bool) → nat_lt job.report m ≡ late → cond late (reply.Lapsed job.report) (choice_answer (length (chain h job.chain)) (first_free h m job)) ≡ reply.Offered p b k
+        → (m ≤ job.report) × (first_free h m job ≡ Some (link_of b k p))
+    vacant job true now is = cc
+    vacant job false now is = (grind (arith, nat_tests, now), chosen job (first_free h m job) is)
 
-    by_state : (job : JobValue) (how : VacState) → state_answer h m job how ≡ reply.Offered p b k → first_free h m job ≡ Some (link_of b k p)
-    by_state job state.Vacant is = vacant job (nat_lt job.report m) is
+    by_state : (job : JobValue) (how : VacState) → state_answer h m job how ≡ reply.Offered p b k
+        → (how ≡ state.Vacant) × ((m ≤ job.report) × (first_free h m job ≡ Some (link_of b k p)))
+    by_state job state.Vacant is = (refl, vacant job (nat_lt job.report m) refl is)
     by_state job (state.Taken q) is = cc
     by_state job (state.Begun q) is = cc
     by_state job state.Annulled is = cc
@@ -132,7 +136,9 @@ next-offered h m v p k b is = known (vacancy_of h v) refl is
 
     known : (made : Option JobValue) → vacancy_of h v ≡ made → known_answer h m made ≡ reply.Offered p b k → WasOffered h m v (link_of b k p)
     known None made is = cc
-    known (Some job) made is = record { job = job; made = made; first = by_state job (state_of h job.vac) is }
+    known (Some job) made is =
+        let found = by_state job (state_of h job.vac) is in
+        record { job = job; made = made; vacant = found.0; in_time = found.1.0; first = found.1.1 }
 
 -- an entry that offers, which the rules give: it asked for a vacancy, and this was offered
 pub entry-offered : (h : History) (e : EntryValue) (p k : ℕ) (b : List ℕ) → IsNext h e → e.reply ≡ reply.Offered p b k

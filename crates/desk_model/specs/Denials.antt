@@ -52,11 +52,11 @@ pub record IsFirstClear (h : History) (m : ℕ) (job : JobValue) (link : Link) :
   pub barred : AreBarred h m job before
   pub clear : IsClear h m job link.person
 
--- the vacancy that was asked for is offered to who stands first of its chain without a bar; no section of the law keeps them
+-- the vacancy that was asked for is open, and offered to who stands first of its chain without a bar; no section of the law keeps them
 -- from it, by the events that were told so far, and by these they are off in each of the ten hours before its report
 pub record IsRightOffer (h : History) (m v : ℕ) (link : Link) : Type 0 where
   pub job : JobValue
-  pub made : vacancy_of h v ≡ Some job
+  pub is_open : IsOpen h m v job
   pub first : IsFirstClear h m job link
   pub law : KeepsLaw (events h link.person) first.clear.person.home m job.report job.duty job.limbo
   pub ten_hours : WasOffTenHours (events h link.person) job.report

@@ -55,10 +55,10 @@ pub fn unfilled_where_all_are_barred()
         → next_answer h m v ≡ reply.Offered link.person link.board link.position }
 {}
 
-/// At each entry of a legal history whose reply offers a vacancy, whoever asked, it is offered to the first of its chain, as
-/// that stood before the entry, whom at the entry's moment nothing bars; and no section of the law keeps them from it, by the
-/// events that were told so far: they are off in each of the ten hours before its report, 49 USC 21103(a)(3). It
-/// only names the laws that it rests on: its clause is the law.
+/// At each entry of a legal history whose reply offers a vacancy, whoever asked, that was vacant, and its report isn't past.
+/// It is offered to the first of its chain, as that stood before the entry, whom at the entry's moment nothing bars; and no
+/// section of the law keeps them from it, by the events that were told so far: they are off in each of the ten hours before
+/// its report, 49 USC 21103(a)(3). It only names the laws that it rests on: its clause is the law.
 pub fn each_offer_is_right()
     ensures { (h : History) → IsLegal h → All OffersRightly (steps h) }
 {
