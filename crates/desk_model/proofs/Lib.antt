@@ -20,3 +20,4 @@ pub mod PlanLemmas
 pub mod FitEventLemmas
 pub mod FitBarLemmas
 pub mod FitLemmas
+pub mod UnfilledLemmas

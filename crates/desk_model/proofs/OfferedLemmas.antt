@@ -30,70 +30,71 @@ use Rattle.desk_model.specs.NextAnswer.{choice_answer, state_answer, known_answe
 use Rattle.desk_model.specs.Legal.{answer_to, IsNext}
 use Rattle.desk_model.proofs.LegalLemmas.{reply-is}
 
--- ---- only `next` is answered with an offer
+-- ---- only `next` is answered with an offer, or by that a vacancy is unfilled
 
-abbrev pub is_offer : Reply → Bool
-is_offer (reply.Offered p b k) = true
-is_offer other = false
+abbrev pub is_call : Reply → Bool
+is_call (reply.Offered p b k) = true
+is_call (reply.Unfilled listed) = true
+is_call other = false
 
-is_offer-cond : (test : Bool) (one other : Reply) → is_offer (cond test one other) ≡ cond test (is_offer one) (is_offer other)
-is_offer-cond true one other = refl
-is_offer-cond false one other = refl
+is_call-cond : (test : Bool) (one other : Reply) → is_call (cond test one other) ≡ cond test (is_call one) (is_call other)
+is_call-cond true one other = refl
+is_call-cond false one other = refl
 
 neither : (test : Bool) → cond test false false ≡ false
 neither true = refl
 neither false = refl
 
-plan-no : (o : OpeningValue) (m : ℕ) (job : JobValue) → is_offer (plan_answer o m job) ≡ false
-plan-no o m job = simp (is_offer-cond, neither)
+plan-no : (o : OpeningValue) (m : ℕ) (job : JobValue) → is_call (plan_answer o m job) ≡ false
+plan-no o m job = simp (is_call-cond, neither)
 
-chain-no : (o : OpeningValue) (m : ℕ) (job : JobValue) (unknown bad : Option (List ℕ)) → is_offer (chain_answer o m job unknown bad) ≡ false
+chain-no : (o : OpeningValue) (m : ℕ) (job : JobValue) (unknown bad : Option (List ℕ)) → is_call (chain_answer o m job unknown bad) ≡ false
 chain-no o m job (Some b) bad = refl
 chain-no o m job None (Some b) = refl
 chain-no o m job None None = plan-no o m job
 
-judged-no : (r : Result Stage EventFault) → is_offer (judged_answer r) ≡ false
+judged-no : (r : Result Stage EventFault) → is_call (judged_answer r) ≡ false
 judged-no (Ok next) = refl
 judged-no (Err fault) = refl
 
-told-no : (o : OpeningValue) (es : List Event) (m : ℕ) (e : Event) → is_offer (told_answer o es m e) ≡ false
-told-no o es m e = simp (is_offer-cond, judged-no, neither)
+told-no : (o : OpeningValue) (es : List Event) (m : ℕ) (e : Event) → is_call (told_answer o es m e) ≡ false
+told-no o es m e = simp (is_call-cond, judged-no, neither)
 
-frozen-no : (offer : Option ℕ) (other : Reply) → is_offer other ≡ false → is_offer (unless_frozen offer other) ≡ false
+frozen-no : (offer : Option ℕ) (other : Reply) → is_call other ≡ false → is_call (unless_frozen offer other) ≡ false
 frozen-no None other none = none
 frozen-no (Some v) other none = refl
 
-clear-no : (bar : Option Bar) (link : Link) → is_offer (clear_answer bar link) ≡ false
+clear-no : (bar : Option Bar) (link : Link) → is_call (clear_answer bar link) ≡ false
 clear-no None link = refl
 clear-no (Some bar) link = refl
 
-place-no : (bar : Option Bar) (link : Option Link) → is_offer (place_answer bar link) ≡ false
+place-no : (bar : Option Bar) (link : Option Link) → is_call (place_answer bar link) ≡ false
 place-no bar None = refl
 place-no bar (Some link) = clear-no bar link
 
-person-no : (h : History) (m : ℕ) (job : JobValue) (p : ℕ) (person : Option Person) → is_offer (person_answer h m job p person) ≡ false
+person-no : (h : History) (m : ℕ) (job : JobValue) (p : ℕ) (person : Option Person) → is_call (person_answer h m job p person) ≡ false
 person-no h m job p None = refl
-person-no h m job p (Some person) = simp (is_offer-cond, place-no, neither)
+person-no h m job p (Some person) = simp (is_call-cond, place-no, neither)
 
-job-no : (h : History) (m p : ℕ) (job : Option JobValue) → is_offer (job_answer h m p job) ≡ false
+job-no : (h : History) (m p : ℕ) (job : Option JobValue) → is_call (job_answer h m p job) ≡ false
 job-no h m p None = refl
 job-no h m p (Some job) = person-no h m job p (person_of h p)
 
 -- what is answered to any other command
-other-no : (h : History) (m : ℕ) (c : Cmd) → ((v : ℕ) → c ≡ cmd.Next v → ⊥) → is_offer (answer_to h m c) ≡ false
+other-no : (h : History) (m : ℕ) (c : Cmd) → ((v : ℕ) → c ≡ cmd.Next v → ⊥) → is_call (answer_to h m c) ≡ false
 other-no h m (cmd.Next v) other = absurd (other v refl)
-other-no h m (cmd.Enrol person craft home quals) other = simp (is_offer-cond, neither)
-other-no h m (cmd.Board board extra place) other = simp (is_offer-cond, neither)
-other-no h m (cmd.List person board) other = simp (is_offer-cond, neither)
+other-no h m (cmd.Enrol person craft home quals) other = simp (is_call-cond, neither)
+other-no h m (cmd.Board board extra place) other = simp (is_call-cond, neither)
+other-no h m (cmd.List person board) other = simp (is_call-cond, neither)
 other-no h m (cmd.Vacancy job) other =
-    let chained = chain-no h.opening m job (unknown_in h job.chain) (bad_in h job.chain) in simp (is_offer-cond, chained, neither)
-other-no h m (cmd.Past p e) other = simp (is_offer-cond, judged-no, neither)
+    let chained = chain-no h.opening m job (unknown_in h job.chain) (bad_in h job.chain) in simp (is_call-cond, chained, neither)
+other-no h m (cmd.Past p e) other = simp (is_call-cond, judged-no, neither)
 other-no h m (cmd.Happened p e) other =
-    let told = frozen-no (on_offer h p) _ (told-no h.opening (events h p) m e) in simp (is_offer-cond, told, neither)
-other-no h m (cmd.Hours p month) other = simp (is_offer-cond, neither)
+    let told = frozen-no (on_offer h p) _ (told-no h.opening (events h p) m e) in simp (is_call-cond, told, neither)
+other-no h m (cmd.Hours p month) other = simp (is_call-cond, neither)
 other-no h m (cmd.Explain v p) other = job-no h m p (vacancy_of h v)
 
-asked : (h : History) (m : ℕ) (c : Cmd) → is_offer (answer_to h m c) ≡ true → (v : ℕ) × (c ≡ cmd.Next v)
+pub asked : (h : History) (m : ℕ) (c : Cmd) → is_call (answer_to h m c) ≡ true → (v : ℕ) × (c ≡ cmd.Next v)
 asked h m (cmd.Next v) is = (v, refl)
 asked h m other is = absurd (false≢true (sym (other-no h m other (λ v same. cc)) ∙ is))
 
@@ -146,6 +147,6 @@ pub entry-offered : (h : History) (e : EntryValue) (p k : ℕ) (b : List ℕ) �
 entry-offered h e p k b is offers = elim (reply-is h e is) [
   | inl outside ↦ let no : reply.Offered p b k ≡ reply.OutsideWindow = sym offers ∙ outside in cc
   | inr told ↦ let answer : answer_to h e.moment e.stated.cmd ≡ reply.Offered p b k = sym told ∙ offers in
-      let next = asked h e.moment e.stated.cmd (ap is_offer answer) in
+      let next = asked h e.moment e.stated.cmd (ap is_call answer) in
       (next.0, (next.1, next-offered h e.moment next.0 p k b (sym (ap (answer_to h e.moment) next.1) ∙ answer)))
 ]

@@ -65,3 +65,15 @@ pub record IsRightOffer (h : History) (m v : ℕ) (link : Link) : Type 0 where
 pub record OffersRightly (s : Step) : Type 0 where
   pub each : (p k : ℕ) (b : List ℕ) → s.entry.reply ≡ reply.Offered p b k
       → (v : ℕ) × ((asks_for s.entry.stated.cmd ≡ Some v) × IsRightOffer s.before s.entry.moment v (record { board = b; position = k; person = p }))
+
+-- the vacancy that was asked for is open, so many places are in its chain, and all who stand there are barred
+pub record IsRightlyUnfilled (h : History) (m v listed : ℕ) : Type 0 where
+  pub job : JobValue
+  pub is_open : IsOpen h m v job
+  pub barred : AreBarred h m job (chain h job.chain)
+  pub places : listed ≡ length (chain h job.chain)
+
+-- where the entry's reply says that a vacancy is unfilled, it is
+pub record IsUnfilledRightly (s : Step) : Type 0 where
+  pub each : (n : ℕ) → s.entry.reply ≡ reply.Unfilled n
+      → (v : ℕ) × ((asks_for s.entry.stated.cmd ≡ Some v) × IsRightlyUnfilled s.before s.entry.moment v n)

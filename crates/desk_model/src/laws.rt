@@ -12,7 +12,7 @@ ghost use Rattle.desk_model.specs.Duty.{tells, events};
 ghost use Rattle.desk_model.specs.Offers.{open_offer, is_to};
 ghost use Rattle.desk_model.specs.Refusal.{changes, IsSameDesk};
 ghost use Rattle.desk_model.specs.NextAnswer.{next_answer};
-ghost use Rattle.desk_model.specs.Denials.{IsOpen, AreBarred, IsUnfilled, IsFirstClear, OffersRightly};
+ghost use Rattle.desk_model.specs.Denials.{IsOpen, AreBarred, IsUnfilled, IsFirstClear, OffersRightly, IsUnfilledRightly};
 ghost use Rattle.desk_model.specs.Legal.{IsLegal};
 
 use law_bars::{no_bar_where_the_law_is_kept, who_is_rested_was_off_ten_hours};
@@ -65,3 +65,10 @@ pub fn each_offer_is_right()
     no_bar_where_the_law_is_kept();
     who_is_rested_was_off_ten_hours();
 }
+
+/// At each entry of a legal history whose reply says that a vacancy is unfilled, that was vacant, and its report isn't past;
+/// and at the entry's moment all who stood in its chain before the entry were enrolled and barred: as many as the reply
+/// tells. It does nothing: its clause is the law.
+pub fn each_unfilled_vacancy_is_one()
+    ensures { (h : History) → IsLegal h → All IsUnfilledRightly (steps h) }
+{}

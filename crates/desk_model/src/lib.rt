@@ -27,8 +27,8 @@ pub use desk_core::DeskCore;
 pub use entry::Entry;
 pub use job::Job;
 pub use laws::{
-    a_refusal_changes_nothing, each_offer_is_right, no_event_is_left_out, one_offer_to_a_person,
-    order_is_by_rank, unfilled_where_all_are_barred,
+    a_refusal_changes_nothing, each_offer_is_right, each_unfilled_vacancy_is_one,
+    no_event_is_left_out, one_offer_to_a_person, order_is_by_rank, unfilled_where_all_are_barred,
 };
 pub use legal::{a_legal_history_fits, boards_and_chains_are_bounded, one_history_is_legal};
 pub use limits::{
