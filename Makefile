@@ -4,7 +4,7 @@
 # make memory refuses that run each allocation in turn; it proves nothing, and takes minutes
 # make test   the gate: proofs, must-fail edits, tests, examples, and the table of promises
 PROGRAM := build/crewdesk
-DAY := examples/first_offer/stdin
+DAY := examples/a_denial_for_rest/stdin
 SOURCES := crates.txt HANDLES $(shell find crates -name out -prune -o -type f -print)
 
 .PHONY: all run try memory test clean
