@@ -1,4 +1,4 @@
--- What the rows from the craft's on give, where those before don't hold.
+-- Where no row holds.
 use Rattle.std.proofs.Common.{◌≡◌, Bool, true, false, if◌then◌else◌, List, [], ◌∷◌, Option, None, Some, refl}
 use Rattle.std.specs.Option.{option_map}
 use Rattle.denial_rules.specs.declared.bar.Bar.{Bar}
@@ -6,7 +6,7 @@ use Rattle.denial_rules.specs.declared.bar.Bar.TheVariants as bar
 use Rattle.denial_rules.specs.declared.facts.Facts.{Facts}
 use Rattle.denial_rules.specs.Table.{marked_off_row, busy_row, on_offer_row, place_row, craft_row, quals_row, answered_row, law_row, first_some, first_bar}
 
--- where no row holds, no tour runs and the law gives no bar
+-- where no row holds, neither the first nor those behind it do
 pub both-none : (row : Option Bar) (rest : List (Option Bar)) → first_some (row ∷ rest) ≡ None → (row ≡ None) × (first_some rest ≡ None)
 both-none None rest none = (refl, none)
 both-none (Some b) rest none = cc
@@ -18,6 +18,7 @@ busy-none facts none = go facts.in_tour none
     go true none = cc
     go false none = refl
 
+-- and then no tour runs, and the law gives no bar
 pub first_bar-none : (facts : Facts) → first_bar facts ≡ None → (facts.in_tour ≡ false) × (facts.law ≡ None)
 first_bar-none facts none =
     let busy = (both-none (marked_off_row facts) _ none).1 in

@@ -13,11 +13,11 @@ use Rattle.duty_events.specs.declared.event.Event.TheVariants as event
 use Rattle.duty_events.specs.Lists.{IsLawful}
 use Rattle.qualifications.specs.Quals.{lowest_missing}
 use Rattle.qualifications.proofs.MissingLemmas.{missing-most}
-use Rattle.denial_rules.specs.declared.bar.Bar.{Bar}
 use Rattle.denial_rules.specs.declared.bar.Bar.TheVariants as bar
 use Rattle.denial_rules.specs.Bar.{FitsBar}
 use Rattle.qualifications.specs.Craft.{craft_eq}
-use Rattle.denial_rules.specs.Table.{marked_off_row, busy_row, on_offer_row, place_row, craft_row, quals_row, answered_row, first_some}
+use Rattle.denial_rules.proofs.FitLemmas.{row-fits, where-fits, unless-fits, option-fits}
+use Rattle.denial_rules.specs.Table.{marked_off_row, busy_row, on_offer_row, place_row, craft_row, quals_row, answered_row}
 use Rattle.law_bars.specs.Law.{law_bar}
 use Rattle.desk_model.specs.declared.command.Cmd.{Cmd}
 use Rattle.desk_model.specs.declared.command.Cmd.TheVariants as cmd
@@ -161,19 +161,6 @@ on_offer-fits h p v all = find-passes (λ w. is_to p (open_offer h w)) IsNumber 
 
 -- ---- bars
 
-row-fits : (row : Option Bar) (rows : List (Option Bar)) → IfSome row FitsBar → IfSome (first_some rows) FitsBar → IfSome (first_some (row ∷ rows)) FitsBar
-row-fits None rows row rest = rest
-row-fits (Some b) rows row rest = row
-
--- a bar that is kept where a test holds, or where it doesn't
-where-fits : (test : Bool) (b : Bar) → FitsBar b → IfSome (cond test (Some b) None) FitsBar
-where-fits true b is = is
-where-fits false b is = tt
-
-unless-fits : (test : Bool) (b : Bar) → FitsBar b → IfSome (cond test None (Some b)) FitsBar
-unless-fits true b is = tt
-unless-fits false b is = is
-
 pub bar-fits : LawFits → (h : History) (m : ℕ) (job : JobValue) (p : ℕ) (person : Person) → IsLegal h → All Fits h.entries → IsJob job
     → job.report + job.duty + job.limbo ≤ YEARS_END → FitsPerson person → IfSome (bar_of h m job p person) FitsBar
 bar-fits law h m job p person legal all job_is ends is =
@@ -187,19 +174,15 @@ bar-fits law h m job p person legal all job_is ends is =
     row-fits (marked_off_row facts) (busy_row facts ∷ two) tt
     (row-fits (busy_row facts) two (where-fits (in_tour h p) bar.InTour tt)
     (row-fits (on_offer_row facts) three (offered (on_offer h p) refl)
-    (row-fits (place_row facts) four (unless-fits (bytes_eq (place_at h m p person) job.place) (bar.Elsewhere (place_at h m p person)) (place-fits (events h p) person.home m is.0 (events-fit h p legal all)))
-    (row-fits (craft_row facts) five (unless-fits (craft_eq person.craft job.craft) (bar.OtherCraft person.craft) tt)
-    (row-fits (quals_row facts) six (lacking (lowest_missing person.quals job.quals) (missing-most _ person.quals job.quals refl))
+    (row-fits (place_row facts) four (unless-fits (bytes_eq (place_at h m p person) job.place) (bar.Elsewhere (place_at h m p person)) (λ away. place-fits (events h p) person.home m is.0 (events-fit h p legal all)))
+    (row-fits (craft_row facts) five (unless-fits (craft_eq person.craft job.craft) (bar.OtherCraft person.craft) (λ other. tt))
+    (row-fits (quals_row facts) six (option-fits (λ number. bar.Lacks number) (lowest_missing person.quals job.quals) (missing-most _ person.quals job.quals refl))
     (row-fits (answered_row facts) seven tt
     (row-fits (law_of h m job p person) [] (by_law (in_tour h p)) tt)))))))
   where
     offered : (o : Option ℕ) → on_offer h p ≡ o → IfSome (option_map (λ vacancy. bar.OnOffer vacancy) o) FitsBar
     offered None made = tt
     offered (Some v) made = on_offer-fits h p v all made
-
-    lacking : (o : Option ℕ) → IfSome o (λ number. number ≤ 63) → IfSome (option_map (λ number. bar.Lacks number) o) FitsBar
-    lacking None few = tt
-    lacking (Some k) few = few
 
     by_law : (riding : Bool) → IfSome (cond riding None (law_bar (events h p) person.home m job.report job.duty job.limbo)) FitsBar
     by_law true = tt

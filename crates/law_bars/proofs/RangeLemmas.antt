@@ -1,6 +1,5 @@
 -- Each value that a bar of the law keeps is in its range.
 use Rattle.std.proofs.Common.{◌≡◌, ℕ, ◌+◌, ◌-◌, ◌<◌, ◌≤◌, ◌^◌, ◌⊎◌, inl, inr, ◌==◌, ◌&&◌, Bool, true, false, cond, not, nat_lt, Option, None, Some, IfSome, List, [], ◌∷◌, ◌++◌, refl, sym, subst, arith}
-use Rattle.std.specs.Option.{option_map}
 use Rattle.std.proofs.lemmas.Bool.{cases_lt}
 use Rattle.desk_base.specs.declared.minute.TheConstants.{YEARS_BEGIN, YEARS_END}
 use Rattle.desk_base.specs.Minute.{IsInYears}
@@ -36,10 +35,9 @@ use Rattle.consecutive_days.specs.Run.{last_start, run_days, need}
 use Rattle.consecutive_days.specs.Days.{days_ok}
 use Rattle.consecutive_days.specs.Steps.{last_day}
 use Rattle.consecutive_days.proofs.StartLemmas.{last_start-push, last_start-nil, run_days-most}
-use Rattle.denial_rules.specs.declared.bar.Bar.{Bar}
 use Rattle.denial_rules.specs.declared.bar.Bar.TheVariants as bar
 use Rattle.denial_rules.specs.Bar.{FitsBar}
-use Rattle.denial_rules.specs.Table.{first_some}
+use Rattle.denial_rules.proofs.FitLemmas.{row-fits, where-fits, unless-fits, option-fits}
 use Rattle.law_bars.specs.Law.{rest_row, more_rest_row, undisturbed_row, six_days_row, seven_days_row, month_row, limbo_row, law_bar}
 
 -- ---- rest
@@ -94,25 +92,13 @@ rest_end-range ends es lawful in_years = go (was_off es (REST + excess es) (off_
         (omega (arith, same, in_years.0), omega (arith, same, in_years.1, few))
 
 rest_row-fits : (es : List Event) (report : ℕ) → IsLawful es → IfSome (rest_row es report) FitsBar
-rest_row-fits es report lawful = go (rest_ok es report 0) refl
-  where
-    go : (b : Bool) → rest_ok es report 0 ≡ b → IfSome (cond b None (Some (bar.Rest (off_from es + REST)))) FitsBar
-    go true is = tt
-    go false is = let owed = rest-owed es report 0 lawful is in (omega (arith, owed.0), omega (arith, owed.1))
+rest_row-fits es report lawful =
+    unless-fits (rest_ok es report 0) (bar.Rest (off_from es + REST))
+    (λ not. let owed = rest-owed es report 0 lawful not in (omega (arith, owed.0), omega (arith, owed.1)))
 
-more_rest_row-fits : EndsTours → (es : List Event) (report : ℕ) → IsLawful es → IfSome (more_rest_row es report) FitsBar
-more_rest_row-fits ends es report lawful = go (rest_ok es report (excess es)) refl
-  where
-    go : (b : Bool) → rest_ok es report (excess es) ≡ b → IfSome (cond b None (Some (bar.MoreRest (rest_end es)))) FitsBar
-    go true is = tt
-    go false is = rest_end-range ends es lawful (rest-owed es report (excess es) lawful is)
-
-undisturbed_row-fits : EndsTours → (es : List Event) (moment : ℕ) → IsLawful es → IfSome (undisturbed_row es moment) FitsBar
-undisturbed_row-fits ends es moment lawful = go (rest_ok es moment (excess es)) refl
-  where
-    go : (b : Bool) → rest_ok es moment (excess es) ≡ b → IfSome (cond b None (Some (bar.Undisturbed (rest_end es)))) FitsBar
-    go true is = tt
-    go false is = rest_end-range ends es lawful (rest-owed es moment (excess es) lawful is)
+-- who has not rested with the excess, at the report or at the moment
+excess-fits : EndsTours → (es : List Event) (at : ℕ) → IsLawful es → rest_ok es at (excess es) ≡ false → (YEARS_BEGIN ≤ rest_end es) × (rest_end es < 2 ^ 28)
+excess-fits ends es at lawful not = rest_end-range ends es lawful (rest-owed es at (excess es) lawful not)
 
 -- ---- days
 
@@ -136,20 +122,6 @@ need-range run = go (nat_lt run SIX_DAYS) (run == SIX_DAYS)
 
 days-fit : (es : List Event) → IsLawful es → (run_days es < 2 ^ 32) × (need (run_days es) < 2 ^ 32)
 days-fit es lawful = (omega (arith, run_days-most es lawful, last_day-range es lawful), need-range (run_days es))
-
-six_days_row-fits : (es : List Event) (home : List ℕ) (report : ℕ) → IsLawful es → IfSome (six_days_row es home report) FitsBar
-six_days_row-fits es home report lawful = go (not (days_ok es home report) && (need (run_days es) == OFF_AFTER_SIX_DAYS))
-  where
-    go : (b : Bool) → IfSome (cond b (Some (bar.SixDays (run_days es) (need (run_days es)))) None) FitsBar
-    go true = days-fit es lawful
-    go false = tt
-
-seven_days_row-fits : (es : List Event) (home : List ℕ) (report : ℕ) → IsLawful es → IfSome (seven_days_row es home report) FitsBar
-seven_days_row-fits es home report lawful = go (not (days_ok es home report) && (need (run_days es) == OFF_AFTER_SEVEN_DAYS))
-  where
-    go : (b : Bool) → IfSome (cond b (Some (bar.SevenDays (run_days es) (need (run_days es)))) None) FitsBar
-    go true = days-fit es lawful
-    go false = tt
 
 -- ---- months
 
@@ -186,34 +158,22 @@ first_over-fits : (l : Limit) (es : List Event) (p : Plan) → IsInYears p.repor
     → IfSome (first_over l es p) (λ over. IsMonthInYears over.month × (over.total < 2 ^ 32))
 first_over-fits l es p in_years ends = over-fits l es p (first_over l es p) in_years ends (first_over-tells l es p) (first_over-month l es p)
 
-month_row-fits : (es : List Event) (report duty limbo : ℕ) → IsInYears report → report + duty + limbo ≤ YEARS_END → IfSome (month_row es report duty limbo) FitsBar
-month_row-fits es report duty limbo in_years ends = go (first_over limit.Hours es (plan_of report duty limbo)) (first_over-fits limit.Hours es (plan_of report duty limbo) in_years ends)
-  where
-    go : (o : Option Over) → IfSome o (λ over. IsMonthInYears over.month × (over.total < 2 ^ 32)) → IfSome (option_map (λ over. bar.MonthHours over.month over.total) o) FitsBar
-    go None fits = tt
-    go (Some over) fits = fits
-
-limbo_row-fits : (es : List Event) (report duty limbo : ℕ) → IsInYears report → report + duty + limbo ≤ YEARS_END → IfSome (limbo_row es report duty limbo) FitsBar
-limbo_row-fits es report duty limbo in_years ends = go (first_over limit.Limbo es (plan_of report duty limbo)) (first_over-fits limit.Limbo es (plan_of report duty limbo) in_years ends)
-  where
-    go : (o : Option Over) → IfSome o (λ over. IsMonthInYears over.month × (over.total < 2 ^ 32)) → IfSome (option_map (λ over. bar.LimboHours over.month over.total) o) FitsBar
-    go None fits = tt
-    go (Some over) fits = fits
-
 -- ---- the first row
-
-row-fits : (row : Option Bar) (rows : List (Option Bar)) → IfSome row FitsBar → IfSome (first_some rows) FitsBar → IfSome (first_some (row ∷ rows)) FitsBar
-row-fits None rows row rest = rest
-row-fits (Some b) rows row rest = row
 
 pub law_bar-fits : EndsTours → (es : List Event) (home : List ℕ) (moment report duty limbo : ℕ) → IsLawful es → IsInYears report → report + duty + limbo ≤ YEARS_END
     → IfSome (law_bar es home moment report duty limbo) FitsBar
 unfolding law_bar
 law_bar-fits ends es home moment report duty limbo lawful in_years by =
+    let plan = plan_of report duty limbo in
+    let days = days-fit es lawful in
     row-fits (rest_row es report) _ (rest_row-fits es report lawful)
-    (row-fits (more_rest_row es report) _ (more_rest_row-fits ends es report lawful)
-    (row-fits (undisturbed_row es moment) _ (undisturbed_row-fits ends es moment lawful)
-    (row-fits (six_days_row es home report) _ (six_days_row-fits es home report lawful)
-    (row-fits (seven_days_row es home report) _ (seven_days_row-fits es home report lawful)
-    (row-fits (month_row es report duty limbo) _ (month_row-fits es report duty limbo in_years by)
-    (row-fits (limbo_row es report duty limbo) [] (limbo_row-fits es report duty limbo in_years by) tt))))))
+    (row-fits (more_rest_row es report) _ (unless-fits (rest_ok es report (excess es)) (bar.MoreRest (rest_end es)) (excess-fits ends es report lawful))
+    (row-fits (undisturbed_row es moment) _ (unless-fits (rest_ok es moment (excess es)) (bar.Undisturbed (rest_end es)) (excess-fits ends es moment lawful))
+    (row-fits (six_days_row es home report) _
+    (where-fits (not (days_ok es home report) && (need (run_days es) == OFF_AFTER_SIX_DAYS)) (bar.SixDays (run_days es) (need (run_days es))) days)
+    (row-fits (seven_days_row es home report) _
+    (where-fits (not (days_ok es home report) && (need (run_days es) == OFF_AFTER_SEVEN_DAYS)) (bar.SevenDays (run_days es) (need (run_days es))) days)
+    (row-fits (month_row es report duty limbo) _
+    (option-fits (λ (over : Over). bar.MonthHours over.month over.total) (first_over limit.Hours es plan) (first_over-fits limit.Hours es plan in_years by))
+    (row-fits (limbo_row es report duty limbo) []
+    (option-fits (λ (over : Over). bar.LimboHours over.month over.total) (first_over limit.Limbo es plan) (first_over-fits limit.Limbo es plan in_years by)) tt))))))
