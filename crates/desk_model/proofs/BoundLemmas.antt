@@ -10,14 +10,16 @@ use Rattle.desk_model.specs.declared.limits.TheConstants.{CHAIN_LIMIT, LIST_LIMI
 use Rattle.desk_model.specs.declared.command.Cmd.{Cmd}
 use Rattle.desk_model.specs.declared.command.Cmd.TheVariants as cmd
 use Rattle.desk_model.specs.declared.reply.Reply.TheVariants as reply
+use Rattle.desk_model.specs.declared.offer.Offer.{Offer}
 use Rattle.desk_model.specs.Opening.{OpeningValue}
 use Rattle.desk_model.specs.Entry.{EntryValue}
 use Rattle.desk_model.specs.History.{History, opened, with_entry, steps, is_done, said}
 use Rattle.desk_model.specs.Register.{person_of, board_of}
-use Rattle.desk_model.specs.Boards.{puts, is_on, boards_of, is_at, released, sends, order, links, chain}
+use Rattle.desk_model.specs.Offers.{open_offer}
+use Rattle.desk_model.specs.Boards.{puts, is_on, boards_of, is_at, released, declined, sends, order, links, chain}
 use Rattle.desk_model.specs.ListAnswer.{list_answer}
 use Rattle.desk_model.specs.Legal.{answer_to, IsNext, IsLegal}
-use Rattle.desk_model.proofs.OrderLemmas.{order-silent, order-sent, length-order-sent}
+use Rattle.desk_model.proofs.OrderLemmas.{nat_eq-same, length-without, order-silent, order-sent, order-taken, length-order-sent}
 use Rattle.desk_model.proofs.OnBoardLemmas.{length-order-moved}
 use Rattle.desk_model.proofs.LegalLemmas.{legal-induction, done-answer}
 
@@ -36,8 +38,8 @@ list_room h p b done =
     go false false false false true e done = absurd (false≢true done)
     go false false false false false e done = grind (arith, nat_tests, e)
 
--- what is done to a board: nothing; a person is put at its bottom, and there is room; or one is sent there and nobody is put on
--- it
+-- what is done to a board: nothing; a person is put at its bottom, and there is room; one is sent there and nobody is put on it;
+-- or one is taken off
 abbrev SaysNothing : Option ℕ → (ℕ → Option Bool) → Type 0
 SaysNothing sent put = (sent ≡ None) × ((p : ℕ) → put p ≡ None)
 
@@ -48,29 +50,44 @@ PutsOne h b sent put =
 abbrev MovesOne : Option ℕ → (ℕ → Option Bool) → Type 0
 MovesOne sent put = (p : ℕ) × ((sent ≡ Some p) × ((q : ℕ) → put q ≡ None))
 
+abbrev TakesOne : Option ℕ → (ℕ → Option Bool) → Type 0
+TakesOne sent put = (sent ≡ None) × ((p : ℕ) × ((put p ≡ Some false) × ((q : ℕ) → nat_eq p q ≡ false → put q ≡ None)))
+
 abbrev DoesToBoard : History → List ℕ → Option ℕ → (ℕ → Option Bool) → Type 0
-DoesToBoard h b sent put = SaysNothing sent put ⊎ (PutsOne h b sent put ⊎ MovesOne sent put)
+DoesToBoard h b sent put = SaysNothing sent put ⊎ (PutsOne h b sent put ⊎ (MovesOne sent put ⊎ TakesOne sent put))
 
 -- a final release moves one at most
 releases : (h : History) (b : List ℕ) (p : ℕ) (e : Event) → DoesToBoard h b (released (board_of h b) p e) (λ q. None)
 releases h b p (event.Final t place) = elim (cases_Bool (is_at place (board_of h b))) [
-  | inl here ↦ inr (inr (p, (rw here refl, λ q. refl)))
+  | inl here ↦ inr (inr (inl (p, (rw here refl, λ q. refl))))
   | inr elsewhere ↦ inl (rw elsewhere refl, λ q. refl)
 ]
 releases h b p other = inl (refl, λ q. refl)
+
+-- so does declining
+declines : (h : History) (b : List ℕ) (p : ℕ) (offer : Option Offer) → DoesToBoard h b (declined b offer p) (λ q. None)
+declines h b p None = inl (refl, λ q. refl)
+declines h b p (Some offer) = elim (cases_Bool (bytes_eq offer.board b)) [
+  | inl here ↦ inr (inr (inl (p, (rw here refl, λ q. refl))))
+  | inr elsewhere ↦ inl (rw elsewhere refl, λ q. refl)
+]
 
 command_does : (h : History) (m : ℕ) (c : Cmd) (b : List ℕ) → is_done (answer_to h m c) ≡ true → DoesToBoard h b (sends b h c) (λ p. puts b p c)
 command_does h m (cmd.List person board) b done =
     elim (cases_Bool (bytes_eq board b)) [
       | inl same ↦ inr (inl (
         subst (λ code. length (order h code) < MEMBER_LIMIT) ((bytes_eq-Decides board b).0 same) (list_room h person board done),
-        (person, (rw same refl, (rw (same, is_self) refl, λ q other. rw (same, other) refl))),
+        (person, (rw same refl, (rw (same, nat_eq-same person) refl, λ q other. rw (same, other) refl))),
       ))
       | inr other ↦ inl (rw other refl, λ p. rw other refl)
     ]
-  where
-    is_self : nat_eq person person ≡ true
-    is_self = grind (arith, nat_tests)
+command_does h m (cmd.Unlist person board) b done =
+    elim (cases_Bool (bytes_eq board b)) [
+      | inl same ↦ inr (inr (inr (refl, (person, (rw (same, nat_eq-same person) refl, λ q other. rw (same, other) refl)))))
+      | inr other ↦ inl (refl, λ p. rw other refl)
+    ]
+command_does h m (cmd.MarkOn person) b done = inr (inr (inl (person, (refl, λ q. refl))))
+command_does h m (cmd.Decline v person) b done = declines h b person (open_offer h v)
 command_does h m (cmd.Happened person event) b done = releases h b person event
 command_does h m other b done = inl (refl, λ p. refl)
 
@@ -87,7 +104,8 @@ grown : (h : History) (e : EntryValue) → IsLegal h → IsNext h e → HasRoom 
 grown h e legal is most b = elim (entry_does h e b is) [
   | inl nothing ↦ rw (order-silent h e b nothing.0 nothing.1) (most b)
   | inr (inl (room, (p, (sent, (put, others))))) ↦ omega (arith, room, length-order-sent h e b p (order-sent h e b p sent put others))
-  | inr (inr (p, (sent, unput))) ↦ omega (arith, most b, length-order-moved h e b p sent unput)
+  | inr (inr (inl (p, (sent, unput)))) ↦ omega (arith, most b, length-order-moved h e b p sent unput)
+  | inr (inr (inr (unsent, (p, (put, others))))) ↦ rw (order-taken h e b p unsent put others) (omega (arith, most b, length-without p (order h b)))
 ]
 
 order-opened : (o : OpeningValue) (b : List ℕ) → order (opened o) b ≡ []

@@ -18,9 +18,9 @@ use Rattle.desk_model.specs.Job.{JobValue}
 use Rattle.desk_model.specs.History.{History, said, first_of}
 use Rattle.desk_model.specs.Register.{makes, person_of}
 use Rattle.desk_model.specs.Boards.{is_on, sent_to, keep_last, order, links, chain}
-use Rattle.desk_model.specs.Offers.{state_of}
+use Rattle.desk_model.specs.States.{state_of}
 use Rattle.desk_model.specs.Bars.{bar_of, may_have, is_free, first_free}
-use Rattle.desk_model.specs.NextAnswer.{choice_answer, state_answer, known_answer, next_answer}
+use Rattle.desk_model.specs.NextAnswer.{choice_answer, vacant_answer, unless_closed, known_answer, next_answer}
 use Rattle.desk_model.specs.Denials.{IsOpen, IsBarred, IsClear, AreBarred, IsUnfilled, IsFirstClear}
 use Rattle.desk_model.specs.Legal.{IsLegal}
 use Rattle.desk_model.proofs.OrderLemmas.{same_number}
@@ -141,32 +141,12 @@ found-first h m job (x ∷ places) link known found =
 
 -- ---- the vacancy
 
--- a vacancy's job has its number
-makes-vac : (v : ℕ) (c : Cmd) (job : JobValue) → makes v c ≡ Some job → job.vac ≡ v
-makes-vac v (cmd.Vacancy other) job made = go (nat_eq other.vac v) refl made
-  where
-    go : (same : Bool) → nat_eq other.vac v ≡ same → cond same (Some other) None ≡ Some job → job.vac ≡ v
-    go true is made = let same : other ≡ job = cc in ap (λ (x : JobValue). x.vac) (sym same) ∙ same_number other.vac v is
-    go false is made = cc
-makes-vac v other job made = cc
-
-pub made-vac : (v : ℕ) (es : List EntryValue) (job : JobValue) → first_of (said (makes v)) es ≡ Some job → job.vac ≡ v
-made-vac v [] job made = cc
-made-vac v (e ∷ later) job made = go (said (makes v) e) refl made (made-vac v later job)
-  where
-    go : (this : Option JobValue) → said (makes v) e ≡ this → option_or this (first_of (said (makes v)) later) ≡ Some job
-        → (first_of (said (makes v)) later ≡ Some job → job.vac ≡ v) → job.vac ≡ v
-    go (Some other) is made rest =
-        let same : other ≡ job = cc in subst (λ (x : JobValue). x.vac ≡ v) same (makes-vac v e.stated.cmd other (said-some (makes v) e other is).1)
-    go None is made rest = rest made
-
 -- what is answered of a vacancy that is open
-open-answer : (h : History) (m v : ℕ) (job : JobValue) → IsOpen h m v job
+pub open-answer : (h : History) (m v : ℕ) (job : JobValue) → IsOpen h m v job
     → next_answer h m v ≡ choice_answer (length (chain h job.chain)) (first_free h m job)
 open-answer h m v job is_open =
-    let vacant : state_of h job.vac ≡ state.Vacant = ap (state_of h) (made-vac v h.entries job is_open.made) ∙ is_open.vacant in
     let in_time : nat_lt job.report m ≡ false = grind (arith, nat_tests, is_open.in_time) in
-    ap (known_answer h m) is_open.made ∙ ap (state_answer h m job) vacant
+    ap (known_answer h m v) is_open.made ∙ ap (λ how. unless_closed how (vacant_answer h m job)) is_open.vacant
     ∙ ap (λ late. cond late (reply.Lapsed job.report) (choice_answer (length (chain h job.chain)) (first_free h m job))) in_time
 
 -- it is unfilled where all are barred

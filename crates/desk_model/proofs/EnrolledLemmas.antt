@@ -12,7 +12,10 @@ use Rattle.desk_model.specs.Entry.{EntryValue}
 use Rattle.desk_model.specs.History.{History, with_entry, is_done, said, last_of}
 use Rattle.desk_model.specs.Register.{enrols, person_of, board_of}
 use Rattle.desk_model.specs.Boards.{puts, is_on, boards_of, order}
+use Rattle.desk_model.specs.Offers.{on_offer}
 use Rattle.desk_model.specs.ListAnswer.{list_answer}
+use Rattle.desk_model.specs.UnlistAnswer.{unlist_answer}
+use Rattle.desk_model.specs.EventAnswer.{unless_frozen}
 use Rattle.desk_model.specs.Legal.{answer_to, IsNext, IsLegal}
 use Rattle.desk_model.proofs.SaidLemmas.{first_of-snoc, last_of-snoc}
 use Rattle.desk_model.proofs.OrderLemmas.{same_number}
@@ -31,7 +34,17 @@ list-enrolled h p b done = go (person_of h p) done
     go None done = absurd (false≢true done)
     go (Some person) done = refl
 
--- a command that says that a person is on a board, and that is done, is of an enrolled person
+-- so they are where `unlist` is done
+unlist-enrolled : (h : History) (p : ℕ) (b : List ℕ) → is_done (unlist_answer h p b) ≡ true → IsEnrolled h p
+unlist-enrolled h p b done = go (person_of h p) done
+  where
+    go : (known : Option Person)
+        → is_done (cond (is_none known) reply.UnknownPerson (cond (is_none (board_of h b)) (reply.UnknownBoard b) (cond (is_on h p b) (unless_frozen (on_offer h p) reply.Done) reply.NotListed))) ≡ true
+        → is_some known ≡ true
+    go None done = absurd (false≢true done)
+    go (Some person) done = refl
+
+-- a command that says whether a person is on a board, and that is done, is of an enrolled person
 puts-enrolled : (h : History) (m : ℕ) (c : Cmd) (b : List ℕ) (p : ℕ) (on : Bool) → puts b p c ≡ Some on → is_done (answer_to h m c) ≡ true → IsEnrolled h p
 puts-enrolled h m (cmd.List person board) b p on put done = go (bytes_eq board b) (nat_eq person p) refl put
   where
@@ -39,6 +52,12 @@ puts-enrolled h m (cmd.List person board) b p on put done = go (bytes_eq board b
     go false mine is put = cc
     go true false is put = cc
     go true true is put = subst (IsEnrolled h) (same_number person p is) (list-enrolled h person board done)
+puts-enrolled h m (cmd.Unlist person board) b p on put done = go (bytes_eq board b) (nat_eq person p) refl put
+  where
+    go : (here mine : Bool) → nat_eq person p ≡ mine → cond here (cond mine (Some false) None) None ≡ Some on → IsEnrolled h p
+    go false mine is put = cc
+    go true false is put = cc
+    go true true is put = subst (IsEnrolled h) (same_number person p is) (unlist-enrolled h person board done)
 puts-enrolled h m other b p on put done = cc
 
 -- who is enrolled stays so

@@ -26,6 +26,7 @@ use Rattle.desk_model.specs.History.{History, opened, with_entry, step_of, steps
 use Rattle.desk_model.specs.Register.{person_of}
 use Rattle.desk_model.specs.Offers.{on_offer}
 use Rattle.desk_model.specs.Duty.{tells, Told, told_at, told_by, events_in, may_come, keep, told, events, is_closed}
+use Rattle.desk_model.specs.Comes.{kept}
 use Rattle.desk_model.specs.EventAnswer.{judged_answer, told_answer, past_answer, unless_frozen, event_answer}
 use Rattle.desk_model.specs.Legal.{answer_to, IsNext, IsLegal}
 use Rattle.desk_model.proofs.OrderLemmas.{same_number}
@@ -57,11 +58,6 @@ unfolding events told
 lawful-events h p = lawful-fold [] (filter_map (told_by p) (steps h)) lawful-nil
 
 -- ---- one entry more
-
--- the events with one more that was told, if any was
-abbrev pub kept : List Event → Option Event → List Event
-kept es None = es
-kept es (Some t) = cond (may_come es t) (es ++ t ∷ []) es
 
 pub events-snoc : (h : History) (e : EntryValue) (p : ℕ) → events (with_entry h e) p ≡ kept (events h p) (said (tells p) e)
 unfolding events told

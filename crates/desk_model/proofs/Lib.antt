@@ -6,9 +6,12 @@ pub mod OrderLemmas
 pub mod OnBoardLemmas
 pub mod RankLemmas
 pub mod MovedLemmas
+pub mod AssignedLemmas
 pub mod BoundLemmas
 pub mod EventLemmas
+pub mod ComesLemmas
 pub mod RefusalLemmas
+pub mod JudgedLemmas
 pub mod OfferedLemmas
 pub mod OneOfferLemmas
 pub mod OnOfferLemmas
@@ -18,6 +21,9 @@ pub mod OfferLemmas
 pub mod FoundLemmas
 pub mod PlanLemmas
 pub mod FitEventLemmas
+pub mod FitRegisterLemmas
 pub mod FitBarLemmas
+pub mod FitCallLemmas
+pub mod FitAnswerLemmas
 pub mod FitLemmas
-pub mod UnfilledLemmas
+pub mod VerdictLemmas

@@ -13,13 +13,13 @@ use Rattle.desk_model.specs.Entry.{EntryValue}
 use Rattle.desk_model.specs.Job.{JobValue}
 use Rattle.desk_model.specs.History.{History, step_of}
 use Rattle.desk_model.specs.Duty.{events}
-use Rattle.desk_model.specs.Offers.{asks_for, state_of}
+use Rattle.desk_model.specs.Offers.{asks_for}
 use Rattle.desk_model.specs.Bars.{facts_of, bar_of}
 use Rattle.desk_model.specs.Denials.{IsRightOffer, OffersRightly}
 use Rattle.desk_model.specs.Legal.{IsNext, IsLegal}
 use Rattle.desk_model.proofs.EventLemmas.{lawful-events}
 use Rattle.desk_model.proofs.OfferedLemmas.{link_of, WasOffered, entry-offered}
-use Rattle.desk_model.proofs.DenialLemmas.{found-clear, made-vac}
+use Rattle.desk_model.proofs.DenialLemmas.{found-clear}
 
 off_stage : (s : Stage) → not (is_off s) ≡ false → s ≡ stage.Off
 off_stage stage.Off none = refl
@@ -46,7 +46,7 @@ right-offer in_words ten_hours h m v link legal was =
     let lawful = clear-lawful h m was.job link.person person first.clear.clear in
     record {
       job = was.job;
-      is_open = record { made = was.made; vacant = ap (state_of h) (sym (made-vac v h.entries was.job was.made)) ∙ was.vacant; in_time = was.in_time };
+      is_open = record { made = was.made; vacant = was.vacant; in_time = was.in_time };
       first = first;
       law = (in_words es person.home m was.job.report was.job.duty was.job.limbo (lawful-events h link.person)).0 lawful;
       ten_hours = ten_hours es person.home m was.job.report was.job.duty was.job.limbo (lawful-events h link.person) (clear-off h m was.job link.person person first.clear.clear) lawful;
@@ -56,5 +56,5 @@ pub offers-rightly : LawInWords → IsTenHours → (h : History) (e : EntryValue
 offers-rightly in_words ten_hours h e legal is = record {
   each = λ p k b told.
       let offered = entry-offered h e p k b is told in
-      (offered.0, (ap asks_for offered.1.0, right-offer in_words ten_hours h e.moment offered.0 (link_of b k p) legal offered.1.1));
+      (offered.0, (offered.1.0, right-offer in_words ten_hours h e.moment offered.0 (link_of b k p) legal offered.1.1));
 }

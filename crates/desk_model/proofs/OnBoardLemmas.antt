@@ -11,7 +11,8 @@ use Rattle.desk_model.specs.Entry.{EntryValue}
 use Rattle.desk_model.specs.History.{History, opened, with_entry, steps_from, steps, said, last_of}
 use Rattle.desk_model.specs.Boards.{puts, is_on, sends, sent, sent_to, keep_last, order}
 use Rattle.desk_model.proofs.SaidLemmas.{said-some}
-use Rattle.desk_model.proofs.OrderLemmas.{without, length-without, order-moved, same_number, nat_eq-same}
+use Rattle.desk_model.specs.Comes.{without}
+use Rattle.desk_model.proofs.OrderLemmas.{length-without, order-moved, same_number, nat_eq-same}
 
 and_false : (b : Bool) → (b && false) ≡ false
 and_false true = refl
@@ -48,6 +49,12 @@ puts-sends b p h (cmd.List person board) put = go (bytes_eq board b) (nat_eq per
     go true true is put = ap Some (same_number person p is)
     go true false is put = cc
     go false same is put = cc
+puts-sends b p h (cmd.Unlist person board) put = go (bytes_eq board b) (nat_eq person p) put
+  where
+    go : (here same : Bool) → cond here (cond same (Some false) None) None ≡ Some true → None ≡ Some p
+    go true true put = cc
+    go true false put = cc
+    go false same put = cc
 puts-sends b p h other put = cc
 
 pub said-puts-sends : (b : List ℕ) (p : ℕ) (h : History) (e : EntryValue) → said (puts b p) e ≡ Some true → said (sends b h) e ≡ Some p

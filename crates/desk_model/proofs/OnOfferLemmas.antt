@@ -9,7 +9,8 @@ use Rattle.desk_model.specs.Legal.{IsNext, IsLegal}
 use Rattle.desk_model.proofs.SaidLemmas.{last_of-silent, last_of-tells}
 use Rattle.desk_model.proofs.OrderLemmas.{same_number, nat_eq-same}
 use Rattle.desk_model.proofs.LegalLemmas.{legal-induction}
-use Rattle.desk_model.proofs.OneOfferLemmas.{one-offer, next-says, find-passes, find-fails, stays, opens-this}
+use Rattle.desk_model.proofs.OfferedLemmas.{find-passes}
+use Rattle.desk_model.proofs.OneOfferLemmas.{one-offer, next-says, none-offered, still-open, find-fails, stays, opens-this}
 
 -- an open offer to a person is the last that was made to them
 abbrev LastIsOpen : History → Type 0
@@ -17,13 +18,13 @@ LastIsOpen h = (p v : ℕ) → is_to p (open_offer h v) ≡ true → last_of (of
 
 grown : (h : History) (e : EntryValue) → IsLegal h → IsNext h e → LastIsOpen h → LastIsOpen (with_entry h e)
 grown h e legal is was p v to = elim (next-says h e is) [
-  | inl none ↦ last_of-silent (offered_to p) h.entries e (none.1 p) ∙ was p v (rw (stays h e v (none.0 v)) at to)
+  | inl none ↦ last_of-silent (offered_to p) h.entries e (none-offered e none p) ∙ was p v (still-open h e v p none to)
   | inr new ↦ elim (cases_Bool (nat_eq new.vac v)) [
     | inl this ↦
-        let mine : new.offer.person ≡ p = same_number new.offer.person p (rw (opens-this h e new v this) at to) in
+        let mine : new.offer.person ≡ p = same_number new.offer.person p (sym (ap (is_to p) (opens-this h e new v this)) ∙ to) in
         last_of-tells (offered_to p) h.entries e v (new.to p (rw mine (nat_eq-same p)) ∙ ap Some (same_number new.vac v this))
     | inr other ↦
-        let old : is_to p (open_offer h v) ≡ true = rw (stays h e v (new.no_other v other)) at to in
+        let old : is_to p (open_offer h v) ≡ true = sym (ap (is_to p) (stays h e v (new.no_other v other))) ∙ to in
         elim (cases_Bool (nat_eq new.offer.person p)) [
           | inl mine ↦ absurd (false≢true (sym (find-fails (λ x. is_to p (open_offer h x)) (vacancies h) v (subst (λ q. on_offer h q ≡ None) (same_number new.offer.person p mine) new.free) ((one-offer h legal).among v p old)) ∙ old))
           | inr theirs ↦ last_of-silent (offered_to p) h.entries e (new.to_other p theirs) ∙ was p v old

@@ -1,5 +1,5 @@
 -- The order of a board where one entry more has come, and who is on it.
-use Rattle.std.proofs.Common.{◌≡◌, ℕ, suc, ◌≤◌, Bool, true, false, not, cond, ◌||◌, nat_eq, None, Some, unwrap_or, List, [], ◌∷◌, ◌++◌, length, filter, refl, ap, ◌∙◌, arith, append-nil, length-append}
+use Rattle.std.proofs.Common.{◌≡◌, ℕ, suc, ◌≤◌, Bool, true, false, not, cond, ◌||◌, nat_eq, None, Some, unwrap_or, List, [], ◌∷◌, ◌++◌, length, filter, refl, sym, ap, ◌∙◌, arith, append-nil, length-append}
 use Rattle.std.specs.List.{list_any, cons_option, filter_map}
 use Rattle.std.proofs.lemmas.List.Elements.{filter-append, filter_agree}
 use Rattle.std.proofs.lemmas.List.Folds.{list_any-append}
@@ -7,11 +7,8 @@ use Rattle.std.proofs.lemmas.Bool.Decides.{nat_tests}
 use Rattle.desk_model.specs.Entry.{EntryValue}
 use Rattle.desk_model.specs.History.{History, with_entry, step_of, steps, said}
 use Rattle.desk_model.specs.Boards.{puts, is_on, sends, sent, sent_to, keep_last, order}
+use Rattle.desk_model.specs.Comes.{without}
 use Rattle.desk_model.proofs.SaidLemmas.{last_of-silent, last_of-tells, filter_map-snoc, steps-snoc}
-
--- all but this person
-abbrev pub without : ℕ → List ℕ → List ℕ
-without p ps = filter (λ q. not (nat_eq p q)) ps
 
 pub same_number : (p q : ℕ) → nat_eq p q ≡ true → p ≡ q
 same_number p q is = grind (arith, nat_tests, is)
@@ -19,7 +16,7 @@ same_number p q is = grind (arith, nat_tests, is)
 pub nat_eq-same : (p : ℕ) → nat_eq p p ≡ true
 nat_eq-same p = grind (arith, nat_tests)
 
-nat_eq-swap : (p q : ℕ) → nat_eq p q ≡ nat_eq q p
+pub nat_eq-swap : (p q : ℕ) → nat_eq p q ≡ nat_eq q p
 nat_eq-swap p q = grind (arith, nat_tests)
 
 or_false : (b : Bool) → (b || false) ≡ b
@@ -58,6 +55,18 @@ filter-without f g p agree (q ∷ ps) = go (nat_eq p q) (g q) refl refl (filter-
     go true false is keeps rest = rw (is, keeps) rest
     go false true is keeps rest = rw (is, keeps, is, agree q is, keeps) (ap (λ all. q ∷ all) rest)
     go false false is keeps rest = rw (is, keeps, agree q is, keeps) rest
+
+-- tests that agree but at p, which fails one of them
+filter-taken : (f g : ℕ → Bool) (p : ℕ) → f p ≡ false → ((q : ℕ) → nat_eq p q ≡ false → f q ≡ g q) → (ps : List ℕ) → filter f ps ≡ without p (filter g ps)
+filter-taken f g p fails agree [] = refl
+filter-taken f g p fails agree (q ∷ ps) = go (nat_eq p q) (g q) refl refl (filter-taken f g p fails agree ps)
+  where
+    go : (same kept : Bool) → nat_eq p q ≡ same → g q ≡ kept → filter f ps ≡ without p (filter g ps)
+        → cond (f q) (q ∷ filter f ps) (filter f ps) ≡ without p (cond kept (q ∷ filter g ps) (filter g ps))
+    go true true is keeps rest = rw (ap f (sym (same_number p q is)) ∙ fails, is) rest
+    go true false is keeps rest = rw (ap f (sym (same_number p q is)) ∙ fails) rest
+    go false true is keeps rest = rw (agree q is ∙ keeps, is) (ap (λ all. q ∷ all) rest)
+    go false false is keeps rest = rw (agree q is ∙ keeps) rest
 
 pub length-without : (p : ℕ) (ps : List ℕ) → length (without p ps) ≤ length ps
 length-without p [] = omega arith
@@ -105,3 +114,12 @@ order-moved h e b p sent unput =
     ∙ filter-append on (without p (keep_last (sent_to h b))) (p ∷ [])
     ∙ ap (λ t. filter on (without p (keep_last (sent_to h b))) ++ cond t (p ∷ []) []) (same p)
     ∙ ap (λ front. front ++ cond (is_on h p b) (p ∷ []) []) (filter-without on (λ q. is_on h q b) p (λ q other. same q) (keep_last (sent_to h b)))
+
+-- an entry that takes a person off the board
+pub order-taken : (h : History) (e : EntryValue) (b : List ℕ) (p : ℕ) → said (sends b h) e ≡ None → said (puts b p) e ≡ Some false
+    → ((q : ℕ) → nat_eq p q ≡ false → said (puts b q) e ≡ None) → order (with_entry h e) b ≡ without p (order h b)
+order-taken h e b p unsent put others =
+    let on : ℕ → Bool = λ q. is_on (with_entry h e) q b in
+    ap (λ ps. filter on (keep_last ps)) (sent_to-snoc h e b ∙ ap (λ who. sent_to h b ++ cons_option who []) unsent ∙ append-nil (sent_to h b))
+    ∙ filter-taken on (λ q. is_on h q b) p (ap (λ o. unwrap_or o false) (last_of-tells (said (puts b p)) h.entries e false put))
+    (λ q other. ap (λ o. unwrap_or o false) (last_of-silent (said (puts b q)) h.entries e (others q other))) (keep_last (sent_to h b))

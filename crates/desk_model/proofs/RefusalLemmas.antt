@@ -6,22 +6,27 @@ use Rattle.std.proofs.lemmas.Bool.{false≢true}
 use Rattle.desk_model.specs.declared.command.Cmd.{Cmd}
 use Rattle.desk_model.specs.declared.reply.Reply.{Reply}
 use Rattle.desk_model.specs.declared.reply.Reply.TheVariants as reply
-use Rattle.desk_model.specs.declared.vac_state.VacState.TheVariants as state
 use Rattle.desk_model.specs.declared.person.Person.{Person}
 use Rattle.desk_model.specs.declared.link.Link.{Link}
-use Rattle.desk_model.specs.declared.offer.Offer.{Offer}
 use Rattle.desk_model.specs.Entry.{EntryValue}
 use Rattle.desk_model.specs.Job.{JobValue}
-use Rattle.desk_model.specs.History.{History, with_entry, step_of, steps, is_done, said, last_of}
-use Rattle.desk_model.specs.Register.{enrols, enrols_any, sets_up, sets_up_any, makes, makes_any, person_of, vacancies}
+use Rattle.desk_model.specs.History.{History, with_entry, step_of, steps, is_done, said, first_of, last_of}
+use Rattle.desk_model.specs.Register.{enrols, enrols_any, gives, sets_up, sets_up_any, makes, makes_any, person_of, quals_of, vacancies}
 use Rattle.desk_model.specs.Boards.{puts, is_on, sends, order, chain}
-use Rattle.desk_model.specs.Offers.{asks_for, offer_in, is_of, offer_said, open_offer, is_to, on_offer, offered_state}
+use Rattle.desk_model.specs.Offers.{offer_in, is_of, settles, offer_said, open_offer, is_to, on_offer}
+use Rattle.desk_model.specs.Marks.{marks, is_marked_off}
+use Rattle.desk_model.specs.Assigned.{assigns, is_assigned, accepted_by, only_if, assigned, holder, begins, begun_by, begun, annuls}
+use Rattle.desk_model.specs.States.{state_of}
+use Rattle.desk_model.specs.TurnedDown.{turns_down, turned_by, has_turned_down}
 use Rattle.desk_model.specs.Duty.{tells, told_at, told_by, events_in, keep, told, events, closes}
 use Rattle.desk_model.specs.Bars.{bar_of, may_have, is_free}
+use Rattle.desk_model.specs.Comes.{assigned_by}
 use Rattle.desk_model.specs.Rank.{is_number, sends_at, rank}
 use Rattle.desk_model.specs.Refusal.{changes, IsSameDesk}
 use Rattle.desk_model.proofs.SaidLemmas.{first_of-silent, last_of-silent, filter_map-silent, steps-snoc}
 use Rattle.desk_model.proofs.OrderLemmas.{order-silent}
+use Rattle.desk_model.proofs.AssignedLemmas.{only_if-agree, has-comes, assigned-comes}
+use Rattle.desk_model.proofs.OneOfferLemmas.{said-ends}
 
 no_change-done : (r : Reply) → changes r ≡ false → is_done r ≡ false
 no_change-done r same = go (is_done r) same
@@ -39,11 +44,7 @@ said-refused : {X : Type 0} (f : Cmd → Option X) (e : EntryValue) → changes 
 said-refused f e same = rw (no_change-done e.reply same) refl
 
 offer_said-refused : (v : ℕ) (e : EntryValue) → changes e.reply ≡ false → offer_said v e ≡ None
-offer_said-refused v e same = rw (no_change-offer e.moment e.reply same) (go (is_of v (asks_for e.stated.cmd)))
-  where
-    go : (mine : Bool) → cond mine None None ≡ (let none : Option (Option Offer) = None in none)
-    go true = refl
-    go false = refl
+offer_said-refused v e same = said-ends v e (no_change-offer e.moment e.reply same) ∙ ap (λ vac. cond (is_of v vac) (Some None) None) (said-refused settles e same)
 
 -- searches with tests that agree
 find_agree : {X : Type 0} (f g : X → Bool) → ((x : X) → f x ≡ g x) → (xs : List X) → find f xs ≡ find g xs
@@ -69,6 +70,8 @@ rank-silent h e b p none =
 pub refused : (h : History) (e : EntryValue) → changes e.reply ≡ false → IsSameDesk h (with_entry h e)
 refused h e same = record {
   person = λ p. first_of-silent (said (enrols p)) h.entries e (said-refused (enrols p) e same);
+  quals = able;
+  marked = marked;
   board = λ b. first_of-silent (said (sets_up b)) h.entries e (said-refused (sets_up b) e same);
   vacancy = λ v. first_of-silent (said (makes v)) h.entries e (said-refused (makes v) e same);
   persons = filter_map-silent (said enrols_any) h.entries e (said-refused enrols_any e same);
@@ -82,7 +85,11 @@ refused h e same = record {
   chain = chain_agree h (with_entry h e) orders;
   offer = offers;
   on_offer = on_offers;
-  state = λ v. ap (λ o. unwrap_or (offered_state o) state.Vacant) (offers v);
+  has = mine;
+  assigned = taken;
+  begun = started;
+  turned_down = turned;
+  state = states;
   bar = bars;
   first = λ m job.
       ap (find (λ link. is_free (with_entry h e) m job link.person)) (chain_agree h (with_entry h e) orders job.chain)
@@ -106,8 +113,35 @@ refused h e same = record {
         ap (find (λ v. is_to p (open_offer (with_entry h e) v))) (filter_map-silent (said makes_any) h.entries e (said-refused makes_any e same))
         ∙ find_agree (λ v. is_to p (open_offer (with_entry h e) v)) (λ v. is_to p (open_offer h v)) (λ v. ap (is_to p) (offers v)) (vacancies h)
 
+    able : (p : ℕ) → quals_of (with_entry h e) p ≡ quals_of h p
+    able p = ap (λ o. unwrap_or o 0) (last_of-silent (said (gives p)) h.entries e (said-refused (gives p) e same))
+
+    marked : (p : ℕ) → is_marked_off (with_entry h e) p ≡ is_marked_off h p
+    marked p = ap (λ o. unwrap_or o false) (last_of-silent (said (marks p)) h.entries e (said-refused (marks p) e same))
+
+    mine : (p v : ℕ) → is_assigned (with_entry h e) p v ≡ is_assigned h p v
+    mine p v = has-comes h e p v ∙ ap (λ o. unwrap_or o (is_assigned h p v)) (said-refused (assigns p v) e same)
+
+    taken : (p : ℕ) → assigned (with_entry h e) p ≡ assigned h p
+    taken p = assigned-comes h e p ∙ ap (λ done. cond done (assigned_by p e.stated.cmd (assigned h p)) (assigned h p)) (no_change-done e.reply same)
+
+    started : (v : ℕ) → begun (with_entry h e) v ≡ begun h v
+    started v = ap (first_of (begun_by v)) (steps-snoc h e) ∙ first_of-silent (begun_by v) (steps h) (step_of h e) (said-refused (begins v h) e same)
+
+    turned : (v p : ℕ) → has_turned_down (with_entry h e) v p ≡ has_turned_down h v p
+    turned v p = ap is_some (ap (first_of (turned_by v p)) (steps-snoc h e) ∙ first_of-silent (turned_by v p) (steps h) (step_of h e) (said-refused (turns_down v p h) e same))
+
+    held : (v : ℕ) → holder (with_entry h e) v ≡ holder h v
+    held v =
+        ap (only_if (λ p. is_assigned (with_entry h e) p v)) (last_of-silent (said (accepted_by v)) h.entries e (said-refused (accepted_by v) e same))
+        ∙ only_if-agree (λ p. is_assigned (with_entry h e) p v) (λ p. is_assigned h p v) (λ p. mine p v) (last_of (said (accepted_by v)) h.entries)
+
+    states : (v : ℕ) → state_of (with_entry h e) v ≡ state_of h v
+    states v =
+        rw (first_of-silent (said (annuls v)) h.entries e (said-refused (annuls v) e same), started v, held v, offers v) refl
+
     bars : (m : ℕ) (job : JobValue) (p : ℕ) (person : Person) → bar_of (with_entry h e) m job p person ≡ bar_of h m job p person
-    bars m job p person = rw (on_offers p, told p) refl
+    bars m job p person = rw (on_offers p, told p) (rw (taken p) (rw (marked p) (rw (able p) (rw (turned job.vac p) refl))))
 
     free : (m : ℕ) (job : JobValue) (p : ℕ) → is_free (with_entry h e) m job p ≡ is_free h m job p
     free m job p = ap (may_have (with_entry h e) m job p) (first_of-silent (said (enrols p)) h.entries e (said-refused (enrols p) e same)) ∙ go (person_of h p)

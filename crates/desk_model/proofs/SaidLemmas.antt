@@ -1,5 +1,5 @@
 -- What entries and steps say where one more has come, and what an entry says that was accepted.
-use Rattle.std.proofs.Common.{◌≡◌, Bool, true, false, cond, Option, None, Some, List, [], ◌∷◌, ◌++◌, refl, sym, ap, ◌∙◌, append-nil, append_assoc}
+use Rattle.std.proofs.Common.{◌≡◌, Bool, true, false, cond, ◌||◌, Option, None, Some, is_some, unwrap_or, List, [], ◌∷◌, ◌++◌, refl, sym, ap, ◌∙◌, append-nil, append_assoc}
 use Rattle.std.specs.Option.{option_or}
 use Rattle.std.specs.List.{cons_option, filter_map}
 use Rattle.std.proofs.lemmas.List.Elements.{filter_map-append}
@@ -7,7 +7,7 @@ use Rattle.desk_model.specs.declared.command.Cmd.{Cmd}
 use Rattle.desk_model.specs.Entry.{EntryValue}
 use Rattle.desk_model.specs.History.{History, history_of, with_entry, step_of, steps_from, steps, is_done, said, first_of, last_of}
 
-or_none : {X : Type 0} (o : Option X) → option_or o None ≡ o
+pub or_none : {X : Type 0} (o : Option X) → option_or o None ≡ o
 or_none None = refl
 or_none (Some x) = refl
 
@@ -22,6 +22,22 @@ first_of-snoc f (x ∷ es) e = ap (option_or (f x)) (first_of-snoc f es e) ∙ o
 pub last_of-snoc : {E : Type 0} {X : Type 0} (f : E → Option X) (es : List E) (e : E) → last_of f (es ++ e ∷ []) ≡ option_or (f e) (last_of f es)
 last_of-snoc f [] e = sym (or_none (f e))
 last_of-snoc f (x ∷ es) e = ap (λ last. option_or last (f x)) (last_of-snoc f es e) ∙ sym (or_assoc (f e) (last_of f es) (f x))
+
+-- what the last one says, or else a value
+pub last_of-or : {E : Type 0} {X : Type 0} (f : E → Option X) (es : List E) (e : E) (x : X) → unwrap_or (last_of f (es ++ e ∷ [])) x ≡ unwrap_or (f e) (unwrap_or (last_of f es) x)
+last_of-or f es e x = ap (λ o. unwrap_or o x) (last_of-snoc f es e) ∙ go (f e)
+  where
+    go : (this : Option _) → unwrap_or (option_or this (last_of f es)) x ≡ unwrap_or this (unwrap_or (last_of f es) x)
+    go None = refl
+    go (Some y) = refl
+
+-- whether any says something
+pub is_some-snoc : {E : Type 0} {X : Type 0} (f : E → Option X) (es : List E) (e : E) → is_some (first_of f (es ++ e ∷ [])) ≡ (is_some (first_of f es) || is_some (f e))
+is_some-snoc f es e = ap is_some (first_of-snoc f es e) ∙ go (first_of f es)
+  where
+    go : (so_far : Option _) → is_some (option_or so_far (f e)) ≡ (is_some so_far || is_some (f e))
+    go None = refl
+    go (Some y) = refl
 
 pub filter_map-snoc : {E : Type 0} {X : Type 0} (f : E → Option X) (es : List E) (e : E) → filter_map f (es ++ e ∷ []) ≡ filter_map f es ++ cons_option (f e) []
 filter_map-snoc f es e = filter_map-append f es (e ∷ [])

@@ -9,35 +9,33 @@ use Rattle.desk_model.specs.declared.person.Person.{Person}
 use Rattle.desk_model.specs.declared.link.Link.{Link}
 use Rattle.desk_model.specs.History.{History}
 use Rattle.desk_model.specs.Job.{JobValue}
-use Rattle.desk_model.specs.Register.{person_of}
+use Rattle.desk_model.specs.Register.{person_of, quals_of}
 use Rattle.desk_model.specs.Boards.{chain}
 use Rattle.desk_model.specs.Duty.{events, in_tour, place_at}
 use Rattle.desk_model.specs.Offers.{on_offer}
-
--- what an enrolled person can do: what they were enrolled with
-abbrev pub quals_of : History → ℕ → Person → ℕ
-quals_of h p person = person.quals
+use Rattle.desk_model.specs.Marks.{is_marked_off}
+use Rattle.desk_model.specs.Assigned.{assigned}
+use Rattle.desk_model.specs.TurnedDown.{has_turned_down}
 
 -- the first section of the law that keeps an enrolled person from the job, for a call at a moment. It is asked only of
 -- who is in no tour: who is in one is barred by that before
 abbrev pub law_of : History → ℕ → JobValue → ℕ → Person → Option Bar
 law_of h m job p person = if in_tour h p then None else law_bar (events h p) person.home m job.report job.duty job.limbo
 
--- what bears at a moment on whether an enrolled person may have the job. As yet nobody is marked off, assigned or has
--- answered.
+-- what bears at a moment on whether an enrolled person may have the job
 abbrev pub facts_of : History → ℕ → JobValue → ℕ → Person → Facts
 facts_of h m job p person = record {
-  marked_off = false;
+  marked_off = is_marked_off h p;
   in_tour = in_tour h p;
-  assigned = None;
+  assigned = assigned h p;
   on_offer = on_offer h p;
   place_is = place_at h m p person;
   place_asked = job.place;
   craft_is = person.craft;
   craft_asked = job.craft;
-  quals_has = quals_of h p person;
+  quals_has = quals_of h p;
   quals_asked = job.quals;
-  answered = false;
+  answered = has_turned_down h job.vac p;
   law = law_of h m job p person;
 }
 

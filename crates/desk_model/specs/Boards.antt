@@ -8,12 +8,15 @@ use Rattle.desk_model.specs.declared.command.Cmd.{Cmd}
 use Rattle.desk_model.specs.declared.command.Cmd.TheVariants as cmd
 use Rattle.desk_model.specs.declared.link.Link.{Link}
 use Rattle.desk_model.specs.declared.board_setup.BoardSetup.{BoardSetup}
+use Rattle.desk_model.specs.declared.offer.Offer.{Offer}
 use Rattle.desk_model.specs.History.{History, Step, steps, said, last_of}
 use Rattle.desk_model.specs.Register.{board_of, boards}
+use Rattle.desk_model.specs.Offers.{open_offer}
 
--- whether a command puts this person on this board: `list` does
+-- whether this person is on this board after a command: `list` puts them there, `unlist` takes them off
 abbrev pub puts : List ℕ → ℕ → Cmd → Option Bool
 puts b p (cmd.List person board) = if bytes_eq board b then (if nat_eq person p then Some true else None) else None
+puts b p (cmd.Unlist person board) = if bytes_eq board b then (if nat_eq person p then Some false else None) else None
 puts b p other = None
 
 -- the person is on the board: the last accepted command that says whether they are says so
@@ -34,10 +37,17 @@ abbrev pub released : Option BoardSetup → ℕ → Event → Option ℕ
 released board p (event.Final t place) = if is_at place board then Some p else None
 released board p other = None
 
--- the person whom a command sends to the bottom of this board, after this history: `list` does, and `event` with a final
--- release at the board's place
+-- whom declining an offer sends to the bottom of this board: the offer was made from it
+abbrev pub declined : List ℕ → Option Offer → ℕ → Option ℕ
+declined b (Some offer) p = if bytes_eq offer.board b then Some p else None
+declined b None p = None
+
+-- the person whom a command sends to the bottom of this board, after this history: `list` does, marking on, declining an offer
+-- that was made from it, and `event` with a final release at the board's place
 abbrev pub sends : List ℕ → History → Cmd → Option ℕ
 sends b h (cmd.List person board) = if bytes_eq board b then Some person else None
+sends b h (cmd.MarkOn person) = Some person
+sends b h (cmd.Decline vac person) = declined b (open_offer h vac) person
 sends b h (cmd.Happened person event) = released (board_of h b) person event
 sends b h other = None
 

@@ -16,22 +16,26 @@ use Rattle.desk_model.specs.Bars.{bar_of}
 abbrev pub place_in : List Link → ℕ → Option Link
 place_in links p = find (λ link. nat_eq link.person p) links
 
--- a bar holds; else the person is clear, at this place
-abbrev pub clear_answer : Option Bar → Link → Reply
-clear_answer (Some bar) link = reply.Denied bar
-clear_answer None link = reply.Clear link.board link.position
+-- the person has no place in the chain; a bar holds; else what the place gives
+abbrev pub place_answer : Option Bar → (Link → Reply) → Option Link → Reply
+place_answer bar rest None = reply.NotListed
+place_answer (Some bar) rest (Some link) = reply.Denied bar
+place_answer None rest (Some link) = rest link
 
--- the person has no place in the chain; else what the first bar gives
-abbrev pub place_answer : Option Bar → Option Link → Reply
-place_answer bar None = reply.NotListed
-place_answer bar (Some link) = clear_answer bar link
+-- the moment is after the report; else what the chain and the bars give of an enrolled person
+abbrev pub judged_by : History → ℕ → JobValue → ℕ → (Link → Reply) → Person → Reply
+judged_by h m job p rest person =
+    if nat_lt job.report m then reply.Lapsed job.report
+    else place_answer (bar_of h m job p person) rest (place_in (chain h job.chain) p)
 
--- nobody has the number; the moment is after the report; else what the chain and the bars give
+-- where no bar holds the person is clear, at this place
+abbrev pub clear_answer : Link → Reply
+clear_answer link = reply.Clear link.board link.position
+
+-- nobody has the number; else the person is judged
 abbrev pub person_answer : History → ℕ → JobValue → ℕ → Option Person → Reply
 person_answer h m job p None = reply.UnknownPerson
-person_answer h m job p (Some person) =
-    if nat_lt job.report m then reply.Lapsed job.report
-    else place_answer (bar_of h m job p person) (place_in (chain h job.chain) p)
+person_answer h m job p (Some person) = judged_by h m job p clear_answer person
 
 -- the vacancy was never made; else what the person gives, however the vacancy stands
 abbrev pub job_answer : History → ℕ → ℕ → Option JobValue → Reply

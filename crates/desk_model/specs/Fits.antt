@@ -47,12 +47,25 @@ abbrev pub IsCommand : Cmd → Type 0
 IsCommand (cmd.Enrol person craft home quals) = IsNumber person × IsCode home × (quals < 2 ^ 64)
 IsCommand (cmd.Board board extra place) = IsCode board × IsCode place
 IsCommand (cmd.List person board) = IsNumber person × IsCode board
+IsCommand (cmd.Unlist person board) = IsNumber person × IsCode board
+IsCommand (cmd.MarkOff person) = IsNumber person
+IsCommand (cmd.MarkOn person) = IsNumber person
+IsCommand (cmd.Qualify person quals) = IsNumber person × (quals < 2 ^ 64)
 IsCommand (cmd.Past person event) = IsNumber person × IsEvent event
 IsCommand (cmd.Happened person event) = IsNumber person × IsEvent event
 IsCommand (cmd.Vacancy job) = IsJob job
 IsCommand (cmd.Next vac) = IsNumber vac
+IsCommand (cmd.Offer vac person) = IsNumber vac × IsNumber person
+IsCommand (cmd.Accept vac person) = IsNumber vac × IsNumber person
+IsCommand (cmd.Decline vac person) = IsNumber vac × IsNumber person
+IsCommand (cmd.NoAnswer vac person) = IsNumber vac × IsNumber person
+IsCommand (cmd.Withdraw vac person) = IsNumber vac × IsNumber person
+IsCommand (cmd.Annul vac) = IsNumber vac
+IsCommand (cmd.Drop person) = IsNumber person
 IsCommand (cmd.Hours person month) = IsNumber person × IsMonthInYears month
+IsCommand (cmd.At board place) = IsCode board × (1 ≤ place) × (place ≤ 9_999)
 IsCommand (cmd.Explain vac person) = IsNumber vac × IsNumber person
+IsCommand (cmd.Vac vac) = IsNumber vac
 
 -- and so has the minute at which it was stated
 pub record IsStated (s : StatedValue) : Type 0 where
@@ -80,12 +93,16 @@ FitsFault (fault.Behind last) = IsInYears last
 FitsFault (fault.InterimTooLong minutes) = minutes < 2 ^ 32
 FitsFault (fault.OtherPlace place) = IsCode place
 
--- each value of a reply is in its range: positions are 1 to 9,999, and the report of one that lapsed, as the minute that a bar
--- keeps, may lie behind the year 2099
+-- each value of a reply is in its range: positions are 1 to 9,999, and the report of one that lapsed and a deadline, as the
+-- minute that a bar keeps, may lie behind the year 2099
 abbrev pub FitsReply : Reply → Type 0
 FitsReply (reply.Offered person board position) = IsNumber person × IsCode board × (1 ≤ position) × (position ≤ 9_999)
 FitsReply (reply.Clear board position) = IsCode board × (1 ≤ position) × (position ≤ 9_999)
 FitsReply (reply.Unfilled listed) = listed < 2 ^ 16
+FitsReply (reply.Seen person) = IsNumber person
+FitsReply (reply.NoOne count) = count < 2 ^ 16
+FitsReply (reply.State how) = FitsState how
+FitsReply (reply.RunAround person) = IsNumber person
 FitsReply (reply.Hours used capped) = (used < 2 ^ 32) × (capped < 2 ^ 32)
 FitsReply (reply.Denied bar) = FitsBar bar
 FitsReply (reply.UnknownBoard board) = IsCode board
@@ -97,6 +114,7 @@ FitsReply (reply.ReportPast report) = IsInYears report
 FitsReply (reply.Closed how) = FitsState how
 FitsReply (reply.OfferOpen person) = IsNumber person
 FitsReply (reply.Lapsed report) = (YEARS_BEGIN ≤ report) × (report < 2 ^ 28)
+FitsReply (reply.EarlyNoAnswer deadline) = (YEARS_BEGIN ≤ deadline) × (deadline < 2 ^ 28)
 FitsReply other = ⊤
 
 -- each value of an entry is in its range, so that its line can be read again

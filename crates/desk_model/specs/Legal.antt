@@ -15,8 +15,14 @@ use Rattle.desk_model.specs.History.{History, opened, with_entry, steps, last_of
 use Rattle.desk_model.specs.EnrolAnswer.{enrol_answer}
 use Rattle.desk_model.specs.BoardAnswer.{board_answer}
 use Rattle.desk_model.specs.ListAnswer.{list_answer}
+use Rattle.desk_model.specs.UnlistAnswer.{unlist_answer}
+use Rattle.desk_model.specs.MarkAnswer.{off_answer, on_answer, qualify_answer}
 use Rattle.desk_model.specs.VacancyAnswer.{vacancy_answer}
 use Rattle.desk_model.specs.NextAnswer.{next_answer}
+use Rattle.desk_model.specs.OfferAnswer.{offer_answer}
+use Rattle.desk_model.specs.SettleAnswer.{accept_answer, decline_answer, no_answer}
+use Rattle.desk_model.specs.GiveUpAnswer.{annul_answer, drop_answer}
+use Rattle.desk_model.specs.LookAnswer.{at_answer, vac_answer}
 use Rattle.desk_model.specs.EventAnswer.{past_answer, event_answer}
 use Rattle.desk_model.specs.HoursAnswer.{hours_answer}
 use Rattle.desk_model.specs.ExplainAnswer.{explain_answer}
@@ -39,12 +45,25 @@ abbrev pub answer_to : History → ℕ → Cmd → Reply
 answer_to h m (cmd.Enrol person craft home quals) = enrol_answer h person
 answer_to h m (cmd.Board board extra place) = board_answer h board
 answer_to h m (cmd.List person board) = list_answer h person board
+answer_to h m (cmd.Unlist person board) = unlist_answer h person board
+answer_to h m (cmd.MarkOff person) = off_answer h person
+answer_to h m (cmd.MarkOn person) = on_answer h person
+answer_to h m (cmd.Qualify person quals) = qualify_answer h person
 answer_to h m (cmd.Vacancy job) = vacancy_answer h m job
 answer_to h m (cmd.Next vac) = next_answer h m vac
+answer_to h m (cmd.Offer vac person) = offer_answer h m vac person
+answer_to h m (cmd.Accept vac person) = accept_answer h m vac person
+answer_to h m (cmd.Decline vac person) = decline_answer h vac person
+answer_to h m (cmd.NoAnswer vac person) = no_answer h m vac person
+answer_to h m (cmd.Withdraw vac person) = decline_answer h vac person
+answer_to h m (cmd.Annul vac) = annul_answer h vac
+answer_to h m (cmd.Drop person) = drop_answer h person
 answer_to h m (cmd.Past person event) = past_answer h m person event
 answer_to h m (cmd.Happened person event) = event_answer h m person event
 answer_to h m (cmd.Hours person month) = hours_answer h person month
+answer_to h m (cmd.At board place) = at_answer h board place
 answer_to h m (cmd.Explain vac person) = explain_answer h m vac person
+answer_to h m (cmd.Vac vac) = vac_answer h vac
 
 -- the answer to what is stated; a minute outside the window is named before all else
 abbrev pub answer : History → StatedValue → Reply

@@ -9,7 +9,7 @@ use Rattle.desk_model.specs.History.{History}
 use Rattle.desk_model.specs.Job.{JobValue}
 use Rattle.desk_model.specs.Register.{vacancy_of}
 use Rattle.desk_model.specs.Boards.{chain}
-use Rattle.desk_model.specs.Offers.{state_of}
+use Rattle.desk_model.specs.States.{state_of}
 use Rattle.desk_model.specs.Bars.{first_free}
 
 -- where all are barred it is unfilled
@@ -23,19 +23,17 @@ vacant_answer h m job =
     if nat_lt job.report m then reply.Lapsed job.report
     else choice_answer (length (chain h job.chain)) (first_free h m job)
 
--- it is taken, begun or annulled; it is on offer; else what its report and its chain give
-abbrev pub state_answer : History → ℕ → JobValue → VacState → Reply
-state_answer h m job (state.Taken p) = reply.Closed (state.Taken p)
-state_answer h m job (state.Begun p) = reply.Closed (state.Begun p)
-state_answer h m job state.Annulled = reply.Closed state.Annulled
-state_answer h m job (state.OnOffer p) = reply.OfferOpen p
-state_answer h m job state.Vacant = vacant_answer h m job
+-- it is taken, begun or annulled; it is on offer; else the other
+abbrev pub unless_closed : VacState → Reply → Reply
+unless_closed state.Vacant other = other
+unless_closed (state.OnOffer p) other = reply.OfferOpen p
+unless_closed how other = reply.Closed how
 
--- the vacancy was never made; else what its state gives
-abbrev pub known_answer : History → ℕ → Option JobValue → Reply
-known_answer h m None = reply.UnknownVacancy
-known_answer h m (Some job) = state_answer h m job (state_of h job.vac)
+-- the vacancy was never made; else what its state gives, and where it is vacant its report and its chain
+abbrev pub known_answer : History → ℕ → ℕ → Option JobValue → Reply
+known_answer h m v None = reply.UnknownVacancy
+known_answer h m v (Some job) = unless_closed (state_of h v) (vacant_answer h m job)
 
 -- the answer by the vacancy's number
 abbrev pub next_answer : History → ℕ → ℕ → Reply
-next_answer h m v = known_answer h m (vacancy_of h v)
+next_answer h m v = known_answer h m v (vacancy_of h v)

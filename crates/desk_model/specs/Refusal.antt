@@ -4,21 +4,27 @@ use Rattle.desk_model.specs.declared.reply.Reply.{Reply}
 use Rattle.desk_model.specs.declared.person.Person.{Person}
 use Rattle.desk_model.specs.Job.{JobValue}
 use Rattle.desk_model.specs.History.{History, is_done}
-use Rattle.desk_model.specs.Register.{person_of, board_of, vacancy_of, persons, boards, vacancies}
+use Rattle.desk_model.specs.Register.{person_of, quals_of, board_of, vacancy_of, persons, boards, vacancies}
 use Rattle.desk_model.specs.Boards.{is_on, order, chain}
 use Rattle.desk_model.specs.Duty.{events, is_closed}
 use Rattle.desk_model.specs.Rank.{rank}
-use Rattle.desk_model.specs.Offers.{offer_in, open_offer, on_offer, state_of}
+use Rattle.desk_model.specs.Offers.{offer_in, open_offer, on_offer}
+use Rattle.desk_model.specs.Marks.{is_marked_off}
+use Rattle.desk_model.specs.Assigned.{is_assigned, assigned, begun}
+use Rattle.desk_model.specs.States.{state_of}
+use Rattle.desk_model.specs.TurnedDown.{has_turned_down}
 use Rattle.desk_model.specs.Bars.{bar_of, first_free}
 
 -- a reply that changes something: a command was done, or an offer was made
 abbrev pub changes : Reply → Bool
 changes r = is_done r || is_some (offer_in 0 r)
 
--- after these entries and after those, the desk has the same persons, boards, lists, vacancies and offers, and at each
--- moment the same bars and the same first choice
+-- after these entries and after those, the desk has the same persons, boards, lists, marks, vacancies, offers and assignments, and
+-- at each moment the same bars and the same first choice
 pub record IsSameDesk (h later : History) : Type 0 where
   pub person : (p : ℕ) → person_of later p ≡ person_of h p
+  pub quals : (p : ℕ) → quals_of later p ≡ quals_of h p
+  pub marked : (p : ℕ) → is_marked_off later p ≡ is_marked_off h p
   pub board : (b : List ℕ) → board_of later b ≡ board_of h b
   pub vacancy : (v : ℕ) → vacancy_of later v ≡ vacancy_of h v
   pub persons : persons later ≡ persons h
@@ -32,6 +38,10 @@ pub record IsSameDesk (h later : History) : Type 0 where
   pub chain : (codes : List (List ℕ)) → chain later codes ≡ chain h codes
   pub offer : (v : ℕ) → open_offer later v ≡ open_offer h v
   pub on_offer : (p : ℕ) → on_offer later p ≡ on_offer h p
+  pub has : (p v : ℕ) → is_assigned later p v ≡ is_assigned h p v
+  pub assigned : (p : ℕ) → assigned later p ≡ assigned h p
+  pub begun : (v : ℕ) → begun later v ≡ begun h v
+  pub turned_down : (v p : ℕ) → has_turned_down later v p ≡ has_turned_down h v p
   pub state : (v : ℕ) → state_of later v ≡ state_of h v
   pub bar : (m : ℕ) (job : JobValue) (p : ℕ) (person : Person) → bar_of later m job p person ≡ bar_of h m job p person
   pub first : (m : ℕ) (job : JobValue) → first_free later m job ≡ first_free h m job

@@ -1,5 +1,5 @@
--- Who is enrolled, which boards there are, and which vacancies were made.
-use Rattle.std.specs.Prelude.{ℕ, nat_eq, Option, None, Some, if◌then◌else◌, List}
+-- Who is enrolled and what they can do, which boards there are, and which vacancies were made.
+use Rattle.std.specs.Prelude.{ℕ, nat_eq, Option, None, Some, unwrap_or, if◌then◌else◌, List}
 use Rattle.std.specs.Str.{bytes_eq}
 use Rattle.std.specs.List.{filter_map}
 use Rattle.desk_model.specs.declared.command.Cmd.{Cmd}
@@ -7,16 +7,22 @@ use Rattle.desk_model.specs.declared.command.Cmd.TheVariants as cmd
 use Rattle.desk_model.specs.declared.person.Person.{Person}
 use Rattle.desk_model.specs.declared.board_setup.BoardSetup.{BoardSetup}
 use Rattle.desk_model.specs.Job.{JobValue}
-use Rattle.desk_model.specs.History.{History, said, first_of}
+use Rattle.desk_model.specs.History.{History, said, first_of, last_of}
 
 -- a command that enrols this person, and one that enrols somebody
 abbrev pub enrols : ℕ → Cmd → Option Person
-enrols p (cmd.Enrol person craft home quals) = if nat_eq person p then Some (record { craft = craft; home = home; quals = quals }) else None
+enrols p (cmd.Enrol person craft home quals) = if nat_eq person p then Some (record { craft = craft; home = home }) else None
 enrols p other = None
 
 abbrev pub enrols_any : Cmd → Option ℕ
 enrols_any (cmd.Enrol person craft home quals) = Some person
 enrols_any other = None
+
+-- the qualifications that a command gives this person: all of them, and none else
+abbrev pub gives : ℕ → Cmd → Option ℕ
+gives p (cmd.Enrol person craft home quals) = if nat_eq person p then Some quals else None
+gives p (cmd.Qualify person quals) = if nat_eq person p then Some quals else None
+gives p other = None
 
 -- a command that sets up this board, and one that sets up some board
 abbrev pub sets_up : List ℕ → Cmd → Option BoardSetup
@@ -45,6 +51,10 @@ board_of h b = first_of (said (sets_up b)) h.entries
 
 abbrev pub vacancy_of : History → ℕ → Option JobValue
 vacancy_of h v = first_of (said (makes v)) h.entries
+
+-- what the person can do: the qualifications that they were given last
+abbrev pub quals_of : History → ℕ → ℕ
+quals_of h p = unwrap_or (last_of (said (gives p)) h.entries) 0
 
 -- all persons, all boards and all vacancies, in the order in which they came
 abbrev pub persons : History → List ℕ

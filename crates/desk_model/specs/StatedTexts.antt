@@ -54,12 +54,25 @@ abbrev pub command_fields : Cmd → List (List ℕ)
 command_fields (cmd.Enrol person craft home quals) = codes "enrol" ∷ decimal person ∷ craft_text craft ∷ home ∷ quals_text quals ∷ []
 command_fields (cmd.Board board extra place) = codes "board" ∷ board ∷ sort_text extra ∷ place ∷ []
 command_fields (cmd.List person board) = codes "list" ∷ decimal person ∷ board ∷ []
+command_fields (cmd.Unlist person board) = codes "unlist" ∷ decimal person ∷ board ∷ []
+command_fields (cmd.MarkOff person) = codes "off" ∷ decimal person ∷ []
+command_fields (cmd.MarkOn person) = codes "on" ∷ decimal person ∷ []
+command_fields (cmd.Qualify person quals) = codes "qualify" ∷ decimal person ∷ quals_text quals ∷ []
 command_fields (cmd.Past person event) = codes "past" ∷ decimal person ∷ event_fields event
 command_fields (cmd.Happened person event) = codes "event" ∷ decimal person ∷ event_fields event
 command_fields (cmd.Vacancy job) = codes "vacancy" ∷ job_fields job
 command_fields (cmd.Next vac) = codes "next" ∷ decimal vac ∷ []
+command_fields (cmd.Offer vac person) = codes "offer" ∷ decimal vac ∷ decimal person ∷ []
+command_fields (cmd.Accept vac person) = codes "accept" ∷ decimal vac ∷ decimal person ∷ []
+command_fields (cmd.Decline vac person) = codes "decline" ∷ decimal vac ∷ decimal person ∷ []
+command_fields (cmd.NoAnswer vac person) = codes "noanswer" ∷ decimal vac ∷ decimal person ∷ []
+command_fields (cmd.Withdraw vac person) = codes "withdraw" ∷ decimal vac ∷ decimal person ∷ []
+command_fields (cmd.Annul vac) = codes "annul" ∷ decimal vac ∷ []
+command_fields (cmd.Drop person) = codes "drop" ∷ decimal person ∷ []
 command_fields (cmd.Hours person month) = codes "hours" ∷ decimal person ∷ month_text month ∷ []
+command_fields (cmd.At board place) = codes "at" ∷ board ∷ decimal place ∷ []
 command_fields (cmd.Explain vac person) = codes "explain" ∷ decimal vac ∷ decimal person ∷ []
+command_fields (cmd.Vac vac) = codes "vac" ∷ decimal vac ∷ []
 
 -- the fields of a command's record: the minute at which it was stated, and the command's
 abbrev pub stated_fields : StatedValue → List (List ℕ)

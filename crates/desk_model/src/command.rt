@@ -24,6 +24,24 @@ pub enum Cmd {
         person: PersonNo,
         board: Code,
     },
+    /// A person is taken off a board.
+    Unlist {
+        person: PersonNo,
+        board: Code,
+    },
+    /// A person is marked off: they are not to be called.
+    MarkOff {
+        person: PersonNo,
+    },
+    /// A person is marked on again, at the bottom of each of their boards.
+    MarkOn {
+        person: PersonNo,
+    },
+    /// A person's qualifications are these, all of them anew.
+    Qualify {
+        person: PersonNo,
+        quals: Quals,
+    },
     /// What a person did before they were listed.
     Past {
         person: PersonNo,
@@ -40,14 +58,56 @@ pub enum Cmd {
     Next {
         vac: VacNo,
     },
+    /// A vacancy is offered to this person, if no other comes before.
+    Offer {
+        vac: VacNo,
+        person: PersonNo,
+    },
+    /// A person accepts the vacancy that is on offer to them.
+    Accept {
+        vac: VacNo,
+        person: PersonNo,
+    },
+    /// A person declines it.
+    Decline {
+        vac: VacNo,
+        person: PersonNo,
+    },
+    /// A person did not answer by the deadline.
+    NoAnswer {
+        vac: VacNo,
+        person: PersonNo,
+    },
+    /// The offer is taken back.
+    Withdraw {
+        vac: VacNo,
+        person: PersonNo,
+    },
+    /// The job is called off.
+    Annul {
+        vac: VacNo,
+    },
+    /// A person gives up the vacancy that they accepted.
+    Drop {
+        person: PersonNo,
+    },
     /// How much of a month's limits a person has used is asked.
     Hours {
         person: PersonNo,
         month: Month,
     },
+    /// Who stands at a place of a board, from 1, is asked.
+    At {
+        board: Code,
+        place: u16,
+    },
     /// What bars a person from a vacancy is asked.
     Explain {
         vac: VacNo,
         person: PersonNo,
+    },
+    /// How a vacancy stands is asked.
+    Vac {
+        vac: VacNo,
     },
 }

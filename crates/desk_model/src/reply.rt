@@ -23,10 +23,20 @@ pub enum Reply {
         used: u32,
         capped: u32,
     },
-    /// The person has no place in the vacancy's chain.
+    /// This person stands there.
+    Seen(PersonNo),
+    /// Nobody stands there: the board has so many persons.
+    NoOne {
+        length: u16,
+    },
+    /// The vacancy stands so.
+    State(VacState),
+    /// The person isn't on the board, or has no place in the vacancy's chain.
     NotListed,
     /// This bar is the first that keeps the person from the vacancy.
     Denied(Bar),
+    /// This person, whom nothing bars, comes before in the vacancy's chain.
+    RunAround(PersonNo),
     /// Nothing bars the person from the vacancy: the first place in its chain that is theirs is this position of this
     /// board, from 1.
     Clear {
@@ -37,6 +47,8 @@ pub enum Reply {
     OutsideWindow,
     /// The number or the code is in use, or the person is on the board.
     Used,
+    /// The person is marked so already.
+    Already,
     /// 1,000 persons are enrolled.
     PersonsFull,
     /// There are 64 boards.
@@ -49,7 +61,7 @@ pub enum Reply {
     ListsFull,
     /// 500 are on the board.
     MembersFull,
-    /// The vacancy is on offer to the person.
+    /// This vacancy is on offer to the person, or assigned to them.
     Frozen(VacNo),
     /// The person was listed, or an event of theirs was accepted by `event`: what they did before is closed.
     PastClosed,
@@ -67,10 +79,16 @@ pub enum Reply {
     ReportPast(Minute),
     /// There is no such vacancy.
     UnknownVacancy,
-    /// The vacancy stands so, and can't be offered.
+    /// The vacancy stands so, and can't be offered or annulled.
     Closed(VacState),
     /// The vacancy is on offer to this person.
     OfferOpen(PersonNo),
     /// The vacancy's report, at this minute, is past.
     Lapsed(Minute),
+    /// The vacancy isn't on offer to the person.
+    NoOffer,
+    /// The person may answer until this minute.
+    EarlyNoAnswer(Minute),
+    /// No vacancy is assigned to the person.
+    NotAssigned,
 }

@@ -31,7 +31,8 @@ impl Model for Stated {
 
 impl Stated {
     /// A command stated at a minute; `None` where that minute, or one that the command tells of an event, or the
-    /// month that it asks about, lies outside the years 2000 to 2099.
+    /// month that it asks about, lies outside the years 2000 to 2099, or the place of a board that it asks about
+    /// isn't 1 to 9,999.
     pub fn new(minute: Minute, cmd: Cmd) -> Option<Stated>
         ensures { SomeIff result (IsStated (stated_of minute cmd)) (stated_of minute cmd) }
     {
@@ -81,9 +82,18 @@ fn is_command(cmd: &Cmd) -> bool
             place.text();
             true
         }
-        Cmd::List { person, board } => {
+        Cmd::List { person, board } | Cmd::Unlist { person, board } => {
             person.number();
             board.text();
+            true
+        }
+        Cmd::MarkOff { person } | Cmd::MarkOn { person } | Cmd::Drop { person } => {
+            person.number();
+            true
+        }
+        Cmd::Qualify { person, quals } => {
+            person.number();
+            quals.bits();
             true
         }
         Cmd::Past { person, event } => {
@@ -95,7 +105,7 @@ fn is_command(cmd: &Cmd) -> bool
             is_event(event)
         }
         Cmd::Vacancy(job) => is_job(job),
-        Cmd::Next { vac } => {
+        Cmd::Next { vac } | Cmd::Annul { vac } | Cmd::Vac { vac } => {
             vac.number();
             true
         }
@@ -103,7 +113,16 @@ fn is_command(cmd: &Cmd) -> bool
             person.number();
             month.is_in_years()
         }
-        Cmd::Explain { vac, person } => {
+        Cmd::At { board, place } => {
+            board.text();
+            *place >= 1 && *place <= 9_999
+        }
+        Cmd::Offer { vac, person }
+        | Cmd::Accept { vac, person }
+        | Cmd::Decline { vac, person }
+        | Cmd::NoAnswer { vac, person }
+        | Cmd::Withdraw { vac, person }
+        | Cmd::Explain { vac, person } => {
             vac.number();
             person.number();
             true

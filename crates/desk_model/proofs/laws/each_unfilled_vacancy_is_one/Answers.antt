@@ -1,6 +1,6 @@
 use Rattle.desk_model.specs.Denials.{IsUnfilledRightly}
 use Rattle.desk_model.proofs.LegalLemmas.{each-step}
-use Rattle.desk_model.proofs.UnfilledLemmas.{unfilled-rightly}
+use Rattle.desk_model.proofs.VerdictLemmas.{unfilled-rightly}
 use Rattle.desk_model.proofs.laws.each_unfilled_vacancy_is_one.Goals as goal
 
 pub returns : goal.returns
