@@ -13,7 +13,11 @@ pub mod ComesLemmas
 pub mod RefusalLemmas
 pub mod JudgedLemmas
 pub mod OfferedLemmas
+pub mod MadeLemmas
+pub mod OpensLemmas
 pub mod OneOfferLemmas
+pub mod StateLemmas
+pub mod StateStepLemmas
 pub mod OnOfferLemmas
 pub mod EnrolledLemmas
 pub mod DenialLemmas

@@ -10,7 +10,8 @@ use Rattle.desk_model.proofs.SaidLemmas.{last_of-silent, last_of-tells}
 use Rattle.desk_model.proofs.OrderLemmas.{same_number, nat_eq-same}
 use Rattle.desk_model.proofs.LegalLemmas.{legal-induction}
 use Rattle.desk_model.proofs.OfferedLemmas.{find-passes}
-use Rattle.desk_model.proofs.OneOfferLemmas.{one-offer, next-says, none-offered, still-open, find-fails, stays, opens-this}
+use Rattle.desk_model.proofs.OpensLemmas.{next-says, none-offered, still-open, stays, opens-this}
+use Rattle.desk_model.proofs.OneOfferLemmas.{find-fails, one-offer}
 
 -- an open offer to a person is the last that was made to them
 abbrev LastIsOpen : History → Type 0

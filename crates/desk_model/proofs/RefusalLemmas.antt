@@ -26,7 +26,7 @@ use Rattle.desk_model.specs.Refusal.{changes, IsSameDesk}
 use Rattle.desk_model.proofs.SaidLemmas.{first_of-silent, last_of-silent, filter_map-silent, steps-snoc}
 use Rattle.desk_model.proofs.OrderLemmas.{order-silent}
 use Rattle.desk_model.proofs.AssignedLemmas.{only_if-agree, has-comes, assigned-comes}
-use Rattle.desk_model.proofs.OneOfferLemmas.{said-ends}
+use Rattle.desk_model.proofs.OpensLemmas.{said-ends}
 
 no_change-done : (r : Reply) → changes r ≡ false → is_done r ≡ false
 no_change-done r same = go (is_done r) same
