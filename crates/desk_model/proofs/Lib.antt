@@ -18,6 +18,9 @@ pub mod OpensLemmas
 pub mod OneOfferLemmas
 pub mod StateLemmas
 pub mod StateStepLemmas
+pub mod PartLemmas
+pub mod OneStateLemmas
+pub mod MomentLemmas
 pub mod OnOfferLemmas
 pub mod EnrolledLemmas
 pub mod DenialLemmas

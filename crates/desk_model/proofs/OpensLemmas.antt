@@ -20,8 +20,8 @@ use Rattle.desk_model.specs.History.{History, with_entry, is_done, said}
 use Rattle.desk_model.specs.Register.{makes, person_of, vacancy_of, vacancies}
 use Rattle.desk_model.specs.Boards.{chain}
 use Rattle.desk_model.specs.Offers.{asks_for, offer_in, is_of, settles, ends, offer_said, open_offer, is_to, offered_to, on_offer}
-use Rattle.desk_model.specs.Assigned.{assigned}
-use Rattle.desk_model.specs.States.{state_of}
+use Rattle.desk_model.specs.Assigned.{assigned, holder, begun, is_annulled}
+use Rattle.desk_model.specs.States.{open_state, taken_state, begun_state, state_of}
 use Rattle.desk_model.specs.Bars.{facts_of, bar_of, may_have, is_free}
 use Rattle.desk_model.specs.SettleAnswer.{offered_answer, made_answer, settle_answer}
 use Rattle.desk_model.specs.Legal.{IsNext}
@@ -59,6 +59,17 @@ free-idle h m job p free = go (person_of h p) free
 
 -- ---- what the entry that the rules give says of offers
 
+-- a vacancy that is vacant has no open offer
+vacant-closed : (h : History) (v : ℕ) → state_of h v ≡ state.Vacant → open_offer h v ≡ None
+vacant-closed h v is = go (is_annulled h v) (begun h v) (holder h v) (open_offer h v) is
+  where
+    go : (over : Bool) (b held : Option ℕ) (o : Option Offer) → cond over state.Annulled (begun_state b (taken_state held (open_state o))) ≡ state.Vacant → o ≡ None
+    go true b held o is = cc
+    go false (Some p) held o is = cc
+    go false None (Some p) o is = cc
+    go false None None (Some offer) is = cc
+    go false None None None is = refl
+
 -- it opens this offer of this vacancy, which was made, to a person without one and without a vacancy, and says nothing of others
 pub record Opens (h : History) (e : EntryValue) : Type 0 where
   pub vac : ℕ
@@ -71,6 +82,7 @@ pub record Opens (h : History) (e : EntryValue) : Type 0 where
   pub makes : offer_in e.moment e.reply ≡ Some offer
   pub undone : is_done e.reply ≡ false
   pub made : list_any (nat_eq vac) (vacancies h) ≡ true
+  pub closed : open_offer h vac ≡ None
   pub vacant : state_of h vac ≡ state.Vacant
   pub idle : assigned h offer.person ≡ None
   pub free : on_offer h offer.person ≡ None
@@ -94,6 +106,7 @@ next-says h e is = go e.reply refl
           makes = rw told refl;
           undone = rw told refl;
           made = made-among h offered.0 was.job was.made;
+          closed = vacant-closed h offered.0 was.vacant;
           vacant = was.vacant;
           idle = idle.0;
           free = idle.1;

@@ -7,7 +7,7 @@ use Rattle.desk_model.specs.Entry.{EntryValue}
 use Rattle.desk_model.specs.History.{History, opened, with_entry, steps_from, steps, said, last_of}
 use Rattle.desk_model.specs.Boards.{is_on, sends, sent_to, keep_last, order}
 use Rattle.desk_model.proofs.OrderLemmas.{same_number, nat_eq-same}
-use Rattle.desk_model.specs.Rank.{is_number, sends_at, rank, IsBefore, Rises, IsByRank}
+use Rattle.desk_model.specs.Rank.{is_number, sends_at, rank, IsBefore, Rises, IsOnce, IsByRank}
 use Rattle.desk_model.proofs.OnBoardLemmas.{any-filter, any-keep_last, any-order, sent_from}
 
 or_none : (o : Option ℕ) → option_or o None ≡ o
@@ -152,6 +152,10 @@ rises-head r p q ps qs one other among too = elim (cases_Bool (nat_eq p q)) [
   ]
 ]
 
+pub IsOnce-rises : (r : ℕ → Option ℕ) (ps : List ℕ) → Rises r ps → IsOnce ps
+IsOnce-rises r [] rises = tt
+IsOnce-rises r (p ∷ ps) rises = (rises-once r p ps rises, IsOnce-rises r ps rises.1)
+
 pub rises-only : (r : ℕ → Option ℕ) (ps qs : List ℕ) → Rises r ps → Rises r qs → ((p : ℕ) → list_any (nat_eq p) ps ≡ list_any (nat_eq p) qs) → ps ≡ qs
 rises-only r [] [] one other same = refl
 rises-only r [] (q ∷ qs) one other same = absurd (false≢true (same q ∙ rw (nat_eq-same q) refl))
@@ -171,3 +175,6 @@ rises-only r (p ∷ ps) (q ∷ qs) one other same =
 pub order-only : (h : History) (b : List ℕ) (ps : List ℕ) → IsByRank h b ps → ps ≡ order h b
 order-only h b ps by_rank =
     rises-only (rank h b) ps (order h b) by_rank.rising (order-by_rank h b).rising (λ p. by_rank.those p ∙ sym (any-order h b p))
+
+pub order-once : (h : History) (b : List ℕ) → IsOnce (order h b)
+order-once h b = IsOnce-rises (rank h b) (order h b) (order-by_rank h b).rising

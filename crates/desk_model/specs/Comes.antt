@@ -12,7 +12,7 @@ use Rattle.desk_model.specs.declared.offer.Offer.{Offer}
 use Rattle.desk_model.specs.Entry.{EntryValue}
 use Rattle.desk_model.specs.History.{History, with_entry, step_of, is_done, said}
 use Rattle.desk_model.specs.Register.{enrols, enrols_any, gives, sets_up, sets_up_any, makes, makes_any, person_of, quals_of, board_of, vacancy_of, persons, boards, vacancies}
-use Rattle.desk_model.specs.Offers.{asks_for, is_of, offer_in, offer_said, open_offer}
+use Rattle.desk_model.specs.Offers.{asks_for, is_of, offer_in, offered_to, settles, offer_said, open_offer}
 use Rattle.desk_model.specs.Boards.{puts, is_on, sends, order}
 use Rattle.desk_model.specs.Duty.{tells, may_come, events, closes, is_closed}
 use Rattle.desk_model.specs.Marks.{marks, is_marked_off}
@@ -95,6 +95,16 @@ offered_by v e (Some offer) how = if is_of v (asks_for e.stated.cmd) then open_s
 
 abbrev pub state_after : ℕ → EntryValue → VacState → VacState
 state_after v e how = if is_done e.reply then state_by v e.stated.cmd how else offered_by v e (offer_in e.moment e.reply) how
+
+-- ---- offers to a person
+
+-- the vacancy that is on offer to a person after an entry: the one that it offers them; none where it ends the offer of theirs
+abbrev pub left_open : Option ℕ → Option ℕ → Option ℕ
+left_open ended None = None
+left_open ended (Some v) = if is_of v ended then None else Some v
+
+abbrev pub on_offer_after : ℕ → EntryValue → Option ℕ → Option ℕ
+on_offer_after p e was = option_or (offered_to p e) (left_open (said settles e) was)
 
 -- ---- all of it
 

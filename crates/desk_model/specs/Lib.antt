@@ -35,6 +35,7 @@ pub mod GiveUpAnswer
 pub mod LookAnswer
 pub mod Legal
 pub mod Comes
+pub mod Parts
 pub mod StatedTexts
 pub mod BarTexts
 pub mod ReplyTexts

@@ -27,6 +27,11 @@ abbrev pub Rises : (ℕ → Option ℕ) → List ℕ → Type 0
 Rises ranked [] = ⊤
 Rises ranked (p ∷ ps) = ((q : ℕ) → list_any (nat_eq q) ps ≡ true → IsBefore (ranked p) (ranked q)) × Rises ranked ps
 
+-- nobody stands twice
+abbrev pub IsOnce : List ℕ → Type 0
+IsOnce [] = ⊤
+IsOnce (p ∷ ps) = (list_any (nat_eq p) ps ≡ false) × IsOnce ps
+
 -- the list has just those who are on the board, by rising rank
 pub record IsByRank (h : History) (b : List ℕ) (ps : List ℕ) : Type 0 where
   pub those : (p : ℕ) → list_any (nat_eq p) ps ≡ is_on h p b

@@ -7,12 +7,12 @@ ghost use Rattle.desk_model.specs.Entry.{EntryValue};
 ghost use Rattle.desk_model.specs.Job.{JobValue};
 ghost use Rattle.desk_model.specs.History.{History, with_entry, steps, said};
 ghost use Rattle.desk_model.specs.Boards.{order, chain};
-ghost use Rattle.desk_model.specs.Rank.{IsByRank};
+ghost use Rattle.desk_model.specs.Rank.{IsByRank, IsOnce};
 ghost use Rattle.desk_model.specs.Duty.{tells, events};
 ghost use Rattle.desk_model.specs.Offers.{open_offer, is_to};
 ghost use Rattle.desk_model.specs.Refusal.{changes, IsSameDesk};
 ghost use Rattle.desk_model.specs.NextAnswer.{next_answer};
-ghost use Rattle.desk_model.specs.Denials.{IsOpen, AreBarred, IsUnfilled, IsFirstClear, OffersRightly, IsUnfilledRightly};
+ghost use Rattle.desk_model.specs.Denials.{IsOpen, AreBarred, IsUnfilled, IsFirstClear, OffersRightly, IsUnfilledRightly, DeniesRightly, RunsAroundRightly};
 ghost use Rattle.desk_model.specs.Legal.{IsLegal};
 
 use law_bars::{no_bar_where_the_law_is_kept, who_is_rested_was_off_ten_hours};
@@ -22,10 +22,12 @@ use law_bars::{no_bar_where_the_law_is_kept, who_is_rested_was_off_ten_hours};
 pub fn order_is_by_rank()
     ensures by_rank { (h : History) (b : List ℕ) → IsByRank h b (order h b) }
     ensures only { (h : History) (b : List ℕ) (ps : List ℕ) → IsByRank h b ps → ps ≡ order h b }
+    ensures once { (h : History) (b : List ℕ) → IsOnce (order h b) }
 {}
 
-/// An entry whose reply is neither `Done` nor `Offered` leaves persons, their events, boards, lists, ranks, orders,
-/// chains, vacancies, offers, bars and the first choice as they were. It does nothing: its clause is the law.
+/// An entry whose reply is neither `Done` nor `Offered` leaves persons, their qualifications, marks and events, boards,
+/// lists, ranks, orders, chains, vacancies, their states, offers, assignments, who turned which down, bars and the first
+/// choice as they were. It does nothing: its clause is the law.
 pub fn a_refusal_changes_nothing()
     ensures { (h : History) (e : EntryValue) → changes e.reply ≡ false
         → IsSameDesk h (with_entry h e) }
@@ -71,4 +73,18 @@ pub fn each_offer_is_right()
 /// tells. It does nothing: its clause is the law.
 pub fn each_unfilled_vacancy_is_one()
     ensures { (h : History) → IsLegal h → All IsUnfilledRightly (steps h) }
+{}
+
+/// At each entry of a legal history whose reply denies, whether `explain` or `offer` asked, the person stood in the
+/// vacancy's chain, and the bar is the first that kept them from it at the entry's moment. It does nothing: its clause is
+/// the law.
+pub fn each_denial_names_the_first_bar()
+    ensures { (h : History) → IsLegal h → All DeniesRightly (steps h) }
+{}
+
+/// At each entry of a legal history whose reply tells who would be run around, `offer` named somebody of the chain whom
+/// nothing bars, and the reply names another, who is the first of it whom nothing bars. It does nothing: its clause is the
+/// law.
+pub fn each_run_around_names_the_first()
+    ensures { (h : History) → IsLegal h → All RunsAroundRightly (steps h) }
 {}

@@ -9,6 +9,7 @@ mod desk_core;
 mod entry;
 mod job;
 mod laws;
+mod laws_of_entries;
 mod legal;
 mod limits;
 mod link;
@@ -27,8 +28,13 @@ pub use desk_core::DeskCore;
 pub use entry::Entry;
 pub use job::Job;
 pub use laws::{
-    a_refusal_changes_nothing, each_offer_is_right, each_unfilled_vacancy_is_one,
-    no_event_is_left_out, one_offer_to_a_person, order_is_by_rank, unfilled_where_all_are_barred,
+    a_refusal_changes_nothing, each_denial_names_the_first_bar, each_offer_is_right,
+    each_run_around_names_the_first, each_unfilled_vacancy_is_one, no_event_is_left_out,
+    one_offer_to_a_person, order_is_by_rank, unfilled_where_all_are_barred,
+};
+pub use laws_of_entries::{
+    a_vacancy_is_in_one_state, moments_never_fall, what_a_command_leaves,
+    what_an_entry_makes_of_the_desk,
 };
 pub use legal::{a_legal_history_fits, boards_and_chains_are_bounded, one_history_is_legal};
 pub use limits::{

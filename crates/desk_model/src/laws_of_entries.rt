@@ -1,0 +1,55 @@
+//! What one entry more makes of the desk.
+ghost use Rattle.std.specs.Prelude.{◌≡◌, ◌≤◌, ◌↔◌, ℕ, Some, true, false};
+ghost use Rattle.std.specs.List.{All};
+ghost use Rattle.desk_model.specs.declared.vac_state.VacState.TheVariants as state;
+ghost use Rattle.desk_model.specs.Entry.{EntryValue};
+ghost use Rattle.desk_model.specs.History.{History, with_entry, steps};
+ghost use Rattle.desk_model.specs.Offers.{open_offer, is_to, on_offer};
+ghost use Rattle.desk_model.specs.Assigned.{is_assigned, assigned, begun, is_annulled};
+ghost use Rattle.desk_model.specs.States.{state_of};
+ghost use Rattle.desk_model.specs.Comes.{Comes, on_offer_after, state_after};
+ghost use Rattle.desk_model.specs.Parts.{Part, Stays, touches};
+ghost use Rattle.desk_model.specs.Legal.{last_moment, IsNext, IsLegal};
+
+/// What each definition of a history is with one entry more, from what it was and from what the entry says: persons,
+/// qualifications, boards and vacancies, lists and orders, events, marks, offers, assignments and who turned which down, in
+/// every history; and the state of a vacancy and the vacancy that is on offer to a person, in a legal one. It does nothing:
+/// its clauses are the laws.
+pub fn what_an_entry_makes_of_the_desk()
+    ensures comes { (h : History) (e : EntryValue) → Comes h e }
+    ensures state { (h : History) (e : EntryValue) (v : ℕ) → IsLegal h → IsNext h e
+        → state_of (with_entry h e) v ≡ state_after v e (state_of h v) }
+    ensures on_offer { (h : History) (e : EntryValue) (p : ℕ) → IsLegal h → IsNext h e
+        → on_offer (with_entry h e) p ≡ on_offer_after p e (on_offer h p) }
+    ensures moment { (h : History) (e : EntryValue) → last_moment (with_entry h e) ≡ e.moment }
+{}
+
+/// A command leaves every part of the desk that it may not change as it was, whatever is answered: the table of parts says
+/// which it may. It does nothing: its clause is the law.
+pub fn what_a_command_leaves()
+    ensures { (h : History) (e : EntryValue) → IsLegal h → IsNext h e
+        → (part : Part) → touches part e.stated.cmd ≡ false → Stays part h (with_entry h e) }
+{}
+
+/// In a legal history a vacancy is in one state, which tells all of it: it is on offer to a person exactly where its open
+/// offer is to them, taken by one exactly where it is assigned to them, begun by one exactly where they reported for it,
+/// and annulled exactly where it was. So a person is assigned to at most one vacancy, which is taken, and a vacancy to at
+/// most one person. It does nothing: its clauses are the laws.
+pub fn a_vacancy_is_in_one_state()
+    ensures offered { (h : History) → IsLegal h → (v p : ℕ)
+        → (is_to p (open_offer h v) ≡ true) ↔ (state_of h v ≡ state.OnOffer p) }
+    ensures taken { (h : History) → IsLegal h → (v p : ℕ)
+        → (assigned h p ≡ Some v) ↔ (state_of h v ≡ state.Taken p) }
+    ensures begun { (h : History) → IsLegal h → (v p : ℕ)
+        → (begun h v ≡ Some p) ↔ (state_of h v ≡ state.Begun p) }
+    ensures annulled { (h : History) → IsLegal h → (v : ℕ)
+        → (is_annulled h v ≡ true) ↔ (state_of h v ≡ state.Annulled) }
+    ensures idle { (h : History) → IsLegal h → (v w p : ℕ) → is_to p (open_offer h v) ≡ true
+        → is_assigned h p w ≡ false }
+{}
+
+/// In a legal history no entry is taken before the one before it, nor the first before the opening's minute. It does
+/// nothing: its clause is the law.
+pub fn moments_never_fall()
+    ensures { (h : History) → IsLegal h → All (λ s. last_moment s.before ≤ s.entry.moment) (steps h) }
+{}
