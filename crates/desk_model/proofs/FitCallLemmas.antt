@@ -87,7 +87,7 @@ judged_by-fits law h m v p job person rest legal all made who fits =
     let late = lapsed-fits job is in
     let barred = bar-fits law h m job p person legal all is (vacancy-in_years h legal v job made) (person-fits h p all person who) in
     let rest_fits = placed (bar_of h m job p person) (place_in (chain h job.chain) p) barred
-        (IfSome-find (λ link. nat_eq link.person p) FitsLink (chain h job.chain) (chain-fits h job.chain legal is.chain.codes)) in
+    (IfSome-find (λ link. nat_eq link.person p) FitsLink (chain h job.chain) (chain-fits h job.chain legal is.chain.codes)) in
     search (either-fits, late, rest_fits)
   where
     placed : (b : Option Bar) (place : Option Link) → IfSome b FitsBar → IfSome place FitsLink → FitsReply (place_answer b rest place)

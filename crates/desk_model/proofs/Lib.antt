@@ -34,3 +34,5 @@ pub mod FitCallLemmas
 pub mod FitAnswerLemmas
 pub mod FitLemmas
 pub mod VerdictLemmas
+pub mod AcceptedLemmas
+pub mod SettledLemmas

@@ -98,9 +98,15 @@ denies-rightly h e is = record { each = λ bar told. go bar e.stated.cmd (entry-
     go : (bar : Bar) (c : Cmd) → answer_to h e.moment c ≡ reply.Denied bar → (v p : ℕ) × (Names c v p × IsRightDenial h e.moment v p bar)
     go bar (cmd.Next v) answer = let found = chosen h e.moment v (reply.Denied bar) refl answer in absurd (next-denies bar (length (chain h found.job.chain)) (first_free h e.moment found.job) found.so)
     go bar (cmd.Offer v p) answer =
-        let found = called h e.moment v p (reply.Denied bar) refl answer in
-        (v, p, (inr refl, right-denial h e.moment v p bar bar found.0 found.1.0 (named_answer p (first_free h e.moment found.0)) found.1.1.0 found.1.1.1.1
-        (λ link so. (named-tells p (first_free h e.moment found.0) link (reply.Denied bar) so).1 bar refl)))
+        let found = called h e.moment v p (reply.Denied bar) refl answer in (
+          v,
+          p,
+          (
+            inr refl,
+            right-denial h e.moment v p bar bar found.0 found.1.0 (named_answer p (first_free h e.moment found.0)) found.1.1.0 found.1.1.1.1
+                (λ link so. (named-tells p (first_free h e.moment found.0) link (reply.Denied bar) so).1 bar refl),
+          ),
+        )
     go bar (cmd.Explain v p) answer =
         let found = explained h e.moment v p (reply.Denied bar) refl answer in
         (v, p, (inl refl, right-denial h e.moment v p bar bar found.0 found.1.0 clear_answer found.1.1.0 found.1.1.1 (λ link so. cc)))

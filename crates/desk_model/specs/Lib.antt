@@ -36,6 +36,7 @@ pub mod LookAnswer
 pub mod Legal
 pub mod Comes
 pub mod Parts
+pub mod Accepted
 pub mod StatedTexts
 pub mod BarTexts
 pub mod ReplyTexts

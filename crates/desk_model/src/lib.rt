@@ -9,6 +9,7 @@ mod desk_core;
 mod entry;
 mod job;
 mod laws;
+mod laws_of_commands;
 mod laws_of_entries;
 mod legal;
 mod limits;
@@ -32,6 +33,7 @@ pub use laws::{
     each_run_around_names_the_first, each_unfilled_vacancy_is_one, no_event_is_left_out,
     one_offer_to_a_person, order_is_by_rank, unfilled_where_all_are_barred,
 };
+pub use laws_of_commands::{what_persons_and_boards_change, what_vacancies_and_offers_change};
 pub use laws_of_entries::{
     a_vacancy_is_in_one_state, moments_never_fall, what_a_command_leaves,
     what_an_entry_makes_of_the_desk,
