@@ -9,10 +9,16 @@ use crate::board_answer::board_answer;
 use crate::enrol_answer::enrol_answer;
 use crate::event_answer::{event_answer, past_answer};
 use crate::explain_answer::explain_answer;
+use crate::give_up_answer::{annul_answer, drop_answer};
 use crate::hours_answer::hours_answer;
 use crate::list_answer::list_answer;
+use crate::look_answer::{at_answer, vac_answer};
+use crate::mark_answer::{off_answer, on_answer, qualify_answer};
 use crate::moment::{is_within, moment};
 use crate::next_answer::next_answer;
+use crate::offer_answer::offer_answer;
+use crate::settle_answer::{accept_answer, decline_answer, no_answer};
+use crate::unlist_answer::unlist_answer;
 use crate::vacancy_answer::vacancy_answer;
 use desk_base::Minute;
 use desk_model::{Cmd, Entry, LAST_CALLER, Reply, Stated};
@@ -27,12 +33,25 @@ fn answer_to<R: Reads>(reads: &R, work: &mut R::Work, moment: Minute, cmd: &Cmd)
         Cmd::Enrol { person, .. } => enrol_answer(reads, *person),
         Cmd::Board { board, .. } => board_answer(reads, board),
         Cmd::List { person, board } => list_answer(reads, work, *person, board),
+        Cmd::Unlist { person, board } => unlist_answer(reads, *person, board),
+        Cmd::MarkOff { person } => off_answer(reads, *person),
+        Cmd::MarkOn { person } => on_answer(reads, *person),
+        Cmd::Qualify { person, .. } => qualify_answer(reads, *person),
         Cmd::Past { person, event } => past_answer(reads, work, moment, *person, event),
         Cmd::Happened { person, event } => event_answer(reads, work, moment, *person, event),
         Cmd::Vacancy(job) => vacancy_answer(reads, moment, job),
         Cmd::Next { vac } => next_answer(reads, work, moment, *vac),
+        Cmd::Offer { vac, person } => offer_answer(reads, work, moment, *vac, *person),
+        Cmd::Accept { vac, person } => accept_answer(reads, moment, *vac, *person),
+        Cmd::Decline { vac, person } => decline_answer(reads, *vac, *person),
+        Cmd::NoAnswer { vac, person } => no_answer(reads, moment, *vac, *person),
+        Cmd::Withdraw { vac, person } => decline_answer(reads, *vac, *person),
+        Cmd::Annul { vac } => annul_answer(reads, *vac),
+        Cmd::Drop { person } => drop_answer(reads, *person),
         Cmd::Hours { person, month } => hours_answer(reads, work, *person, *month),
+        Cmd::At { board, place } => at_answer(reads, work, board, *place),
         Cmd::Explain { vac, person } => explain_answer(reads, work, moment, *vac, *person),
+        Cmd::Vac { vac } => vac_answer(reads, *vac),
     }
 }
 

@@ -1,10 +1,11 @@
 ghost use Rattle.std.specs.Prelude.{◌≡◌};
 ghost use Rattle.desk_model.specs.History.{History};
 ghost use Rattle.desk_model.specs.Duty.{events};
-ghost use Rattle.desk_model.specs.EventAnswer.{told_answer, past_answer, event_answer};
+ghost use Rattle.desk_model.specs.declared.reply.Reply.TheVariants as reply;
+ghost use Rattle.desk_model.specs.EventAnswer.{told_answer, past_answer, unless_frozen, event_answer};
 
 use crate::Reads;
-use desk_base::{Minute, PersonNo};
+use desk_base::{Minute, PersonNo, VacNo};
 use desk_model::Reply;
 use duty_events::Event;
 
@@ -52,6 +53,16 @@ pub(crate) fn past_answer<R: Reads>(
         Reply::PastClosed
     } else {
         told_answer(reads, work, moment, person, event)
+    }
+}
+
+/// The answer to what is done, unless this vacancy is on offer to the person who asks, or assigned to them.
+pub(crate) fn done_unless_frozen(vac: Option<VacNo>) -> Reply
+    ensures { result ≡ unless_frozen vac reply.Done }
+{
+    match vac {
+        Some(vac) => Reply::Frozen(vac),
+        None => Reply::Done,
     }
 }
 

@@ -1,39 +1,38 @@
 ghost use Rattle.std.specs.Prelude.{◌≡◌};
+ghost use Rattle.desk_model.specs.declared.reply.Reply.{Reply};
+ghost use Rattle.desk_model.specs.declared.link.Link.{Link};
 ghost use Rattle.desk_model.specs.History.{History};
-ghost use Rattle.desk_model.specs.ExplainAnswer.{job_answer, explain_answer};
+ghost use Rattle.desk_model.specs.ExplainAnswer.{judged_by, explain_answer};
+ghost use Rattle.desk_answers.specs.Answered.{answered};
 
 use crate::Reads;
 use desk_base::{Minute, PersonNo, VacNo};
-use desk_model::{Job, Reply};
+use desk_model::{Job, Link, Person, Reply};
 
-// The answer where the vacancy was made, however it stands.
-fn person_answer<R: Reads>(
+/// The first place of an enrolled person in the job's chain, where nothing bars them from it at this moment; or why they
+/// can't have it.
+pub(crate) fn judge<R: Reads>(
     reads: &R,
     work: &mut R::Work,
     moment: Minute,
     job: &Job,
     number: PersonNo,
-) -> Reply
+    person: &Person,
+) -> Result<Link, Reply>
     requires { R.suits reads.now work.old }
-    ensures answer { (h : History) → R.tells reads.now h
-        → result ≡ job_answer h moment number (Some job.now) }
+    ensures answer { (h : History) → R.tells reads.now h → (rest : Link → Reply)
+        → answered rest result ≡ judged_by h moment job.now number rest person.now }
     ensures suits { R.suits reads.now work.new }
 {
-    let Some(person) = reads.person(number) else {
-        return Reply::UnknownPerson;
-    };
     if job.report() < moment {
-        return Reply::Lapsed(job.report());
+        return Err(Reply::Lapsed(job.report()));
     }
-    let Some(link) = reads.place_in(work, &job.chain(), number) else {
-        return Reply::NotListed;
+    let Some(place) = reads.place_in(work, &job.chain(), number) else {
+        return Err(Reply::NotListed);
     };
-    match reads.bar(work, moment, job, number, &person) {
-        Some(bar) => Reply::Denied(bar),
-        None => Reply::Clear {
-            board: link.board,
-            position: link.position,
-        },
+    match reads.bar(work, moment, job, number, person) {
+        Some(bar) => Err(Reply::Denied(bar)),
+        None => Ok(place),
     }
 }
 
@@ -43,14 +42,23 @@ pub(crate) fn explain_answer<R: Reads>(
     work: &mut R::Work,
     moment: Minute,
     vac: VacNo,
-    person: PersonNo,
+    number: PersonNo,
 ) -> Reply
     requires { R.suits reads.now work.old }
-    ensures answer { (h : History) → R.tells reads.now h → result ≡ explain_answer h moment vac person }
+    ensures answer { (h : History) → R.tells reads.now h → result ≡ explain_answer h moment vac number }
     ensures suits { R.suits reads.now work.new }
 {
-    match &reads.vacancy(vac) {
-        Some(job) => person_answer(reads, work, moment, job, person),
-        None => Reply::UnknownVacancy,
+    let Some(job) = &reads.vacancy(vac) else {
+        return Reply::UnknownVacancy;
+    };
+    let Some(person) = &reads.person(number) else {
+        return Reply::UnknownPerson;
+    };
+    match judge(reads, work, moment, job, number, person) {
+        Ok(place) => Reply::Clear {
+            board: place.board,
+            position: place.position,
+        },
+        Err(refusal) => refusal,
     }
 }

@@ -25,7 +25,7 @@ pub(crate) fn list_answer<R: Reads>(
         Reply::Used
     } else if reads.list_count(person) >= LIST_LIMIT {
         Reply::ListsFull
-    } else if reads.member_count(work, board) >= MEMBER_LIMIT {
+    } else if usize::from(reads.member_count(work, board)) >= MEMBER_LIMIT {
         Reply::MembersFull
     } else {
         Reply::Done

@@ -1,10 +1,22 @@
-ghost use Rattle.std.specs.Prelude.{◌≡◌};
+ghost use Rattle.std.specs.Prelude.{◌≡◌, unwrap_or};
+ghost use Rattle.desk_model.specs.declared.reply.Reply.{Reply};
 ghost use Rattle.desk_model.specs.History.{History};
-ghost use Rattle.desk_model.specs.NextAnswer.{vacant_answer, state_answer, next_answer};
+ghost use Rattle.desk_model.specs.NextAnswer.{vacant_answer, unless_closed, next_answer};
 
 use crate::Reads;
 use desk_base::{Minute, VacNo};
 use desk_model::{Job, Reply, VacState};
+
+/// Why a vacancy that stands so can't be offered; `None` where it is vacant.
+pub(crate) fn closed(state: VacState) -> Option<Reply>
+    ensures { (other : Reply) → unwrap_or result other ≡ unless_closed state other }
+{
+    match &state {
+        VacState::Vacant => None,
+        VacState::OnOffer(person) => Some(Reply::OfferOpen(*person)),
+        VacState::Taken(_) | VacState::Begun(_) | VacState::Annulled => Some(Reply::Closed(state)),
+    }
+}
 
 // The answer where the vacancy is vacant.
 fn vacant_answer<R: Reads>(reads: &R, work: &mut R::Work, moment: Minute, job: &Job) -> Reply
@@ -27,26 +39,6 @@ fn vacant_answer<R: Reads>(reads: &R, work: &mut R::Work, moment: Minute, job: &
     }
 }
 
-// The answer by how the vacancy stands.
-fn state_answer<R: Reads>(
-    reads: &R,
-    work: &mut R::Work,
-    moment: Minute,
-    job: &Job,
-    state: VacState,
-) -> Reply
-    requires { R.suits reads.now work.old }
-    ensures answer { (h : History) → R.tells reads.now h
-        → result ≡ state_answer h moment job.now state }
-    ensures suits { R.suits reads.now work.new }
-{
-    match &state {
-        VacState::Taken(_) | VacState::Begun(_) | VacState::Annulled => Reply::Closed(state),
-        VacState::OnOffer(person) => Reply::OfferOpen(*person),
-        VacState::Vacant => vacant_answer(reads, work, moment, job),
-    }
-}
-
 /// The answer to `next` at a moment.
 pub(crate) fn next_answer<R: Reads>(
     reads: &R,
@@ -58,8 +50,11 @@ pub(crate) fn next_answer<R: Reads>(
     ensures answer { (h : History) → R.tells reads.now h → result ≡ next_answer h moment vac }
     ensures suits { R.suits reads.now work.new }
 {
-    match &reads.vacancy(vac) {
-        Some(job) => state_answer(reads, work, moment, job, reads.state(job.vac())),
-        None => Reply::UnknownVacancy,
+    let Some(job) = &reads.vacancy(vac) else {
+        return Reply::UnknownVacancy;
+    };
+    match closed(reads.state(vac)) {
+        Some(refusal) => refusal,
+        None => vacant_answer(reads, work, moment, job),
     }
 }

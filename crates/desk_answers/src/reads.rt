@@ -1,4 +1,5 @@
-ghost use Rattle.std.specs.Prelude.{◌≡◌, length};
+ghost use Rattle.std.specs.Prelude.{◌≡◌, IfSome, length};
+ghost use Rattle.desk_base.specs.Minute.{IsInYears};
 ghost use Rattle.duty_events.specs.Allowed.{judge};
 ghost use Rattle.duty_events.specs.Lists.{stage_of, latest};
 ghost use Rattle.month_hours.specs.Used.{used};
@@ -6,14 +7,18 @@ ghost use Rattle.month_hours.specs.Capped.{capped};
 ghost use Rattle.desk_model.specs.Register.{person_of, persons, board_of, boards, vacancy_of, vacancies};
 ghost use Rattle.desk_model.specs.Boards.{is_on, boards_of, order, chain};
 ghost use Rattle.desk_model.specs.Duty.{events, is_closed};
-ghost use Rattle.desk_model.specs.Offers.{on_offer, state_of};
+ghost use Rattle.desk_model.specs.Offers.{open_offer, on_offer};
+ghost use Rattle.desk_model.specs.Marks.{is_marked_off};
+ghost use Rattle.desk_model.specs.Assigned.{assigned};
+ghost use Rattle.desk_model.specs.States.{state_of};
 ghost use Rattle.desk_model.specs.Bars.{bar_of, first_free};
 ghost use Rattle.desk_model.specs.ExplainAnswer.{place_in};
+ghost use Rattle.desk_model.specs.LookAnswer.{member_at};
 ghost use Rattle.desk_model.specs.Legal.{last_moment};
 
 use denial_rules::Bar;
 use desk_base::{Code, Minute, Month, PersonNo, VacNo};
-use desk_model::{BoardSetup, Chain, Job, Link, Opening, Person, VacState};
+use desk_model::{BoardSetup, Chain, Job, Link, Offer, Opening, Person, VacState};
 use duty_events::{Event, EventFault, Stage};
 
 /// What can tell of the history that it stands for. It may want memory to work in.
@@ -37,7 +42,7 @@ pub trait Reads {
     fn last_moment(&self) -> Minute
         ensures { (h : History) → tells self.now h → result ≡ last_moment h };
 
-    /// What the person was enrolled with; `None` where nobody has the number.
+    /// What the person was enrolled as; `None` where nobody has the number.
     fn person(&self, person: PersonNo) -> Option<Person>
         ensures { (h : History) → tells self.now h → result ≡ person_of h person };
 
@@ -74,14 +79,33 @@ pub trait Reads {
         ensures { (h : History) → tells self.now h → result ≡ length (boards_of h person) };
 
     /// How many persons are on the board.
-    fn member_count(&self, work: &mut Self::Work, board: &Code) -> usize
+    fn member_count(&self, work: &mut Self::Work, board: &Code) -> u16
         requires { suits self.now work.old }
         ensures answer { (h : History) → tells self.now h → result ≡ length (order h board.now) }
         ensures suits { suits self.now work.new };
 
+    /// Who stands at this place of the board, from 1; `None` where nobody does.
+    fn member_at(&self, work: &mut Self::Work, board: &Code, place: u16) -> Option<PersonNo>
+        requires { suits self.now work.old }
+        ensures answer { (h : History) → tells self.now h → result ≡ member_at h board.now place }
+        ensures suits { suits self.now work.new };
+
+    /// Whether the person is marked off.
+    fn is_marked_off(&self, person: PersonNo) -> bool
+        ensures { (h : History) → tells self.now h → result ≡ is_marked_off h person };
+
+    /// The vacancy that is assigned to the person; `None` where none is.
+    fn assigned(&self, person: PersonNo) -> Option<VacNo>
+        ensures { (h : History) → tells self.now h → result ≡ assigned h person };
+
     /// Whether what the person did before they were listed can't be told any more.
     fn is_closed(&self, person: PersonNo) -> bool
         ensures { (h : History) → tells self.now h → result ≡ is_closed h person };
+
+    /// The open offer of the vacancy, made in the years 2000 to 2099; `None` where none is open.
+    fn offer(&self, vac: VacNo) -> Option<Offer>
+        ensures answer { (h : History) → tells self.now h → result ≡ open_offer h vac }
+        ensures made { IfSome result (λ offer. IsInYears offer.made) };
 
     /// The vacancy that is on offer to the person; `None` where none is.
     fn on_offer(&self, person: PersonNo) -> Option<VacNo>

@@ -1,0 +1,51 @@
+ghost use Rattle.std.specs.Prelude.{◌≡◌};
+ghost use Rattle.desk_model.specs.History.{History};
+ghost use Rattle.desk_model.specs.OfferAnswer.{named_answer, offer_answer};
+
+use crate::Reads;
+use crate::explain_answer::judge;
+use crate::next_answer::closed;
+use desk_base::{Minute, PersonNo, VacNo};
+use desk_model::{Link, Reply};
+
+// The answer where nothing bars the person, whose place this is, and the first whom nothing bars is this one.
+fn named_answer(person: PersonNo, first: &Option<Link>, place: &Link) -> Reply
+    ensures { result ≡ named_answer person first.now place.now }
+{
+    let offered = Reply::Offered {
+        person,
+        board: place.board,
+        position: place.position,
+    };
+    match first {
+        Some(first) if first.person != person => Reply::RunAround(first.person),
+        _ => offered,
+    }
+}
+
+/// The answer to `offer` at a moment.
+pub(crate) fn offer_answer<R: Reads>(
+    reads: &R,
+    work: &mut R::Work,
+    moment: Minute,
+    vac: VacNo,
+    number: PersonNo,
+) -> Reply
+    requires { R.suits reads.now work.old }
+    ensures answer { (h : History) → R.tells reads.now h → result ≡ offer_answer h moment vac number }
+    ensures suits { R.suits reads.now work.new }
+{
+    let Some(job) = &reads.vacancy(vac) else {
+        return Reply::UnknownVacancy;
+    };
+    let Some(person) = &reads.person(number) else {
+        return Reply::UnknownPerson;
+    };
+    if let Some(refusal) = closed(reads.state(vac)) {
+        return refusal;
+    }
+    match judge(reads, work, moment, job, number, person) {
+        Ok(place) => named_answer(number, &reads.first_free(work, moment, job), &place),
+        Err(refusal) => refusal,
+    }
+}
