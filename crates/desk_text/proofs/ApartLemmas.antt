@@ -32,7 +32,7 @@ use Rattle.desk_model.proofs.ChainLemmas.{parts_by-chain_text}
 use Rattle.desk_text.specs.Spelled.{StatesCommand}
 use Rattle.desk_text.proofs.SpelledLemmas.{apart, job-of}
 
-number-one : (a b : ℕ) → IsNumber a → IsNumber b → decimal a ≡ decimal b → a ≡ b
+pub number-one : (a b : ℕ) → IsNumber a → IsNumber b → decimal a ≡ decimal b → a ≡ b
 number-one a b ha hb e = decimal_injective a b (omega (arith, ha.1)) (omega (arith, hb.1)) e
 
 pub minute_text-one : (a b : ℕ) → minute_text a ≡ minute_text b → a ≡ b
@@ -43,16 +43,11 @@ minute_text-one a b e =
     let day : day_of a ≡ day_of b = omega (arith, s.day, t.day, ap first_day month) in
     omega (arith, day, s.hour, s.past, t.hour, t.past)
 
-craft_text-one : (a b : Craft) → craft_text a ≡ craft_text b → a ≡ b
+pub craft_text-one : (a b : Craft) → craft_text a ≡ craft_text b → a ≡ b
 craft_text-one craft.E craft.E e = refl
 craft_text-one craft.C craft.C e = refl
 craft_text-one craft.B craft.B e = refl
-craft_text-one craft.E craft.C e = absurd (apart (codes "E") (codes "C") refl e)
-craft_text-one craft.E craft.B e = absurd (apart (codes "E") (codes "B") refl e)
-craft_text-one craft.C craft.E e = absurd (apart (codes "C") (codes "E") refl e)
-craft_text-one craft.C craft.B e = absurd (apart (codes "C") (codes "B") refl e)
-craft_text-one craft.B craft.E e = absurd (apart (codes "B") (codes "E") refl e)
-craft_text-one craft.B craft.C e = absurd (apart (codes "B") (codes "C") refl e)
+craft_text-one a b e = absurd (apart (craft_text a) (craft_text b) refl e)
 
 sort_text-one : (a b : Bool) → sort_text a ≡ sort_text b → a ≡ b
 sort_text-one true true e = refl
@@ -98,13 +93,11 @@ job_fields-one a b ha hb e =
     let chain = chain_text-one a.chain b.chain ha.chain hb.chain (ap (λ l. get_or l 7 []) e) in
     job-of b a.vac a.craft a.quals a.place a.report a.duty a.limbo a.chain vac craft quals place report duty limbo chain
 
-kind_text-one : (a b : Kind) → kind_text a ≡ kind_text b → a ≡ b
+pub kind_text-one : (a b : Kind) → kind_text a ≡ kind_text b → a ≡ b
 kind_text-one kind.D kind.D e = refl
 kind_text-one kind.P kind.P e = refl
 kind_text-one kind.O kind.O e = refl
-kind_text-one kind.D other e = absurd (apart (codes "D") (kind_text other) refl e)
-kind_text-one kind.P other e = absurd (apart (codes "P") (kind_text other) refl e)
-kind_text-one kind.O other e = absurd (apart (codes "O") (kind_text other) refl e)
+kind_text-one a b e = absurd (apart (kind_text a) (kind_text b) refl e)
 
 pub month_text-one : (a b : ℕ) → month_text a ≡ month_text b → a ≡ b
 month_text-one a b e =
@@ -114,33 +107,55 @@ month_text-one a b e =
 
 pub event_fields-one : (a b : Event) → event_fields a ≡ event_fields b → a ≡ b
 event_fields-one (event.Ride t) (event.Ride t') e = ap event.Ride (minute_text-one t t' (ap (λ l. get_or l 1 []) e))
-event_fields-one (event.Ride t) other e = absurd (apart (codes "ride") (get_or (event_fields other) 0 []) refl (ap (λ l. get_or l 0 []) e))
 event_fields-one (event.Duty t) (event.Duty t') e = ap event.Duty (minute_text-one t t' (ap (λ l. get_or l 1 []) e))
-event_fields-one (event.Duty t) other e = absurd (apart (codes "duty") (get_or (event_fields other) 0 []) refl (ap (λ l. get_or l 0 []) e))
 event_fields-one (event.Interim t k p) (event.Interim t' k' p') e =
     let at = minute_text-one t t' (ap (λ l. get_or l 1 []) e) in
     let kind = kind_text-one k k' (ap (λ l. get_or l 2 []) e) in
     let place : p ≡ p' = ap (λ l. get_or l 3 []) e in
     rw (at, kind, place) refl
-event_fields-one (event.Interim t k p) other e = absurd (apart (codes "interim") (get_or (event_fields other) 0 []) refl (ap (λ l. get_or l 0 []) e))
 event_fields-one (event.Resume t) (event.Resume t') e = ap event.Resume (minute_text-one t t' (ap (λ l. get_or l 1 []) e))
-event_fields-one (event.Resume t) other e = absurd (apart (codes "resume") (get_or (event_fields other) 0 []) refl (ap (λ l. get_or l 0 []) e))
 event_fields-one (event.Relieve t) (event.Relieve t') e = ap event.Relieve (minute_text-one t t' (ap (λ l. get_or l 1 []) e))
-event_fields-one (event.Relieve t) other e = absurd (apart (codes "relieve") (get_or (event_fields other) 0 []) refl (ap (λ l. get_or l 0 []) e))
 event_fields-one (event.RideHome t) (event.RideHome t') e = ap event.RideHome (minute_text-one t t' (ap (λ l. get_or l 1 []) e))
-event_fields-one (event.RideHome t) other e = absurd (apart (codes "ridehome") (get_or (event_fields other) 0 []) refl (ap (λ l. get_or l 0 []) e))
 event_fields-one (event.Final t p) (event.Final t' p') e =
     let at = minute_text-one t t' (ap (λ l. get_or l 1 []) e) in
     let place : p ≡ p' = ap (λ l. get_or l 2 []) e in
     rw (at, place) refl
-event_fields-one (event.Final t p) other e = absurd (apart (codes "final") (get_or (event_fields other) 0 []) refl (ap (λ l. get_or l 0 []) e))
 event_fields-one (event.Other s p) (event.Other s' p') e =
     let from = minute_text-one s.from s'.from (ap (λ l. get_or l 1 []) e) in
     let to = minute_text-one s.to s'.to (ap (λ l. get_or l 2 []) e) in
     let place : p ≡ p' = ap (λ l. get_or l 3 []) e in
     let same : event.Other (span_of s.from s.to) p ≡ event.Other (span_of s'.from s'.to) p' = rw (from, to, place) refl in
     same
-event_fields-one (event.Other s p) other e = absurd (apart (codes "other") (get_or (event_fields other) 0 []) refl (ap (λ l. get_or l 0 []) e))
+event_fields-one a b e = absurd (apart (get_or (event_fields a) 0 []) (get_or (event_fields b) 0 []) refl (ap (λ l. get_or l 0 []) e))
+
+-- a command about a person, or about a vacancy, has no other text; `about` is the command
+number_fields-one : (about : ℕ → Cmd) (w : List ℕ) (n n' : ℕ) → IsNumber n → IsNumber n'
+    → w ∷ decimal n ∷ [] ≡ w ∷ decimal n' ∷ [] → about n ≡ about n'
+number_fields-one about w n n' h h' e = ap about (number-one n n' h h' (ap (λ l. get_or l 1 []) e))
+
+-- nor has one about a person and a board
+board_fields-one : (about : ℕ → List ℕ → Cmd) (w : List ℕ) (p : ℕ) (b : List ℕ) (p' : ℕ) (b' : List ℕ) → IsNumber p → IsNumber p'
+    → w ∷ decimal p ∷ b ∷ [] ≡ w ∷ decimal p' ∷ b' ∷ [] → about p b ≡ about p' b'
+board_fields-one about w p b p' b' h h' e =
+    let person = number-one p p' h h' (ap (λ l. get_or l 1 []) e) in
+    let board : b ≡ b' = ap (λ l. get_or l 2 []) e in
+    rw (person, board) refl
+
+-- nor one about a vacancy and a person
+offer_fields-one : (about : ℕ → ℕ → Cmd) (w : List ℕ) (v p v' p' : ℕ) → IsNumber v × IsNumber p → IsNumber v' × IsNumber p'
+    → w ∷ decimal v ∷ decimal p ∷ [] ≡ w ∷ decimal v' ∷ decimal p' ∷ [] → about v p ≡ about v' p'
+offer_fields-one about w v p v' p' h h' e =
+    let vac = number-one v v' h.0 h'.0 (ap (λ l. get_or l 1 []) e) in
+    let person = number-one p p' h.1 h'.1 (ap (λ l. get_or l 2 []) e) in
+    rw (vac, person) refl
+
+-- nor one about a person and an event
+told_fields-one : (about : ℕ → Event → Cmd) (w : List ℕ) (p : ℕ) (t : Event) (p' : ℕ) (t' : Event) → IsNumber p → IsNumber p'
+    → w ∷ decimal p ∷ event_fields t ≡ w ∷ decimal p' ∷ event_fields t' → about p t ≡ about p' t'
+told_fields-one about w p t p' t' h h' e =
+    let person = number-one p p' h h' (ap (λ l. get_or l 1 []) e) in
+    let told = event_fields-one t t' (ap (λ l. drop 2 l) e) in
+    rw (person, told) refl
 
 command_fields-one : (a b : Cmd) → IsCommand a → IsCommand b → command_fields a ≡ command_fields b → a ≡ b
 command_fields-one (cmd.Enrol p c h q) (cmd.Enrol p' c' h' q') ha hb e =
@@ -149,42 +164,41 @@ command_fields-one (cmd.Enrol p c h q) (cmd.Enrol p' c' h' q') ha hb e =
     let home : h ≡ h' = ap (λ l. get_or l 3 []) e in
     let quals = quals_text-one q q' ha.2 hb.2 (ap (λ l. get_or l 4 []) e) in
     rw (person, craft, home, quals) refl
-command_fields-one (cmd.Enrol p c h q) other ha hb e = absurd (apart (codes "enrol") (get_or (command_fields other) 0 []) refl (ap (λ l. get_or l 0 []) e))
 command_fields-one (cmd.Board b x p) (cmd.Board b' x' p') ha hb e =
     let board : b ≡ b' = ap (λ l. get_or l 1 []) e in
     let extra = sort_text-one x x' (ap (λ l. get_or l 2 []) e) in
     let place : p ≡ p' = ap (λ l. get_or l 3 []) e in
     rw (board, extra, place) refl
-command_fields-one (cmd.Board b x p) other ha hb e = absurd (apart (codes "board") (get_or (command_fields other) 0 []) refl (ap (λ l. get_or l 0 []) e))
-command_fields-one (cmd.List p b) (cmd.List p' b') ha hb e =
+command_fields-one (cmd.List p b) (cmd.List p' b') ha hb e = board_fields-one cmd.List _ p b p' b' ha.0 hb.0 e
+command_fields-one (cmd.Unlist p b) (cmd.Unlist p' b') ha hb e = board_fields-one cmd.Unlist _ p b p' b' ha.0 hb.0 e
+command_fields-one (cmd.MarkOff p) (cmd.MarkOff p') ha hb e = number_fields-one cmd.MarkOff _ p p' ha hb e
+command_fields-one (cmd.MarkOn p) (cmd.MarkOn p') ha hb e = number_fields-one cmd.MarkOn _ p p' ha hb e
+command_fields-one (cmd.Qualify p q) (cmd.Qualify p' q') ha hb e =
     let person = number-one p p' ha.0 hb.0 (ap (λ l. get_or l 1 []) e) in
-    let board : b ≡ b' = ap (λ l. get_or l 2 []) e in
-    rw (person, board) refl
-command_fields-one (cmd.List p b) other ha hb e = absurd (apart (codes "list") (get_or (command_fields other) 0 []) refl (ap (λ l. get_or l 0 []) e))
-command_fields-one (cmd.Past p t) (cmd.Past p' t') ha hb e =
-    let person = number-one p p' ha.0 hb.0 (ap (λ l. get_or l 1 []) e) in
-    let told = event_fields-one t t' (ap (λ l. drop 2 l) e) in
-    rw (person, told) refl
-command_fields-one (cmd.Past p t) other ha hb e = absurd (apart (codes "past") (get_or (command_fields other) 0 []) refl (ap (λ l. get_or l 0 []) e))
-command_fields-one (cmd.Happened p t) (cmd.Happened p' t') ha hb e =
-    let person = number-one p p' ha.0 hb.0 (ap (λ l. get_or l 1 []) e) in
-    let told = event_fields-one t t' (ap (λ l. drop 2 l) e) in
-    rw (person, told) refl
-command_fields-one (cmd.Happened p t) other ha hb e = absurd (apart (codes "event") (get_or (command_fields other) 0 []) refl (ap (λ l. get_or l 0 []) e))
+    let quals = quals_text-one q q' ha.1 hb.1 (ap (λ l. get_or l 2 []) e) in
+    rw (person, quals) refl
+command_fields-one (cmd.Past p t) (cmd.Past p' t') ha hb e = told_fields-one cmd.Past _ p t p' t' ha.0 hb.0 e
+command_fields-one (cmd.Happened p t) (cmd.Happened p' t') ha hb e = told_fields-one cmd.Happened _ p t p' t' ha.0 hb.0 e
 command_fields-one (cmd.Vacancy job) (cmd.Vacancy job') ha hb e = ap cmd.Vacancy (job_fields-one job job' ha hb (ap (λ l. drop 1 l) e))
-command_fields-one (cmd.Vacancy job) other ha hb e = absurd (apart (codes "vacancy") (get_or (command_fields other) 0 []) refl (ap (λ l. get_or l 0 []) e))
-command_fields-one (cmd.Next v) (cmd.Next v') ha hb e = ap cmd.Next (number-one v v' ha hb (ap (λ l. get_or l 1 []) e))
-command_fields-one (cmd.Next v) other ha hb e = absurd (apart (codes "next") (get_or (command_fields other) 0 []) refl (ap (λ l. get_or l 0 []) e))
+command_fields-one (cmd.Next v) (cmd.Next v') ha hb e = number_fields-one cmd.Next _ v v' ha hb e
+command_fields-one (cmd.Offer v p) (cmd.Offer v' p') ha hb e = offer_fields-one cmd.Offer _ v p v' p' ha hb e
+command_fields-one (cmd.Accept v p) (cmd.Accept v' p') ha hb e = offer_fields-one cmd.Accept _ v p v' p' ha hb e
+command_fields-one (cmd.Decline v p) (cmd.Decline v' p') ha hb e = offer_fields-one cmd.Decline _ v p v' p' ha hb e
+command_fields-one (cmd.NoAnswer v p) (cmd.NoAnswer v' p') ha hb e = offer_fields-one cmd.NoAnswer _ v p v' p' ha hb e
+command_fields-one (cmd.Withdraw v p) (cmd.Withdraw v' p') ha hb e = offer_fields-one cmd.Withdraw _ v p v' p' ha hb e
+command_fields-one (cmd.Annul v) (cmd.Annul v') ha hb e = number_fields-one cmd.Annul _ v v' ha hb e
+command_fields-one (cmd.Drop p) (cmd.Drop p') ha hb e = number_fields-one cmd.Drop _ p p' ha hb e
 command_fields-one (cmd.Hours p m) (cmd.Hours p' m') ha hb e =
     let person = number-one p p' ha.0 hb.0 (ap (λ l. get_or l 1 []) e) in
     let month = month_text-one m m' (ap (λ l. get_or l 2 []) e) in
     rw (person, month) refl
-command_fields-one (cmd.Hours p m) other ha hb e = absurd (apart (codes "hours") (get_or (command_fields other) 0 []) refl (ap (λ l. get_or l 0 []) e))
-command_fields-one (cmd.Explain v p) (cmd.Explain v' p') ha hb e =
-    let vac = number-one v v' ha.0 hb.0 (ap (λ l. get_or l 1 []) e) in
-    let person = number-one p p' ha.1 hb.1 (ap (λ l. get_or l 2 []) e) in
-    rw (vac, person) refl
-command_fields-one (cmd.Explain v p) other ha hb e = absurd (apart (codes "explain") (get_or (command_fields other) 0 []) refl (ap (λ l. get_or l 0 []) e))
+command_fields-one (cmd.At b k) (cmd.At b' k') ha hb e =
+    let board : b ≡ b' = ap (λ l. get_or l 1 []) e in
+    let place = decimal_injective k k' (omega (arith, ha.2)) (omega (arith, hb.2)) (ap (λ l. get_or l 2 []) e) in
+    rw (board, place) refl
+command_fields-one (cmd.Explain v p) (cmd.Explain v' p') ha hb e = offer_fields-one cmd.Explain _ v p v' p' ha hb e
+command_fields-one (cmd.Vac v) (cmd.Vac v') ha hb e = number_fields-one cmd.Vac _ v v' ha hb e
+command_fields-one a b ha hb e = absurd (apart (get_or (command_fields a) 0 []) (get_or (command_fields b) 0 []) refl (ap (λ l. get_or l 0 []) e))
 
 -- fields state one thing at most
 pub stated_fields-one : (s t : StatedValue) → IsStated s → IsStated t → stated_fields s ≡ stated_fields t → s ≡ t

@@ -1,5 +1,6 @@
 pub mod FieldLemmas
 pub mod SpelledLemmas
 pub mod ApartLemmas
+pub mod ReplyApartLemmas
 pub mod PlainLemmas
 pub mod LineLemmas

@@ -78,6 +78,10 @@ reply_plain (reply.Offered p b k) is =
     word (codes "offered ") refl (append (decimal p ++ 32 ∷ b) (append (decimal p) (numbered p is.0) (mark 32 refl (code b is.1))) (mark 32 refl (number k (omega (arith, is.3)))))
 reply_plain (reply.Unfilled listed) is = word (codes "unfilled ") refl (number listed (omega (arith, is)))
 reply_plain (reply.Hours used capped) is = word (codes "hours") refl (pair used capped (omega (arith, is.0)) (omega (arith, is.1)))
+reply_plain (reply.Seen p) is = word (codes "seen ") refl (numbered p is)
+reply_plain (reply.NoOne count) is = word (codes "no one ") refl (number count (omega (arith, is)))
+reply_plain (reply.State how) is = word (codes "state ") refl (state_plain how is)
+reply_plain (reply.RunAround p) is = word (codes "run around ") refl (numbered p is)
 reply_plain (reply.Denied b) is = word (codes "denied ") refl (bar_plain b is)
 reply_plain (reply.Clear b k) is = word (codes "clear ") refl (append b (code b is.0) (mark 32 refl (number k (omega (arith, is.2)))))
 reply_plain (reply.Frozen v) is = word (codes "frozen ") refl (numbered v is)
@@ -89,11 +93,13 @@ reply_plain (reply.ReportPast r) is = word (codes "report past ") refl (minute r
 reply_plain (reply.Closed how) is = word (codes "closed ") refl (state_plain how is)
 reply_plain (reply.OfferOpen p) is = word (codes "offer open ") refl (numbered p is)
 reply_plain (reply.Lapsed r) is = word (codes "lapsed ") refl (late r is.1)
+reply_plain (reply.EarlyNoAnswer deadline) is = word (codes "early ") refl (late deadline is.1)
 reply_plain reply.Done is = literal (codes "done") refl
 reply_plain reply.NotListed is = literal (codes "not listed") refl
 reply_plain reply.PastClosed is = literal (codes "past closed") refl
 reply_plain reply.OutsideWindow is = literal (codes "outside window") refl
 reply_plain reply.Used is = literal (codes "used") refl
+reply_plain reply.Already is = literal (codes "already") refl
 reply_plain reply.PersonsFull is = literal (codes "persons full") refl
 reply_plain reply.BoardsFull is = literal (codes "boards full") refl
 reply_plain reply.UnknownPerson is = literal (codes "unknown person") refl
@@ -102,6 +108,8 @@ reply_plain reply.MembersFull is = literal (codes "members full") refl
 reply_plain reply.VacanciesFull is = literal (codes "vacancies full") refl
 reply_plain reply.PlanTooLong is = literal (codes "plan too long 21103(a)(2)") refl
 reply_plain reply.UnknownVacancy is = literal (codes "unknown vacancy") refl
+reply_plain reply.NoOffer is = literal (codes "no offer") refl
+reply_plain reply.NotAssigned is = literal (codes "not assigned") refl
 
 -- ---- lines
 

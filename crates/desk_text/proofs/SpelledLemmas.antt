@@ -44,12 +44,25 @@ pub has_word : (command : Cmd) → HasWord command
 has_word (cmd.Enrol person craft home quals) = record { word = word.Enrol; about = _; fields_are = refl }
 has_word (cmd.Board board extra place) = record { word = word.Board; about = _; fields_are = refl }
 has_word (cmd.List person board) = record { word = word.List; about = _; fields_are = refl }
+has_word (cmd.Unlist person board) = record { word = word.Unlist; about = _; fields_are = refl }
+has_word (cmd.MarkOff person) = record { word = word.Off; about = _; fields_are = refl }
+has_word (cmd.MarkOn person) = record { word = word.On; about = _; fields_are = refl }
+has_word (cmd.Qualify person quals) = record { word = word.Qualify; about = _; fields_are = refl }
 has_word (cmd.Past person event) = record { word = word.Past; about = _; fields_are = refl }
 has_word (cmd.Happened person event) = record { word = word.Event; about = _; fields_are = refl }
 has_word (cmd.Vacancy job) = record { word = word.Vacancy; about = _; fields_are = refl }
 has_word (cmd.Next vac) = record { word = word.Next; about = _; fields_are = refl }
+has_word (cmd.Offer vac person) = record { word = word.Offer; about = _; fields_are = refl }
+has_word (cmd.Accept vac person) = record { word = word.Accept; about = _; fields_are = refl }
+has_word (cmd.Decline vac person) = record { word = word.Decline; about = _; fields_are = refl }
+has_word (cmd.NoAnswer vac person) = record { word = word.NoAnswer; about = _; fields_are = refl }
+has_word (cmd.Withdraw vac person) = record { word = word.Withdraw; about = _; fields_are = refl }
+has_word (cmd.Annul vac) = record { word = word.Annul; about = _; fields_are = refl }
+has_word (cmd.Drop person) = record { word = word.Drop; about = _; fields_are = refl }
 has_word (cmd.Hours person month) = record { word = word.Hours; about = _; fields_are = refl }
+has_word (cmd.At board place) = record { word = word.At; about = _; fields_are = refl }
 has_word (cmd.Explain vac person) = record { word = word.Explain; about = _; fields_are = refl }
+has_word (cmd.Vac vac) = record { word = word.Vac; about = _; fields_are = refl }
 
 -- an enrolment, and its fields behind the word
 pub record IsEnrolment (about : List (List ℕ)) (command : Cmd) : Type 0 where

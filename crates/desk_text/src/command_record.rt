@@ -5,8 +5,14 @@ ghost use Rattle.desk_model.specs.Statement.{StatedValue};
 ghost use Rattle.desk_text.specs.Spelled.{SpellsCommand, StatesCommand};
 
 use crate::spelled_command::{
-    read_board, read_enrol, read_explain, read_happened, read_hours, read_list, read_next,
-    read_past, read_vacancy,
+    read_annul, read_at, read_board, read_next, read_vac_state, read_vacancy,
+};
+use crate::spelled_offer::{
+    read_accept, read_decline, read_explain, read_no_answer, read_offer, read_withdraw,
+};
+use crate::spelled_person::{
+    read_drop, read_enrol, read_happened, read_hours, read_list, read_off, read_on, read_past,
+    read_qualify, read_unlist,
 };
 use crate::word::Word;
 use desk_base::Minute;
@@ -19,12 +25,15 @@ use desk_model::{Cmd, Stated};
 /// |---|---|
 /// | `enrol` | person, craft, home, qualifications |
 /// | `board` | board, `pool` or `extra`, place |
-/// | `list` | person, board |
+/// | `list`, `unlist` | person, board |
+/// | `off`, `on`, `drop` | person |
+/// | `qualify` | person, qualifications |
 /// | `past`, `event` | person, and an event |
 /// | `vacancy` | vacancy, craft, qualifications, place, report, duty, limbo, chain |
-/// | `next` | vacancy |
+/// | `next`, `annul`, `vac` | vacancy |
+/// | `offer`, `accept`, `decline`, `noanswer`, `withdraw`, `explain` | vacancy, person |
 /// | `hours` | person, month |
-/// | `explain` | vacancy, person |
+/// | `at` | board, place |
 pub fn read_command(fields: &[&[u8]]) -> Option<Stated>
     ensures some { IfSome result (StatesCommand (map (λ field. field.now) fields.now)) }
     ensures only { (s : StatedValue) → StatesCommand (map (λ field. field.now) fields.now) s
@@ -53,11 +62,24 @@ fn read_cmd(fields: &[&[u8]]) -> Option<Cmd>
         Word::Enrol => read_enrol(about),
         Word::Board => read_board(about),
         Word::List => read_list(about),
+        Word::Unlist => read_unlist(about),
+        Word::Off => read_off(about),
+        Word::On => read_on(about),
+        Word::Qualify => read_qualify(about),
         Word::Past => read_past(about),
         Word::Event => read_happened(about),
         Word::Vacancy => read_vacancy(about),
         Word::Next => read_next(about),
+        Word::Offer => read_offer(about),
+        Word::Accept => read_accept(about),
+        Word::Decline => read_decline(about),
+        Word::NoAnswer => read_no_answer(about),
+        Word::Withdraw => read_withdraw(about),
+        Word::Annul => read_annul(about),
+        Word::Drop => read_drop(about),
         Word::Hours => read_hours(about),
+        Word::At => read_at(about),
         Word::Explain => read_explain(about),
+        Word::Vac => read_vac_state(about),
     }
 }

@@ -1,5 +1,5 @@
 //! Single fields of a record, read.
-ghost use Rattle.std.specs.Prelude.{◌≡◌, ◌<◌, ◌^◌, ℕ, Bool, decimal, IfSome};
+ghost use Rattle.std.specs.Prelude.{◌≡◌, ◌<◌, ◌≤◌, ◌^◌, ℕ, Bool, decimal, IfSome};
 ghost use Rattle.desk_base.specs.Number.{IsNumber};
 ghost use Rattle.desk_model.specs.StatedTexts.{sort_text};
 
@@ -29,6 +29,21 @@ pub fn read_minutes(text: &[u8]) -> Option<u16>
         → result ≡ Some minutes }
 {
     u16::try_from(read_decimal(text)?).ok()
+}
+
+/// The place of a board, 1 to 9,999, that a field spells in decimal.
+pub fn read_place(text: &[u8]) -> Option<u16>
+    ensures some { IfSome result (λ place. (1 ≤ place) × (place ≤ 9_999)
+        × (text.now ≡ decimal place)) }
+    ensures only { (place : ℕ) → 1 ≤ place → place ≤ 9_999 → text.now ≡ decimal place
+        → result ≡ Some place }
+{
+    let place = u16::try_from(read_decimal(text)?).ok()?;
+    if place >= 1 && place <= 9_999 {
+        Some(place)
+    } else {
+        None
+    }
 }
 
 /// Whether a board is an extra board, which a field spells as `extra` or `pool`.

@@ -3,6 +3,7 @@
 
 mod bar_line;
 mod command_record;
+mod different_replies;
 mod each_line;
 mod entry_line;
 mod field;
@@ -12,10 +13,13 @@ mod opening_line;
 mod reply_line;
 mod spelled_command;
 mod spelled_event;
+mod spelled_offer;
+mod spelled_person;
 mod stated_line;
 mod word;
 
 pub use command_record::read_command;
+pub use different_replies::different_replies_have_different_texts;
 pub use each_line::each_line_ends_once;
 pub use entry_line::write_entry;
 pub use line_text::LineText;
@@ -24,5 +28,9 @@ pub use opening_line::write_opening;
 
 #[cfg(test)]
 mod command_tests;
+#[cfg(test)]
+mod refused_tests;
+#[cfg(test)]
+mod reply_tests;
 #[cfg(test)]
 mod tests;

@@ -20,6 +20,7 @@ pub fn put_reply(line: &mut LineText, reply: &Reply)
         Reply::OutsideWindow => put(line, b"outside window"),
         Reply::PastClosed => put(line, b"past closed"),
         Reply::Used => put(line, b"used"),
+        Reply::Already => put(line, b"already"),
         Reply::PersonsFull => put(line, b"persons full"),
         Reply::BoardsFull => put(line, b"boards full"),
         Reply::UnknownPerson => put(line, b"unknown person"),
@@ -29,6 +30,8 @@ pub fn put_reply(line: &mut LineText, reply: &Reply)
         Reply::PlanTooLong => put(line, b"plan too long 21103(a)(2)"),
         Reply::UnknownVacancy => put(line, b"unknown vacancy"),
         Reply::NotListed => put(line, b"not listed"),
+        Reply::NoOffer => put(line, b"no offer"),
+        Reply::NotAssigned => put(line, b"not assigned"),
         Reply::Denied(bar) => {
             put(line, b"denied ");
             put_bar(line, bar);
@@ -48,6 +51,22 @@ pub fn put_reply(line: &mut LineText, reply: &Reply)
             put_number(line, *used);
             put(line, b" ");
             put_number(line, *capped);
+        }
+        Reply::Seen(person) => {
+            put(line, b"seen ");
+            put_number(line, person.number());
+        }
+        Reply::NoOne { length } => {
+            put(line, b"no one ");
+            put_number(line, u32::from(*length));
+        }
+        Reply::State(state) => {
+            put(line, b"state ");
+            put_state(line, state);
+        }
+        Reply::RunAround(person) => {
+            put(line, b"run around ");
+            put_number(line, person.number());
         }
         Reply::Frozen(vac) => {
             put(line, b"frozen ");
@@ -81,6 +100,10 @@ pub fn put_reply(line: &mut LineText, reply: &Reply)
         Reply::Lapsed(report) => {
             put(line, b"lapsed ");
             put_late(line, *report);
+        }
+        Reply::EarlyNoAnswer(deadline) => {
+            put(line, b"early ");
+            put_late(line, *deadline);
         }
         Reply::Offered {
             person,

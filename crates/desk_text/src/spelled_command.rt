@@ -1,31 +1,13 @@
-//! Each command, read from the fields behind its word.
+//! Commands about a board or a vacancy, read from the fields behind their word.
 ghost use Rattle.std.specs.Prelude.{◌≡◌, IfSome, map};
 ghost use Rattle.desk_model.specs.declared.command.Cmd.{Cmd as CmdValue};
 ghost use Rattle.desk_text.specs.declared.word.Word.TheVariants as word;
 ghost use Rattle.desk_text.specs.Spelled.{Spells};
 
-use crate::field::{read_extra, read_minutes, read_person, read_vac};
-use crate::spelled_event::read_event;
-use desk_base::{Code, Minute, Month};
+use crate::field::{read_extra, read_minutes, read_place, read_vac};
+use desk_base::{Code, Minute};
 use desk_model::{Chain, Cmd, Job};
 use qualifications::{Craft, Quals};
-
-/// Person, craft, home and qualifications.
-pub fn read_enrol(about: &[&[u8]]) -> Option<Cmd>
-    ensures some { IfSome result (Spells word.Enrol (map (λ field. field.now) about.now)) }
-    ensures only { (cmd : CmdValue) → Spells word.Enrol (map (λ field. field.now) about.now) cmd
-        → result ≡ Some cmd }
-{
-    let [person, craft, home, quals] = about else {
-        return None;
-    };
-    Some(Cmd::Enrol {
-        person: read_person(person)?,
-        craft: Craft::read(craft)?,
-        home: Code::read(home)?,
-        quals: Quals::read(quals)?,
-    })
-}
 
 /// Board, sort and place.
 pub fn read_board(about: &[&[u8]]) -> Option<Cmd>
@@ -40,51 +22,6 @@ pub fn read_board(about: &[&[u8]]) -> Option<Cmd>
         board: Code::read(board)?,
         extra: read_extra(sort)?,
         place: Code::read(place)?,
-    })
-}
-
-/// Person and board.
-pub fn read_list(about: &[&[u8]]) -> Option<Cmd>
-    ensures some { IfSome result (Spells word.List (map (λ field. field.now) about.now)) }
-    ensures only { (cmd : CmdValue) → Spells word.List (map (λ field. field.now) about.now) cmd
-        → result ≡ Some cmd }
-{
-    let [person, board] = about else {
-        return None;
-    };
-    Some(Cmd::List {
-        person: read_person(person)?,
-        board: Code::read(board)?,
-    })
-}
-
-/// Person, and an event before the person was listed.
-pub fn read_past(about: &[&[u8]]) -> Option<Cmd>
-    ensures some { IfSome result (Spells word.Past (map (λ field. field.now) about.now)) }
-    ensures only { (cmd : CmdValue) → Spells word.Past (map (λ field. field.now) about.now) cmd
-        → result ≡ Some cmd }
-{
-    let [person, event @ ..] = about else {
-        return None;
-    };
-    Some(Cmd::Past {
-        person: read_person(person)?,
-        event: read_event(event)?,
-    })
-}
-
-/// Person, and an event.
-pub fn read_happened(about: &[&[u8]]) -> Option<Cmd>
-    ensures some { IfSome result (Spells word.Event (map (λ field. field.now) about.now)) }
-    ensures only { (cmd : CmdValue) → Spells word.Event (map (λ field. field.now) about.now) cmd
-        → result ≡ Some cmd }
-{
-    let [person, event @ ..] = about else {
-        return None;
-    };
-    Some(Cmd::Happened {
-        person: read_person(person)?,
-        event: read_event(event)?,
     })
 }
 
@@ -124,32 +61,45 @@ pub fn read_next(about: &[&[u8]]) -> Option<Cmd>
     })
 }
 
-/// Person and month.
-pub fn read_hours(about: &[&[u8]]) -> Option<Cmd>
-    ensures some { IfSome result (Spells word.Hours (map (λ field. field.now) about.now)) }
-    ensures only { (cmd : CmdValue) → Spells word.Hours (map (λ field. field.now) about.now) cmd
+/// Vacancy.
+pub fn read_annul(about: &[&[u8]]) -> Option<Cmd>
+    ensures some { IfSome result (Spells word.Annul (map (λ field. field.now) about.now)) }
+    ensures only { (cmd : CmdValue) → Spells word.Annul (map (λ field. field.now) about.now) cmd
         → result ≡ Some cmd }
 {
-    let [person, month] = about else {
+    let [vac] = about else {
         return None;
     };
-    Some(Cmd::Hours {
-        person: read_person(person)?,
-        month: Month::read(month)?,
+    Some(Cmd::Annul {
+        vac: read_vac(vac)?,
     })
 }
 
-/// Vacancy and person.
-pub fn read_explain(about: &[&[u8]]) -> Option<Cmd>
-    ensures some { IfSome result (Spells word.Explain (map (λ field. field.now) about.now)) }
-    ensures only { (cmd : CmdValue) → Spells word.Explain (map (λ field. field.now) about.now) cmd
+/// Board and place.
+pub fn read_at(about: &[&[u8]]) -> Option<Cmd>
+    ensures some { IfSome result (Spells word.At (map (λ field. field.now) about.now)) }
+    ensures only { (cmd : CmdValue) → Spells word.At (map (λ field. field.now) about.now) cmd
         → result ≡ Some cmd }
 {
-    let [vac, person] = about else {
+    let [board, place] = about else {
         return None;
     };
-    Some(Cmd::Explain {
+    Some(Cmd::At {
+        board: Code::read(board)?,
+        place: read_place(place)?,
+    })
+}
+
+/// Vacancy.
+pub fn read_vac_state(about: &[&[u8]]) -> Option<Cmd>
+    ensures some { IfSome result (Spells word.Vac (map (λ field. field.now) about.now)) }
+    ensures only { (cmd : CmdValue) → Spells word.Vac (map (λ field. field.now) about.now) cmd
+        → result ≡ Some cmd }
+{
+    let [vac] = about else {
+        return None;
+    };
+    Some(Cmd::Vac {
         vac: read_vac(vac)?,
-        person: read_person(person)?,
     })
 }

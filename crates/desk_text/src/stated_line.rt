@@ -1,11 +1,12 @@
 //! What is stated, as the fields of a record.
-ghost use Rattle.std.specs.Prelude.{◌≡◌, ◌≤◌, ◌+◌, ◌++◌, length};
+ghost use Rattle.std.specs.Prelude.{◌≡◌, ◌≤◌, ◌+◌, [], ◌∷◌, ◌++◌, length, decimal};
 ghost use Rattle.std.specs.List.{join_with_byte};
 ghost use Rattle.arrayvec.specs.ArrayVec.{array_vec_len};
 ghost use Rattle.desk_model.specs.StatedTexts.{command_fields, stated_fields, kind_text, event_fields, job_fields};
 ghost use Rattle.desk_text.specs.Marked.{marked};
 
 use crate::line_text::{LineText, put, put_field, put_number_field};
+use desk_base::{PersonNo, VacNo};
 use desk_model::{Cmd, Job, Stated};
 use duty_events::{Event, Kind};
 
@@ -32,8 +33,7 @@ fn put_command(line: &mut LineText, cmd: &Cmd)
             home,
             quals,
         } => {
-            put_field(line, b"enrol");
-            put_number_field(line, person.number());
+            put_about_person(line, b"enrol", *person);
             put_field(line, craft.text());
             put_field(line, home.text());
             put_field(line, quals.write().as_slice());
@@ -49,39 +49,82 @@ fn put_command(line: &mut LineText, cmd: &Cmd)
             put_field(line, place.text());
         }
         Cmd::List { person, board } => {
-            put_field(line, b"list");
-            put_number_field(line, person.number());
+            put_about_person(line, b"list", *person);
             put_field(line, board.text());
         }
+        Cmd::Unlist { person, board } => {
+            put_about_person(line, b"unlist", *person);
+            put_field(line, board.text());
+        }
+        Cmd::MarkOff { person } => put_about_person(line, b"off", *person),
+        Cmd::MarkOn { person } => put_about_person(line, b"on", *person),
+        Cmd::Qualify { person, quals } => {
+            put_about_person(line, b"qualify", *person);
+            put_field(line, quals.write().as_slice());
+        }
         Cmd::Past { person, event } => {
-            put_field(line, b"past");
-            put_number_field(line, person.number());
+            put_about_person(line, b"past", *person);
             put_event(line, event);
         }
         Cmd::Happened { person, event } => {
-            put_field(line, b"event");
-            put_number_field(line, person.number());
+            put_about_person(line, b"event", *person);
             put_event(line, event);
         }
         Cmd::Vacancy(job) => {
             put_field(line, b"vacancy");
             put_job(line, job);
         }
-        Cmd::Next { vac } => {
-            put_field(line, b"next");
-            put_number_field(line, vac.number());
-        }
+        Cmd::Next { vac } => put_about_vac(line, b"next", *vac),
+        Cmd::Offer { vac, person } => put_about_offer(line, b"offer", *vac, *person),
+        Cmd::Accept { vac, person } => put_about_offer(line, b"accept", *vac, *person),
+        Cmd::Decline { vac, person } => put_about_offer(line, b"decline", *vac, *person),
+        Cmd::NoAnswer { vac, person } => put_about_offer(line, b"noanswer", *vac, *person),
+        Cmd::Withdraw { vac, person } => put_about_offer(line, b"withdraw", *vac, *person),
+        Cmd::Annul { vac } => put_about_vac(line, b"annul", *vac),
+        Cmd::Drop { person } => put_about_person(line, b"drop", *person),
         Cmd::Hours { person, month } => {
-            put_field(line, b"hours");
-            put_number_field(line, person.number());
+            put_about_person(line, b"hours", *person);
             put_field(line, &month.write());
         }
-        Cmd::Explain { vac, person } => {
-            put_field(line, b"explain");
-            put_number_field(line, vac.number());
-            put_number_field(line, person.number());
+        Cmd::At { board, place } => {
+            put_field(line, b"at");
+            put_field(line, board.text());
+            put_number_field(line, u32::from(*place));
         }
+        Cmd::Explain { vac, person } => put_about_offer(line, b"explain", *vac, *person),
+        Cmd::Vac { vac } => put_about_vac(line, b"vac", *vac),
     }
+}
+
+// Adds the word of a command about a person, and the person, each behind a comma.
+fn put_about_person(line: &mut LineText, word: &[u8], person: PersonNo)
+    requires { array_vec_len line.old + length word.now + 12 ≤ 512 }
+    ensures text { line.new.items ≡ line.old.items ++ marked (word.now ∷ decimal person ∷ []) }
+    ensures len { array_vec_len line.new ≤ array_vec_len line.old + length word.now + 12 }
+{
+    put_field(line, word);
+    put_number_field(line, person.number());
+}
+
+// The same of a command about a vacancy.
+fn put_about_vac(line: &mut LineText, word: &[u8], vac: VacNo)
+    requires { array_vec_len line.old + length word.now + 12 ≤ 512 }
+    ensures text { line.new.items ≡ line.old.items ++ marked (word.now ∷ decimal vac ∷ []) }
+    ensures len { array_vec_len line.new ≤ array_vec_len line.old + length word.now + 12 }
+{
+    put_field(line, word);
+    put_number_field(line, vac.number());
+}
+
+// The same of a command about a vacancy and a person.
+fn put_about_offer(line: &mut LineText, word: &[u8], vac: VacNo, person: PersonNo)
+    requires { array_vec_len line.old + length word.now + 23 ≤ 512 }
+    ensures text { line.new.items
+        ≡ line.old.items ++ marked (word.now ∷ decimal vac ∷ decimal person ∷ []) }
+    ensures len { array_vec_len line.new ≤ array_vec_len line.old + length word.now + 23 }
+{
+    put_about_vac(line, word, vac);
+    put_number_field(line, person.number());
 }
 
 // Adds each field of the event behind a comma.

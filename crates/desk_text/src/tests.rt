@@ -1,42 +1,28 @@
-//! Lines of entries, as the journal has them.
+//! Lines of commands, as the journal has them.
 ghost use Rattle.std.specs.Prelude.{◌≤◌};
 
 use crate::write_entry;
-use denial_rules::Bar;
-use desk_base::{Code, Minute, Month, PersonNo, VacNo, YEARS_END};
+use desk_base::{Code, Minute, PersonNo, VacNo, split_once};
 use desk_model::{Chain, Cmd, Entry, Job, Reply, Stated};
-use duty_events::{EventFault, Kind, Stage};
 use qualifications::{Craft, Quals};
 use std::test::Fail;
 
-fn minute(text: &[u8]) -> Result<Minute, Fail> {
+pub fn minute(text: &[u8]) -> Result<Minute, Fail> {
     Ok(Minute::read(text).ok_or("no minute")?)
 }
 
-fn code(text: &[u8]) -> Result<Code, Fail> {
+pub fn code(text: &[u8]) -> Result<Code, Fail> {
     Ok(Code::read(text).ok_or("no code")?)
 }
 
-fn next() -> Result<Cmd, Fail> {
-    Ok(Cmd::Next {
-        vac: VacNo::new(12).ok_or("no vacancy")?,
-    })
-}
-
 // Whether the entry of this command and reply, stated at 00:01 and taken at 00:02, has this line.
-fn line_is(caller: u8, cmd: Cmd, reply: Reply, line: &[u8]) -> Result<bool, Fail>
+pub fn line_is(caller: u8, cmd: Cmd, reply: Reply, line: &[u8]) -> Result<bool, Fail>
     requires { caller ≤ 63 }
 {
     let stated = Stated::new(minute(b"2024-03-04 00:01")?, cmd).ok_or("not stated")?;
     let moment = minute(b"2024-03-04 00:02")?;
     let entry = Entry::new(caller, stated, moment, reply);
     Ok(write_entry(&entry).as_slice() == line)
-}
-
-// Whether the entry of `next` and this reply has this line.
-fn reply_is(reply: Reply, line: &[u8]) -> Result<bool, Fail> {
-    let vac = VacNo::new(12).ok_or("no vacancy")?;
-    line_is(0, Cmd::Next { vac }, reply, line)
 }
 
 #[test]
@@ -75,7 +61,9 @@ fn lines_of_commands(rt: HostRuntime) -> Result<(), Fail> {
             b"63|2024-03-04 00:01,list,9999999,P1|2024-03-04 00:02|done\n",
         ),
         (
-            next()?,
+            Cmd::Next {
+                vac: VacNo::new(12).ok_or("no vacancy")?,
+            },
             b"63|2024-03-04 00:01,next,12|2024-03-04 00:02|done\n",
         ),
     ];
@@ -103,119 +91,45 @@ fn the_line_of_a_job(rt: HostRuntime) -> Result<(), Fail> {
     Ok(())
 }
 
-#[test]
-fn lines_of_replies(rt: HostRuntime) -> Result<(), Fail> {
-    let offered = Reply::Offered {
-        person: PersonNo::new(101).ok_or("no person")?,
-        board: code(b"P1")?,
-        position: 500,
-    };
-    let line = b"0|2024-03-04 00:01,next,12|2024-03-04 00:02|offered 101 P1 500\n";
-    assert!(rt; reply_is(offered, line)?);
-    let unknown = Reply::UnknownBoard(code(b"P2")?);
-    let line = b"0|2024-03-04 00:01,next,12|2024-03-04 00:02|unknown board P2\n";
-    assert!(rt; reply_is(unknown, line)?);
-    let lapsed = Reply::Lapsed(minute(b"2024-03-04 08:00")?);
-    let line = b"0|2024-03-04 00:01,next,12|2024-03-04 00:02|lapsed 2024-03-04 08:00\n";
-    assert!(rt; reply_is(lapsed, line)?);
-    let line = b"0|2024-03-04 00:01,next,12|2024-03-04 00:02|plan too long 21103(a)(2)\n";
-    assert!(rt; reply_is(Reply::PlanTooLong, line)?);
-    Ok(())
+// Whether the command is written as this text, which stands between the minute's comma and the mark behind the record.
+fn is_written_as(cmd: Cmd, text: &[u8]) -> Result<bool, Fail> {
+    let stated = Stated::new(minute(b"2024-03-04 00:01")?, cmd).ok_or("not stated")?;
+    let line = write_entry(&Entry::new(0, stated, minute(b"2024-03-04 00:02")?, Reply::Done));
+    let (_, behind) = split_once(line.as_slice(), b',');
+    let (written, _) = split_once(behind.ok_or("no comma")?, b'|');
+    Ok(written == text)
 }
 
 #[test]
-fn lines_of_refused_events(rt: HostRuntime) -> Result<(), Fail> {
-    let since = minute(b"2024-03-04 00:00")?;
-    let stage = Stage::Interim {
-        kind: Kind::D,
-        since,
-        place: code(b"HOM")?,
-    };
-    let wrong = Reply::Event(EventFault::WrongStage(stage));
-    let line =
-        b"0|2024-03-04 00:01,next,12|2024-03-04 00:02|wrong stage interim D 2024-03-04 00:00 HOM\n";
-    assert!(rt; reply_is(wrong, line)?);
-    let home = Reply::Event(EventFault::WrongStage(Stage::RidingHome));
-    let line = b"0|2024-03-04 00:01,next,12|2024-03-04 00:02|wrong stage riding home\n";
-    assert!(rt; reply_is(home, line)?);
-    let behind = Reply::Event(EventFault::Behind(since));
-    let line = b"0|2024-03-04 00:01,next,12|2024-03-04 00:02|behind 2024-03-04 00:00\n";
-    assert!(rt; reply_is(behind, line)?);
-    let long = Reply::Event(EventFault::InterimTooLong(600));
-    let line = b"0|2024-03-04 00:01,next,12|2024-03-04 00:02|interim too long 600\n";
-    assert!(rt; reply_is(long, line)?);
-    let other = Reply::Event(EventFault::OtherPlace(code(b"ALT")?));
-    let line = b"0|2024-03-04 00:01,next,12|2024-03-04 00:02|other place ALT\n";
-    assert!(rt; reply_is(other, line)?);
-    let hours = Reply::Hours {
-        used: 2_520,
-        capped: 1_800,
-    };
-    let line = b"0|2024-03-04 00:01,next,12|2024-03-04 00:02|hours 2520 1800\n";
-    assert!(rt; reply_is(hours, line)?);
-    Ok(())
-}
-
-// Whether the line of an entry that is answered by this bar ends so.
-fn denial_is(bar: Bar, text: &[u8]) -> Result<bool, Fail> {
-    let stated = Stated::new(minute(b"2024-03-04 00:01")?, next()?).ok_or("not stated")?;
-    let moment = minute(b"2024-03-04 00:02")?;
-    let entry = Entry::new(0, stated, moment, Reply::Denied(bar));
-    Ok(write_entry(&entry).as_slice().ends_with(text))
-}
-
-#[test]
-fn texts_of_bars(rt: HostRuntime) -> Result<(), Fail> {
-    let vac = VacNo::new(9_999_999).ok_or("no vacancy")?;
-    let place = code(b"AWAY01")?;
-    assert!(rt; denial_is(Bar::MarkedOff, b"|denied B1\n")?);
-    assert!(rt; denial_is(Bar::InTour, b"|denied B2 tour\n")?);
-    assert!(rt; denial_is(Bar::Assigned(vac), b"|denied B2 assigned 9999999\n")?);
-    assert!(rt; denial_is(Bar::OnOffer(vac), b"|denied B3 9999999\n")?);
-    assert!(rt; denial_is(Bar::Elsewhere(place), b"|denied B4 AWAY01\n")?);
-    assert!(rt; denial_is(Bar::OtherCraft(Craft::C), b"|denied B5 C\n")?);
-    assert!(rt; denial_is(Bar::Lacks(63), b"|denied B6 63\n")?);
-    assert!(rt; denial_is(Bar::Answered, b"|denied B7\n")?);
-    let clear = Reply::Clear {
-        board: place,
-        position: 500,
-    };
-    let line = b"0|2024-03-04 00:01,next,12|2024-03-04 00:02|clear AWAY01 500\n";
-    assert!(rt; reply_is(clear, line)?);
-    let line = b"0|2024-03-04 00:01,next,12|2024-03-04 00:02|not listed\n";
-    assert!(rt; reply_is(Reply::NotListed, line)?);
-    Ok(())
-}
-
-// The first minute behind the year 2099.
-fn late() -> Result<Minute, Fail> {
-    Ok(Minute::new(YEARS_END).ok_or("no minute")?)
-}
-
-#[test]
-fn texts_of_the_bars_of_the_law(rt: HostRuntime) -> Result<(), Fail> {
-    let ends = minute(b"2024-03-05 06:30")?;
-    let late = late()?;
-    let month = Month::read(b"2024-03").ok_or("no month")?;
-    assert!(rt; denial_is(Bar::Rest(ends), b"|denied 21103(a)(3) 2024-03-05 06:30\n")?);
-    assert!(rt; denial_is(Bar::MoreRest(late), b"|denied 21103(c)(4) 68374080\n")?);
-    assert!(rt;
-        denial_is(
-            Bar::Undisturbed(ends),
-            b"|denied 21103(e) 2024-03-05 06:30\n"
-        )?
-    );
-    let (run, need) = (6, 2_880);
-    let six = Bar::SixDays { run, need };
-    assert!(rt; denial_is(six, b"|denied 21103(a)(4)(A) 6 2880\n")?);
-    let (run, need) = (11, 4_320);
-    let seven = Bar::SevenDays { run, need };
-    assert!(rt; denial_is(seven, b"|denied 21103(a)(4)(A)(ii) 11 4320\n")?);
-    let total = 16_561;
-    let over = Bar::MonthHours { month, total };
-    assert!(rt; denial_is(over, b"|denied 21103(a)(1) 2024-03 16561\n")?);
-    let total = 1_801;
-    let limbo = Bar::LimboHours { month, total };
-    assert!(rt; denial_is(limbo, b"|denied 21103(c)(1) 2024-03 1801\n")?);
+fn texts_of_commands(rt: HostRuntime) -> Result<(), Fail> {
+    let vac = VacNo::new(12).ok_or("no vacancy")?;
+    let person = PersonNo::new(101).ok_or("no person")?;
+    let board = code(b"P1")?;
+    let quals = Quals::read(b"3+40").ok_or("no set")?;
+    let commands: [(Cmd, &[u8]); 14] = [
+        (Cmd::Unlist { person, board }, b"unlist,101,P1"),
+        (Cmd::MarkOff { person }, b"off,101"),
+        (Cmd::MarkOn { person }, b"on,101"),
+        (Cmd::Qualify { person, quals }, b"qualify,101,3+40"),
+        (Cmd::Offer { vac, person }, b"offer,12,101"),
+        (Cmd::Accept { vac, person }, b"accept,12,101"),
+        (Cmd::Decline { vac, person }, b"decline,12,101"),
+        (Cmd::NoAnswer { vac, person }, b"noanswer,12,101"),
+        (Cmd::Withdraw { vac, person }, b"withdraw,12,101"),
+        (Cmd::Annul { vac }, b"annul,12"),
+        (Cmd::Drop { person }, b"drop,101"),
+        (Cmd::At { board, place: 1 }, b"at,P1,1"),
+        (
+            Cmd::At {
+                board,
+                place: 9_999,
+            },
+            b"at,P1,9999",
+        ),
+        (Cmd::Vac { vac }, b"vac,12"),
+    ];
+    for (cmd, text) in commands {
+        assert!(rt; is_written_as(cmd, text)?);
+    }
     Ok(())
 }

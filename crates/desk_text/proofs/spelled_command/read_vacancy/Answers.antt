@@ -5,6 +5,11 @@ use Rattle.desk_model.specs.Job.{job_of, IsPlan}
 use Rattle.desk_text.proofs.SpelledLemmas.{SpellsJob, field_at, same, vacancy, vacancy-spelled, job-of}
 use Rattle.desk_text.proofs.spelled_command.read_vacancy.Goals as goal
 
+pub returns-in_err-read_minutes-clause-only : goal.returns-in_err-read_minutes-clause-only
+returns-in_err-read_minutes-clause-only c = λ command spells.
+    let v = vacancy _ command spells in
+    let none = c.in_err-read_minutes.ensures.only v.job.duty (omega (arith, v.job_in.plan.most)) (field_at _ _ 5 _ v.fields_are (omega (arith, c.in-len8.len_at_least))) in cc
+
 pub returns-in_err-read_minutes-2-clause-only : goal.returns-in_err-read_minutes-2-clause-only
 returns-in_err-read_minutes-2-clause-only c = λ command spells.
     let v = vacancy _ command spells in

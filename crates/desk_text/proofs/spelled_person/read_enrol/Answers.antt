@@ -1,6 +1,6 @@
 use Rattle.std.proofs.Common.{◌∙◌, arith, ap, sym, Some}
 use Rattle.desk_text.proofs.SpelledLemmas.{field_at, same, enrolment}
-use Rattle.desk_text.proofs.spelled_command.read_enrol.Goals as goal
+use Rattle.desk_text.proofs.spelled_person.read_enrol.Goals as goal
 
 pub returns-in_err-read-3-clause-only : goal.returns-in_err-read-3-clause-only
 returns-in_err-read-3-clause-only c = λ cmd spells.
