@@ -7,7 +7,8 @@ use Rattle.desk_model.specs.Opening.{OpeningValue}
 use Rattle.desk_model.specs.Entry.{EntryValue}
 use Rattle.desk_model.specs.History.{history_of, opened, steps, said}
 use Rattle.desk_model.specs.Duty.{tells, told, events}
-use Rattle.desk_model.proofs.EventLemmas.{kept, events-snoc}
+use Rattle.desk_model.specs.Comes.{kept}
+use Rattle.desk_model.proofs.EventLemmas.{events-snoc}
 use Rattle.plain_core.proofs.PrefixLemmas.{one_more}
 
 -- the events up to the next place

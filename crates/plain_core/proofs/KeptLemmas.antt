@@ -1,16 +1,23 @@
 -- What is kept of a legal history, and the entry that a step adds.
-use Rattle.std.proofs.Common.{◌≡◌, ℕ, ◌≤◌, List, [], ◌∷◌, ◌++◌, length, refl, sym, ap, subst}
+use Rattle.std.proofs.Common.{◌≡◌, ℕ, ◌≤◌, Option, None, Some, IfSome, List, [], ◌∷◌, ◌++◌, length, refl, sym, ap, subst}
+use Rattle.std.specs.List.{All}
 use Rattle.std.specs.Coded.{le_prop}
 use Rattle.std.proofs.Math.Logic.{∥∥₁_elim}
+use Rattle.std.proofs.lemmas.Option.{IfSome_then}
+use Rattle.desk_base.specs.Minute.{IsInYears}
+use Rattle.desk_model.specs.declared.offer.Offer.{Offer}
 use Rattle.desk_model.specs.declared.limits.TheConstants.{MEMBER_LIMIT}
 use Rattle.desk_model.specs.Opening.{OpeningValue, IsOpening}
 use Rattle.desk_model.specs.Statement.{StatedValue}
 use Rattle.desk_model.specs.Entry.{EntryValue}
 use Rattle.desk_model.specs.History.{History, history_of, opened, with_entry}
 use Rattle.desk_model.specs.Boards.{order}
+use Rattle.desk_model.specs.Fits.{Fits}
+use Rattle.desk_model.specs.Offers.{open_offer}
 use Rattle.desk_model.specs.Legal.{next, MayState, IsNext, IsLegal}
 use Rattle.desk_model.proofs.LegalLemmas.{legal-opened, legal-with, IsNext-next}
 use Rattle.desk_model.proofs.BoundLemmas.{length-order}
+use Rattle.desk_model.proofs.FitRegisterLemmas.{open_offer-fits}
 use Rattle.plain_core.specs.Kept.{IsKept}
 
 pub kept-opened : (o : OpeningValue) → IsOpening o → IsKept o [] (opened o)
@@ -18,6 +25,18 @@ kept-opened o valid = record { is = refl; legal = legal-opened o valid }
 
 pub length-kept : (o : OpeningValue) (es : List EntryValue) (b : List ℕ) → ∥ IsLegal (history_of o es) ∥₁ → length (order (history_of o es) b) ≤ MEMBER_LIMIT
 length-kept o es b legal = ∥∥₁_elim legal le_prop (λ fine. length-order (history_of o es) b fine)
+
+made-prop : (o : Option Offer) → IsProp (IfSome o (λ offer. IsInYears offer.made))
+made-prop None = hlevel
+made-prop (Some offer) = hlevel le_prop
+
+-- where legal histories fit, an open offer was made in the years 2000 to 2099
+pub made-kept : ((h : History) → IsLegal h → All Fits h.entries) → (o : OpeningValue) (es : List EntryValue) (v : ℕ) → ∥ IsLegal (history_of o es) ∥₁
+    → IfSome (open_offer (history_of o es) v) (λ offer. IsInYears offer.made)
+made-kept fit o es v legal = ∥∥₁_elim legal (made-prop (open_offer h v)) (λ fine. IfSome_then (open_offer h v) (open_offer-fits h v (fit h fine)) (λ offer is. is.1))
+  where
+    h : History
+    h = history_of o es
 
 -- the entry that the rules give comes next
 comes : (h : History) (e : EntryValue) (caller : ℕ) (s : StatedValue) → MayState caller s → e ≡ next h caller s → IsNext h e

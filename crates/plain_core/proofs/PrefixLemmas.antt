@@ -1,11 +1,13 @@
 -- The entries up to a place, and the one there.
-use Rattle.std.proofs.Common.{◌≡◌, ℕ, ◌+◌, ◌-◌, ◌<◌, Some, List, [], ◌∷◌, ◌++◌, length, take, get_or, refl, sym, ap, subst, ◌∙◌, arith}
+use Rattle.std.proofs.Common.{◌≡◌, ℕ, ◌+◌, ◌-◌, ◌<◌, Option, None, Some, unwrap_or, List, [], ◌∷◌, ◌++◌, length, take, drop, get_or, fold, refl, sym, ap, subst, ◌∙◌, arith, append-nil}
+use Rattle.std.specs.Option.{option_or}
 use Rattle.std.specs.List.{slice_get}
-use Rattle.std.proofs.lemmas.List.{take_more, take_all}
+use Rattle.std.proofs.Math.Seq.{append_snoc}
+use Rattle.std.proofs.lemmas.List.{take_more, take_all, at_drop_more}
 use Rattle.std.proofs.lemmas.Option.{slice_get_within, get_or_from_slice_get}
 use Rattle.desk_model.specs.Opening.{OpeningValue}
 use Rattle.desk_model.specs.Entry.{EntryValue}
-use Rattle.desk_model.specs.History.{history_of, with_entry, last_of}
+use Rattle.desk_model.specs.History.{History, history_of, opened, with_entry, last_of}
 use Rattle.desk_model.proofs.SaidLemmas.{last_of-tells}
 
 -- the history up to the next place
@@ -21,3 +23,23 @@ last_moment-is es e found =
     let whole : take (length es - 1) es ++ e ∷ [] ≡ es =
     ap (λ x. take (length es - 1) es ++ x ∷ []) (sym is) ∙ sym (take_more es (length es - 1) e within) ∙ take_all (length es - 1 + 1) es (omega arith) in
     subst (λ xs. last_of (λ x. Some x.moment) xs ≡ Some e.moment) whole (last_of-tells (λ x. Some x.moment) (take (length es - 1) es) e e.moment refl)
+
+-- what the last of those from a place on says, or else a value, by the one there
+pub last_of-here : {X : Type 0} (f : EntryValue → Option X) (es : List EntryValue) (i : ℕ) (e : EntryValue) (x : X) → i < length es → e ≡ get_or es i e
+    → unwrap_or (last_of f (drop (i + 1) es)) (unwrap_or (f e) x) ≡ unwrap_or (last_of f (drop i es)) x
+last_of-here f es i e x within is =
+    sym (at_drop_more (λ later. unwrap_or (last_of f later) x) es i e within ∙ ap (λ y. unwrap_or (last_of f (y ∷ drop (i + 1) es)) x) (sym is) ∙ go (last_of f (drop (i + 1) es)))
+  where
+    go : (last : Option _) → unwrap_or (option_or last (f e)) x ≡ unwrap_or last (unwrap_or (f e) x)
+    go None = refl
+    go (Some y) = refl
+
+-- what each entry makes from what the entries before made is what all of them make
+pub is-fold : {X : Type 0} (f : History → X) (step : X → EntryValue → X) (x : X) → ((o : OpeningValue) → f (opened o) ≡ x)
+    → ((h : History) (e : EntryValue) → f (with_entry h e) ≡ step (f h) e) → (h : History) → f h ≡ fold step x h.entries
+is-fold f step x first more h = go (opened h.opening) h.entries ∙ ap (λ y. fold step y h.entries) (first h.opening)
+  where
+    go : (front : History) (later : List EntryValue) → f (history_of front.opening (front.entries ++ later)) ≡ fold step (f front) later
+    go front [] = ap (λ es. f (history_of front.opening es)) (append-nil front.entries)
+    go front (e ∷ later) =
+        ap (λ es. f (history_of front.opening es)) (sym (append_snoc front.entries e later)) ∙ go (with_entry front e) later ∙ ap (λ y. fold step y later) (more front e)

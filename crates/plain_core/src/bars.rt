@@ -13,6 +13,8 @@ ghost use Rattle.plain_core.specs.Room.{HasRoom};
 
 use crate::kept::Kept;
 use crate::lists::Lists;
+use crate::register::quals_of;
+use crate::turned_down::has_turned_down;
 use denial_rules::{Bar, Facts, first_bar};
 use desk_answers::Reads;
 use desk_base::{Code, Minute, PersonNo};
@@ -52,17 +54,17 @@ impl Kept {
     {
         self.fill_events(number, events);
         Facts {
-            marked_off: false,
+            marked_off: self.is_marked_off(number),
             in_tour: stage_of(events) != Stage::Off,
-            assigned: None,
+            assigned: self.assigned(number),
             on_offer: self.on_offer(number),
             place_is: place(events, person.home, moment),
             place_asked: job.place(),
             craft_is: person.craft,
             craft_asked: job.craft(),
-            quals_has: person.quals,
+            quals_has: quals_of(&self.entries, number),
             quals_asked: job.quals(),
-            answered: false,
+            answered: has_turned_down(&self.entries, job.vac(), number),
             law: law_of(events, moment, job, person),
         }
     }

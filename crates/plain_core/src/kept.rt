@@ -3,18 +3,24 @@ ghost use Rattle.duty_events.specs.Lists.{IsLawful};
 ghost use Rattle.desk_model.specs.History.{history_of};
 ghost use Rattle.desk_model.specs.Legal.{IsLegal};
 
-use crate::boards::{count_boards_of, fill, is_on};
+use crate::assigned::assigned;
+use crate::boards::{count_boards_of, is_on};
 use crate::duty::{gather, is_closed, latest};
 use crate::history::last_moment;
 use crate::lists::Lists;
-use crate::offers::{on_offer, state_of};
+use crate::marks::is_marked_off;
+use crate::offers::{on_offer, open_offer};
+use crate::order::fill;
 use crate::register::{
     board_of, count_boards, count_persons, count_vacancies, person_of, vacancy_of,
 };
+use crate::states::state_of;
 use denial_rules::Bar;
 use desk_answers::Reads;
 use desk_base::{Code, Minute, Month, PersonNo, VacNo};
-use desk_model::{BoardSetup, Chain, Entry, Job, Link, Opening, Person, VacState};
+use desk_model::{
+    BoardSetup, Chain, Entry, Job, Link, Offer, Opening, Person, VacState, a_legal_history_fits,
+};
 use duty_events::{Event, EventFault, Stage, allowed, stage_of};
 use month_hours::{capped, used};
 
@@ -121,13 +127,33 @@ impl Reads for Kept {
         count_boards_of(&self.entries, person)
     }
 
-    fn member_count(&self, work: &mut Lists, board: &Code) -> usize {
+    fn member_count(&self, work: &mut Lists, board: &Code) -> u16 {
         self.fill_members(board, &mut work.members);
-        work.members.len()
+        work.members.len() as u16
+    }
+
+    fn member_at(&self, work: &mut Lists, board: &Code, place: u16) -> Option<PersonNo> {
+        self.fill_members(board, &mut work.members);
+        work.members
+            .get(usize::from(place).saturating_sub(1))
+            .copied()
+    }
+
+    fn is_marked_off(&self, person: PersonNo) -> bool {
+        is_marked_off(&self.entries, person)
+    }
+
+    fn assigned(&self, person: PersonNo) -> Option<VacNo> {
+        assigned(&self.entries, person)
     }
 
     fn is_closed(&self, person: PersonNo) -> bool {
         is_closed(&self.entries, person)
+    }
+
+    fn offer(&self, vac: VacNo) -> Option<Offer> {
+        a_legal_history_fits();
+        open_offer(&self.entries, vac)
     }
 
     fn on_offer(&self, person: PersonNo) -> Option<VacNo> {

@@ -1,26 +1,26 @@
 ghost use Rattle.std.specs.Prelude.{◌≡◌, None, unwrap_or};
-ghost use Rattle.desk_model.specs.declared.vac_state.VacState.TheVariants.{Vacant};
 ghost use Rattle.desk_model.specs.Opening.{OpeningValue};
-ghost use Rattle.desk_model.specs.History.{history_of, last_of};
-ghost use Rattle.desk_model.specs.Offers.{asks_for, offer_in, is_of, offer_said, offered_to, is_to, offered_state};
+ghost use Rattle.desk_model.specs.History.{history_of, said, last_of};
+ghost use Rattle.desk_model.specs.Offers.{asks_for, offer_in, is_of, settles, opens, ends, offer_said, offered_to, is_to};
 ghost use Rattle.desk_model.proofs.OnOfferLemmas.{while_open};
 
+use crate::history::accepted;
 use desk_base::{PersonNo, VacNo};
-use desk_model::{Cmd, Entry, Offer, Reply, VacState};
+use desk_model::{Cmd, Entry, Offer, Reply};
 
-// The vacancy that the entry's command asks to be offered.
-fn asks_for(entry: &Entry) -> Option<VacNo>
+/// The vacancy that the entry's command asks to be offered.
+pub(crate) fn asks_for(entry: &Entry) -> Option<VacNo>
     ensures { result ≡ asks_for entry.now.stated.cmd }
 {
     let cmd = entry.stated().cmd();
-    let Cmd::Next { vac } = cmd else {
-        return None;
-    };
-    Some(*vac)
+    match cmd {
+        Cmd::Next { vac } | Cmd::Offer { vac, .. } => Some(*vac),
+        _ => None,
+    }
 }
 
-// The offer that the entry's reply makes.
-fn offer_in(entry: &Entry) -> Option<Offer>
+/// The offer that the entry's reply makes.
+pub(crate) fn offer_in(entry: &Entry) -> Option<Offer>
     ensures { result ≡ offer_in entry.now.moment entry.now.reply }
 {
     let reply = entry.reply();
@@ -34,29 +34,62 @@ fn offer_in(entry: &Entry) -> Option<Offer>
     })
 }
 
-// The entry's command asks for this vacancy.
-fn is_of(entry: &Entry, vac: VacNo) -> bool
-    ensures { result ≡ is_of vac (asks_for entry.now.stated.cmd) }
+/// It is this vacancy.
+pub(crate) fn is_of(vac: VacNo, other: &Option<VacNo>) -> bool
+    ensures { result ≡ is_of vac other.now }
 {
-    match asks_for(entry) {
-        Some(other) => other == vac,
+    match other {
+        Some(other) => *other == vac,
         None => false,
     }
 }
 
-// What the entry says of the vacancy's offer: `Some` where it opens one, with what is open since.
-fn offer_said(entry: &Entry, vac: VacNo) -> Option<Option<Offer>>
-    ensures { result ≡ offer_said vac entry.now }
+// The vacancy whose open offer the entry ends.
+fn settles(entry: &Entry) -> Option<VacNo>
+    ensures { result ≡ said settles entry.now }
 {
-    if !is_of(entry, vac) {
+    let cmd = accepted(entry)?;
+    match cmd {
+        Cmd::Accept { vac, .. }
+        | Cmd::Decline { vac, .. }
+        | Cmd::NoAnswer { vac, .. }
+        | Cmd::Withdraw { vac, .. }
+        | Cmd::Annul { vac } => Some(*vac),
+        _ => None,
+    }
+}
+
+// The offer of the vacancy that the entry opens: `Some` where it opens one, with what is open since.
+fn opens(entry: &Entry, vac: VacNo) -> Option<Option<Offer>>
+    ensures { result ≡ opens vac entry.now }
+{
+    if !is_of(vac, &asks_for(entry)) {
         return None;
     }
     let offer = offer_in(entry)?;
     Some(Some(offer))
 }
 
-// The open offer of a vacancy; `None` where none is.
-fn open_offer(entries: &[Entry], vac: VacNo) -> Option<Offer>
+// `Some` where the entry ends the vacancy's open offer: none is open since.
+fn ends(entry: &Entry, vac: VacNo) -> Option<Option<Offer>>
+    ensures { result ≡ ends vac entry.now }
+{
+    if is_of(vac, &settles(entry)) {
+        Some(None)
+    } else {
+        None
+    }
+}
+
+// What the entry says of the vacancy's offer: `Some` where it says anything, with what is open since.
+fn offer_said(entry: &Entry, vac: VacNo) -> Option<Option<Offer>>
+    ensures { result ≡ offer_said vac entry.now }
+{
+    opens(entry, vac).or(ends(entry, vac))
+}
+
+/// The open offer of a vacancy; `None` where none is.
+pub(crate) fn open_offer(entries: &[Entry], vac: VacNo) -> Option<Offer>
     ensures { result ≡ unwrap_or (last_of (offer_said vac) entries.now) None }
 {
     let mut open = None;
@@ -114,16 +147,5 @@ pub(crate) fn on_offer(entries: &[Entry], person: PersonNo) -> Option<VacNo>
         Some(vac)
     } else {
         None
-    }
-}
-
-/// How a vacancy stands.
-pub(crate) fn state_of(entries: &[Entry], vac: VacNo) -> VacState
-    ensures { result ≡ unwrap_or
-        (offered_state (unwrap_or (last_of (offer_said vac) entries.now) None)) Vacant }
-{
-    match open_offer(entries, vac) {
-        Some(offer) => VacState::OnOffer(offer.person),
-        None => VacState::Vacant,
     }
 }

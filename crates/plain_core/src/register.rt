@@ -1,11 +1,12 @@
-ghost use Rattle.std.specs.Prelude.{◌≡◌, length};
+ghost use Rattle.std.specs.Prelude.{◌≡◌, unwrap_or, length};
 ghost use Rattle.std.specs.List.{filter_map};
-ghost use Rattle.desk_model.specs.History.{said, first_of};
-ghost use Rattle.desk_model.specs.Register.{enrols, enrols_any, sets_up, sets_up_any, makes, makes_any};
+ghost use Rattle.desk_model.specs.History.{said, first_of, last_of};
+ghost use Rattle.desk_model.specs.Register.{enrols, enrols_any, gives, sets_up, sets_up_any, makes, makes_any};
 
 use crate::history::accepted;
 use desk_base::{Code, PersonNo, VacNo};
 use desk_model::{BoardSetup, Cmd, Entry, Job, Person};
+use qualifications::Quals;
 
 // What the entry enrols this person as.
 fn enrols(entry: &Entry, person: PersonNo) -> Option<Person>
@@ -16,7 +17,7 @@ fn enrols(entry: &Entry, person: PersonNo) -> Option<Person>
         person: enrolled,
         craft,
         home,
-        quals,
+        ..
     } = cmd
     else {
         return None;
@@ -27,8 +28,26 @@ fn enrols(entry: &Entry, person: PersonNo) -> Option<Person>
     Some(Person {
         craft: *craft,
         home: *home,
-        quals: *quals,
     })
+}
+
+// The qualifications that the entry gives this person.
+fn gives(entry: &Entry, person: PersonNo) -> Option<Quals>
+    ensures { result ≡ said (gives person) entry.now }
+{
+    let cmd = accepted(entry)?;
+    match cmd {
+        Cmd::Enrol {
+            person: other,
+            quals,
+            ..
+        }
+        | Cmd::Qualify {
+            person: other,
+            quals,
+        } => (*other == person).then_some(*quals),
+        _ => None,
+    }
 }
 
 // Whom the entry enrols.
@@ -110,6 +129,30 @@ pub(crate) fn person_of(entries: &[Entry], person: PersonNo) -> Option<Person>
         }
     }
     None
+}
+
+// No qualifications.
+fn no_quals() -> Quals
+    ensures { result ≡ 0 }
+{
+    Quals::read(b"-").unwrap()
+}
+
+/// What the person can do: the qualifications that they were given last.
+pub(crate) fn quals_of(entries: &[Entry], person: PersonNo) -> Quals
+    ensures { result ≡ unwrap_or (last_of (said (gives person)) entries.now) 0 }
+{
+    let mut last = None;
+    for entry in entries {
+        let Some(quals) = gives(entry, person) else {
+            continue;
+        };
+        last = Some(quals);
+    }
+    match last {
+        Some(quals) => quals,
+        None => no_quals(),
+    }
 }
 
 /// The board as set up; `None` where the code is no board.

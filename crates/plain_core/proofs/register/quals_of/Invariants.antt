@@ -1,0 +1,8 @@
+use Rattle.std.proofs.Common.{◌≡◌, drop}
+use Rattle.std.specs.Option.{option_or}
+use Rattle.desk_model.specs.History.{said, last_of}
+use Rattle.desk_model.specs.Register.{gives}
+use Rattle.plain_core.proofs.register.quals_of.Given as goal
+
+abbrev pub invariant-loop-entry : goal.invariant-loop-entry
+invariant-loop-entry l = option_or (last_of (said (gives l.person)) (drop l.entry-index l.entries)) l.last ≡ last_of (said (gives l.person)) l.entries
