@@ -1,14 +1,13 @@
 -- The entries up to a place, and the one there.
-use Rattle.std.proofs.Common.{◌≡◌, ℕ, ◌+◌, ◌-◌, ◌<◌, Option, None, Some, unwrap_or, List, [], ◌∷◌, ◌++◌, length, take, drop, get_or, fold, refl, sym, ap, subst, ◌∙◌, arith, append-nil}
-use Rattle.std.specs.Option.{option_or}
+use Rattle.std.proofs.Common.{◌≡◌, ℕ, ◌+◌, ◌-◌, ◌<◌, ◌≤◌, Option, Some, unwrap_or, List, [], ◌∷◌, ◌++◌, length, take, get_or, fold, refl, sym, ap, subst, ◌∙◌, arith, append-nil}
 use Rattle.std.specs.List.{slice_get}
 use Rattle.std.proofs.Math.Seq.{append_snoc}
-use Rattle.std.proofs.lemmas.List.{take_more, take_all, at_drop_more}
+use Rattle.std.proofs.lemmas.List.{take_more, take_all}
 use Rattle.std.proofs.lemmas.Option.{slice_get_within, get_or_from_slice_get}
 use Rattle.desk_model.specs.Opening.{OpeningValue}
 use Rattle.desk_model.specs.Entry.{EntryValue}
 use Rattle.desk_model.specs.History.{History, history_of, opened, with_entry, last_of}
-use Rattle.desk_model.proofs.SaidLemmas.{last_of-tells}
+use Rattle.desk_model.proofs.SaidLemmas.{last_of-or, last_of-tells}
 
 -- the history up to the next place
 pub one_more : (o : OpeningValue) (es : List EntryValue) (i : ℕ) (e : EntryValue) → i < length es → e ≡ get_or es i e
@@ -24,15 +23,14 @@ last_moment-is es e found =
     ap (λ x. take (length es - 1) es ++ x ∷ []) (sym is) ∙ sym (take_more es (length es - 1) e within) ∙ take_all (length es - 1 + 1) es (omega arith) in
     subst (λ xs. last_of (λ x. Some x.moment) xs ≡ Some e.moment) whole (last_of-tells (λ x. Some x.moment) (take (length es - 1) es) e e.moment refl)
 
--- what the last of those from a place on says, or else a value, by the one there
-pub last_of-here : {X : Type 0} (f : EntryValue → Option X) (es : List EntryValue) (i : ℕ) (e : EntryValue) (x : X) → i < length es → e ≡ get_or es i e
-    → unwrap_or (last_of f (drop (i + 1) es)) (unwrap_or (f e) x) ≡ unwrap_or (last_of f (drop i es)) x
-last_of-here f es i e x within is =
-    sym (at_drop_more (λ later. unwrap_or (last_of f later) x) es i e within ∙ ap (λ y. unwrap_or (last_of f (y ∷ drop (i + 1) es)) x) (sym is) ∙ go (last_of f (drop (i + 1) es)))
-  where
-    go : (last : Option _) → unwrap_or (option_or last (f e)) x ≡ unwrap_or last (unwrap_or (f e) x)
-    go None = refl
-    go (Some y) = refl
+-- what the last of those up to a place says, or else a value, by the one before that place
+pub last_of-back : {X : Type 0} (f : EntryValue → Option X) (es : List EntryValue) (i : ℕ) (e : EntryValue) (x : X) (told : Option X) → 0 < i → i ≤ length es
+    → e ≡ get_or es (i - 1) e → f e ≡ told → unwrap_or told (unwrap_or (last_of f (take (i - 1) es)) x) ≡ unwrap_or (last_of f (take i es)) x
+last_of-back f es i e x told some within is told-is =
+    let front = take (i - 1) es in
+    let whole : take i es ≡ front ++ e ∷ [] =
+    ap (λ n. take n es) (omega arith) ∙ take_more es (i - 1) e (omega arith) ∙ ap (λ y. front ++ y ∷ []) (sym is) in
+    ap (λ t. unwrap_or t (unwrap_or (last_of f front) x)) (sym told-is) ∙ sym (ap (λ xs. unwrap_or (last_of f xs) x) whole ∙ last_of-or f front e x)
 
 -- what each entry makes from what the entries before made is what all of them make
 pub is-fold : {X : Type 0} (f : History → X) (step : X → EntryValue → X) (x : X) → ((o : OpeningValue) → f (opened o) ≡ x)

@@ -88,18 +88,16 @@ fn offer_said(entry: &Entry, vac: VacNo) -> Option<Option<Offer>>
     opens(entry, vac).or(ends(entry, vac))
 }
 
-/// The open offer of a vacancy; `None` where none is.
+/// The open offer of a vacancy; `None` where none is. It looks from the last entry back, since an offer is mostly recent.
 pub(crate) fn open_offer(entries: &[Entry], vac: VacNo) -> Option<Offer>
     ensures { result ≡ unwrap_or (last_of (offer_said vac) entries.now) None }
 {
-    let mut open = None;
-    for entry in entries {
-        let Some(since) = offer_said(entry, vac) else {
-            continue;
-        };
-        open = since;
+    for i in (0..entries.len()).rev() {
+        if let Some(open) = offer_said(&entries[i], vac) {
+            return open;
+        }
     }
-    open
+    None
 }
 
 // The offer is open, and to this person.

@@ -1,7 +1,7 @@
-use Rattle.std.proofs.Common.{◌≡◌, None, unwrap_or, drop}
+use Rattle.std.proofs.Common.{◌≡◌, None, unwrap_or, take}
 use Rattle.desk_model.specs.History.{last_of}
 use Rattle.desk_model.specs.Offers.{offer_said}
 use Rattle.plain_core.proofs.offers.open_offer.Given as goal
 
-abbrev pub invariant-loop-entry : goal.invariant-loop-entry
-invariant-loop-entry l = unwrap_or (last_of (offer_said l.vac) (drop l.entry-index l.entries)) l.open ≡ unwrap_or (last_of (offer_said l.vac) l.entries) None
+abbrev pub invariant-loop-i : goal.invariant-loop-i
+invariant-loop-i l = unwrap_or (last_of (offer_said l.vac) (take l.i l.entries)) None ≡ unwrap_or (last_of (offer_said l.vac) l.entries) None
