@@ -1,5 +1,7 @@
 -- The first line of a text, and its first record.
-use Rattle.std.proofs.Common.{◌≡◌, ℕ, ◌<◌, true, false, not, cond, ◌==◌, List, [], ◌∷◌, length, filter, refl, ap, ◌∙◌, arith}
+use Rattle.std.proofs.Common.{◌≡◌, ℕ, ◌<◌, true, false, not, cond, ◌==◌, List, [], ◌∷◌, length, filter, take, ◌++◌, ◌≤◌, append-nil, refl, sym, ap, ◌∙◌, arith}
+use Rattle.std.proofs.Math.Seq.{take-append_seam}
+use Rattle.std.proofs.lemmas.List.{take_all, length-take}
 use Rattle.std.proofs.lemmas.List.Splits.{length-slice_split}
 use Rattle.std.specs.Str.Lines.{lines, lines_of_parts, strip_carriage_return}
 use Rattle.crewdesk_main.specs.Records.{records}
@@ -30,3 +32,15 @@ records-skipped text line rest e empty = records-line text line rest e ∙ ap (�
 pub records-none : (text : List ℕ) → lines text ≡ [] → records text ≡ []
 unfolding records
 records-none text e = ap (filter (λ l. not (length l == 0))) e
+
+-- where less than 12 fields are the first 12 of a record, these are all
+pub take-short : (fields front : List (List ℕ)) → take 12 fields ≡ front → length front < 12 → fields ≡ front
+take-short fields front same short = sym (take_all 12 fields (omega (arith, short, ap length same, length-take 12 fields))) ∙ same
+
+-- the front of a record's fields, when it has 12
+pub take-front : (front rest fields : List (List ℕ)) → front ++ rest ≡ fields → length front ≡ 12 → front ≡ take 12 fields
+take-front front rest fields parts full = sym (take-append_seam front rest) ∙ ap (λ n. take n (front ++ rest)) full ∙ ap (λ l. take 12 l) parts
+
+-- and when no field is left
+pub take-whole : (front fields : List (List ℕ)) → front ++ [] ≡ fields → length front ≤ 12 → front ≡ take 12 fields
+take-whole front fields parts few = sym (take_all 12 front few) ∙ ap (λ l. take 12 l) (sym (append-nil front) ∙ parts)

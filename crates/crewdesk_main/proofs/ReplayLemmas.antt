@@ -1,12 +1,14 @@
 -- What is said of bytes that were taken whole.
-use Rattle.std.proofs.Common.{◌≡◌, ℕ, ◌≤◌, Option, None, Some, List, length, subst}
+use Rattle.std.proofs.Common.{◌≡◌, ℕ, ◌≤◌, Option, None, Some, List, length, subst, sym, ◌∙◌}
 use Rattle.desk_io.specs.Input.{TookAll}
 use Rattle.desk_model.specs.Opening.{OpeningValue}
 use Rattle.desk_model.specs.Statement.{StatedValue}
 use Rattle.desk_model.specs.Journal.{journal}
+use Rattle.desk_text.specs.Line.{wrong_line}
 use Rattle.crewdesk_main.specs.declared.limits.TheConstants.{BYTE_LIMIT}
-use Rattle.crewdesk_main.specs.DayFile.{IsDayFile}
-use Rattle.crewdesk_main.specs.Replay.{WasRead, IsReplay, Replays, day_history}
+use Rattle.crewdesk_main.specs.DayFile.{IsDayFile, HasUnreadable, IsUnreadable}
+use Rattle.crewdesk_main.specs.Replay.{WasRead, IsReplay, Replays, FindsWrong, Tells, day_history}
+use Rattle.crewdesk_main.proofs.DayLemmas.{IsDayFile-readable}
 
 pub WasRead-TookAll : (before after : Option (List ℕ)) (bytes : List ℕ) (P : List ℕ → Type 0) → TookAll before after bytes → length bytes ≤ BYTE_LIMIT → P bytes → WasRead before after P
 WasRead-TookAll None after bytes P took within p = tt
@@ -32,3 +34,21 @@ Replays-TookAll before after bytes seen o commands Writes took within same day r
   replay = replay;
   written = written;
 }
+
+-- a day file with a wrong field was taken whole and read, and this was done with the line that says which
+pub FindsWrong-TookAll : (before after : Option (List ℕ)) (bytes seen : List ℕ) (record_no field : ℕ) (Writes : List ℕ → Type 0)
+    → TookAll before after bytes → length bytes ≤ BYTE_LIMIT → seen ≡ bytes → HasUnreadable seen record_no field → Writes (wrong_line record_no field)
+    → FindsWrong before after Writes
+FindsWrong-TookAll before after bytes seen record_no field Writes took within same wrong written = record {
+  record_no = record_no;
+  field = field;
+  read = WasRead-TookAll before after bytes (λ b. HasUnreadable b record_no field) took within (subst (λ b. HasUnreadable b record_no field) same wrong);
+  written = written;
+}
+
+-- a day file that was taken whole has no wrong field
+pub no-wrong : (before after : Option (List ℕ)) (bytes seen : List ℕ) (o : OpeningValue) (commands : List StatedValue)
+    → TookAll before after bytes → seen ≡ bytes → IsDayFile seen o commands → Tells before IsUnreadable → ⊥
+no-wrong before after bytes seen o commands took same day tells =
+    let told = TookAll-told before after bytes tells.bytes took tells.told in
+    IsDayFile-readable tells.bytes o commands (subst (λ b. IsDayFile b o commands) (same ∙ sym told) day) tells.has.record_no tells.has.field tells.has.has

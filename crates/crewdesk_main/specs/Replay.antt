@@ -11,8 +11,9 @@ use Rattle.desk_model.specs.Statement.{StatedValue}
 use Rattle.desk_model.specs.History.{History}
 use Rattle.desk_model.specs.Legal.{IsLegal, given, history}
 use Rattle.desk_model.specs.Journal.{journal}
+use Rattle.desk_text.specs.Line.{wrong_line}
 use Rattle.crewdesk_main.specs.declared.limits.TheConstants.{BYTE_LIMIT}
-use Rattle.crewdesk_main.specs.DayFile.{IsDayFile, IsSomeDayFile, HasTooMany, HasNoOpening, HasUnreadable}
+use Rattle.crewdesk_main.specs.DayFile.{IsDayFile, IsSomeDayFile, HasTooMany, HasNoOpening, HasUnreadable, IsUnreadable}
 
 -- a source that told its bytes told some within the limit that have P, and has none left
 abbrev pub WasRead : Option (List ℕ) → Option (List ℕ) → (List ℕ → Type 0) → Type 0
@@ -43,6 +44,13 @@ pub record Replays (before after : Option (List ℕ)) (Writes : List ℕ → Typ
   pub replay : IsReplay opening commands history
   pub written : Writes (journal history)
 
+-- a day file with a wrong field was read, and this was done with the line that says which
+pub record FindsWrong (before after : Option (List ℕ)) (Writes : List ℕ → Type 0) : Type 0 where
+  pub record_no : ℕ
+  pub field : ℕ
+  pub read : WasRead before after (λ bytes. HasUnreadable bytes record_no field)
+  pub written : Writes (wrong_line record_no field)
+
 -- the source tells bytes within the limit that have P
 pub record Tells (left : Option (List ℕ)) (P : List ℕ → Type 0) : Type 0 where
   pub bytes : List ℕ
@@ -65,24 +73,25 @@ pub record EndsByTheDay (result : Status) (left : Option (List ℕ)) : Type 0 wh
   pub more_bytes : TellsMore left → EndsAs result TooLong
   pub too_many : Tells left HasTooMany → EndsAs result TooLong
   pub no_opening : Tells left HasNoOpening → EndsAs result NoOpening
-  pub unreadable : Tells left HasUnreadable → EndsAs result Unreadable
+  pub unreadable : Tells left IsUnreadable → result ≢ WriteFault → EndsAs result Unreadable
   pub day : Tells left IsSomeDayFile → result ≢ WriteFault → EndsAs result Fine
 
 -- a run that ended so did what a replay that ends so does: what its source and sink told before and after, and how many
 -- faults they counted
 pub record EndsReplay (result : Status) (left left' : Option (List ℕ)) (asked asked' : ℕ) (held held' : Option (List ℕ)) (given given' : ℕ) : Type 0 where
   pub fine : result ≡ Fine → Replays left left' (Appends held held')
-  pub write_fault : result ≡ WriteFault → Replays left left' (AddsFront held held')
+  pub write_fault : result ≡ WriteFault → Replays left left' (AddsFront held held') ⊎ FindsWrong left left' (AddsFront held held')
   pub write_cause : result ≡ WriteFault → Rose given given'
   pub read_cause : result ≡ ReadFault → Rose asked asked'
   pub too_long : result ≡ TooLong → TookMore left left' BYTE_LIMIT ⊎ WasRead left left' HasTooMany
   pub not_too_long : result ≢ TooLong → TookFront left left' BYTE_LIMIT
   pub no_opening : result ≡ NoOpening → WasRead left left' HasNoOpening
-  pub unreadable : result ≡ Unreadable → WasRead left left' HasUnreadable
+  pub unreadable : result ≡ Unreadable → FindsWrong left left' (Appends held held')
   pub by_the_day : EndsByTheDay result left
 
 -- the ways to end in which the sink was given something
 abbrev pub writes : Status → Bool
 writes Fine = true
 writes WriteFault = true
+writes Unreadable = true
 writes _ = false

@@ -1,13 +1,13 @@
 //! Day files.
 ghost use Rattle.std.specs.Prelude.{◌≡◌, ◌≤◌, ◌<◌, ◌↔◌, ◌⊎◌, ℕ, List, length, map, IfSome, IfNone, IfOk, IsErrOf};
-ghost use Rattle.std.specs.List.{All, Contains};
+ghost use Rattle.std.specs.List.{All};
 ghost use Rattle.std.specs.Result.{IsOkUnless};
 ghost use Rattle.desk_model.specs.Opening.{OpeningValue};
 ghost use Rattle.desk_model.specs.Statement.{StatedValue};
 ghost use Rattle.desk_model.specs.Fits.{IsStated};
 ghost use Rattle.desk_model.specs.StatedTexts.{stated_fields};
 ghost use Rattle.crewdesk_main.specs.Records.{records, fields_of};
-ghost use Rattle.crewdesk_main.specs.DayFile.{IsCommandRecord, IsDayFile, IsSomeDayFile, HasTooMany, HasNoOpening, HasUnreadable};
+ghost use Rattle.crewdesk_main.specs.DayFile.{IsDayFile, IsSomeDayFile, HasTooMany, HasNoOpening, HasUnreadable, HasWrong};
 
 use crate::command_record::read_stated;
 use crate::limits::RECORD_LIMIT;
@@ -33,7 +33,12 @@ pub enum DayFault {
     /// The first record is no valid opening.
     NoOpening,
     /// A record after the opening states no command.
-    Unreadable,
+    Unreadable {
+        /// The first such record's number, from 1; the opening is record 1.
+        record_no: u32,
+        /// The place of its first wrong field, from 1.
+        field: u8,
+    },
     /// There is no memory for the commands.
     NoMemory,
 }
@@ -45,11 +50,12 @@ pub fn read_day(alloc: Global, bytes: &[u8]) -> Result<DayFile, DayFault>
     ensures ok { IfOk result (λ day. IsDayFile bytes.now day.opening day.commands.items) }
     ensures too_many { IsErrOf result DayFault.TooMany ↔ HasTooMany bytes.now }
     ensures no_opening { IsErrOf result DayFault.NoOpening ↔ HasNoOpening bytes.now }
-    ensures unreadable { IsErrOf result DayFault.Unreadable → HasUnreadable bytes.now }
+    ensures unreadable { (n f : ℕ) → IsErrOf result (DayFault.Unreadable n f)
+        → HasUnreadable bytes.now n f }
 
     // What is neither too many records nor without an opening is told right, unless memory is wanting.
-    ensures states { HasUnreadable bytes.now
-        → (IsErrOf result DayFault.Unreadable) ⊎ (IsErrOf result DayFault.NoMemory) }
+    ensures states { (n f : ℕ) → HasUnreadable bytes.now n f
+        → (IsErrOf result (DayFault.Unreadable n f)) ⊎ (IsErrOf result DayFault.NoMemory) }
     ensures reads { IsSomeDayFile bytes.now → IsOkUnless result DayFault.NoMemory }
 {
     let Some(count) = count_records(bytes) else {
@@ -91,13 +97,13 @@ fn count_records(bytes: &[u8]) -> Option<usize>
 
 // The commands of the bytes' records, of which there are so many.
 fn read_commands(alloc: Global, bytes: &[u8], count: usize) -> Result<Vec<Stated>, DayFault>
-    requires { length (records bytes.now) ≡ count }
+    requires all { length (records bytes.now) ≡ count }
+    requires few { count ≤ RECORD_LIMIT }
     ensures valid { IfOk result (λ commands. All IsStated commands.items) }
     ensures fields { IfOk result (λ commands.
         map fields_of (records bytes.now) ≡ map stated_fields commands.items) }
-    ensures unreadable { IsErrOf result DayFault.Unreadable
-        → (bad : List ℕ) × Contains (records bytes.now) bad
-        × ((s : StatedValue) → ¬ IsCommandRecord bad s) }
+    ensures unreadable { (n f : ℕ) → IsErrOf result (DayFault.Unreadable n f)
+        → HasWrong (records bytes.now) n f }
     ensures reads { (commands : List StatedValue) → All IsStated commands
         → map fields_of (records bytes.now) ≡ map stated_fields commands
         → IsOkUnless result DayFault.NoMemory }
@@ -109,10 +115,15 @@ fn read_commands(alloc: Global, bytes: &[u8], count: usize) -> Result<Vec<Stated
     };
     let mut rest = bytes;
     while let Some((record, after)) = next_record(rest) {
-        let Some(stated) = read_stated(record) else {
-            return Err(DayFault::Unreadable);
-        };
-        commands.push_reserved(stated);
+        match read_stated(record) {
+            Ok(stated) => commands.push_reserved(stated),
+            Err(field) => {
+                return Err(DayFault::Unreadable {
+                    record_no: commands.len() as u32 + 2,
+                    field,
+                });
+            }
+        }
         rest = after;
     }
     Ok(commands)

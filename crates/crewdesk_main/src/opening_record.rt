@@ -5,7 +5,7 @@ ghost use Rattle.desk_model.specs.Opening.{OpeningValue, IsOpening, opening_fiel
 ghost use Rattle.crewdesk_main.specs.Records.{fields_of};
 ghost use Rattle.crewdesk_main.specs.DayFile.{IsOpeningRecord, SpellsOpening, SpellsWindow};
 
-use crate::records::fields_of;
+use crate::records::first_fields;
 use desk_base::{Minute, Month, Window, read_decimal};
 use desk_model::Opening;
 
@@ -15,7 +15,7 @@ pub fn read_opening(text: &[u8]) -> Option<Opening>
     ensures only { (opening : OpeningValue) → IsOpeningRecord text.now opening
         → result ≡ Some opening }
 {
-    let fields = fields_of(text)?;
+    let fields = first_fields(text);
     let [start, word, month, months, answer] = fields.as_slice() else {
         return None;
     };

@@ -1,5 +1,5 @@
 //! Records, split by hand at line feeds and commas.
-ghost use Rattle.std.specs.Prelude.{◌≡◌, ◌<◌, ◌==◌, ◌∷◌, [], length, map, IfSome, IfNone, OnSome};
+ghost use Rattle.std.specs.Prelude.{◌≡◌, ◌<◌, ◌==◌, ◌∷◌, [], length, map, take, IfSome, IfNone, OnSome};
 ghost use Rattle.std.specs.Option.{option_copied};
 ghost use Rattle.std.specs.Str.Lines.{lines, strip_carriage_return};
 ghost use Rattle.arrayvec.specs.ArrayVec.{array_vec_len};
@@ -24,22 +24,21 @@ pub fn next_record(bytes: &[u8]) -> Option<(&[u8], &[u8])>
     None
 }
 
-/// The fields of a record; `None` where it has more than 12.
-pub fn fields_of(text: &[u8]) -> Option<ArrayVec<&[u8], FIELD_LIMIT>>
-    ensures some { IfSome result (λ fields.
-        map (λ field. field.now) fields.items ≡ fields_of text.now) }
-    ensures none { IfNone result (FIELD_LIMIT < length (fields_of text.now)) }
+/// The fields of a record, the first 12 of a longer one.
+pub fn first_fields(text: &[u8]) -> ArrayVec<&[u8], FIELD_LIMIT>
+    ensures { map (λ field. field.now) result.items ≡ take FIELD_LIMIT (fields_of text.now) }
 {
     let mut fields = ArrayVec::new();
     let mut rest = Some(text);
     while let Some(bytes) = rest {
-        let (field, after) = split_once(bytes, b',');
-        if fields.try_push(field).is_err() {
-            return None;
+        if fields.is_full() {
+            return fields;
         }
+        let (field, after) = split_once(bytes, b',');
+        fields.push(field);
         rest = after;
     }
-    Some(fields)
+    fields
 }
 
 fn next_line(bytes: &[u8]) -> Option<(&[u8], &[u8])>

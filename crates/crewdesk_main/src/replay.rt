@@ -5,9 +5,10 @@ ghost use Rattle.desk_io.specs.Giving.{AddsFront};
 ghost use Rattle.desk_io.specs.Input.{TookMore, TookFront};
 ghost use Rattle.desk_model.specs.History.{history_of};
 ghost use Rattle.desk_model.specs.Journal.{journal};
-ghost use Rattle.crewdesk_main.specs.DayFile.{HasTooMany, HasNoOpening, HasUnreadable};
+ghost use Rattle.desk_text.specs.Line.{wrong_line};
+ghost use Rattle.crewdesk_main.specs.DayFile.{HasTooMany, HasNoOpening};
 ghost use Rattle.crewdesk_main.specs.Words.{is_replay};
-ghost use Rattle.crewdesk_main.specs.Replay.{Replays, EndsByTheDay, WasRead, day_history, writes};
+ghost use Rattle.crewdesk_main.specs.Replay.{Replays, FindsWrong, EndsByTheDay, WasRead, day_history, writes};
 
 use crate::answers::answer_all;
 use crate::day_file::{DayFault, DayFile, read_day};
@@ -15,8 +16,9 @@ use crate::journal::write_journal;
 use crate::limits::BYTE_LIMIT;
 use crate::words::is_alone;
 use desk_base::NoMemory;
-use desk_io::{Sink, Source, Status, take_all};
+use desk_io::{Sink, Source, Status, put_all, take_all};
 use desk_model::{Entry, one_history_is_legal};
+use desk_text::write_wrong;
 use plain_core::PlainCore;
 use std::alloc::Global;
 
@@ -24,7 +26,7 @@ use std::alloc::Global;
 const BUFFER_BYTES: usize = 65_536;
 
 /// Runs the desk. With the word `replay` alone it reads a day file from the source, replays its commands and writes
-/// the journal to the sink. It reads all of its input, and takes all memory for the replay, before it writes anything.
+/// the journal to the sink; where a field of the file is wrong it writes a line that says which. It reads all of its input, and takes all memory for the replay, before it writes anything.
 pub fn run<S: Source, K: Sink>(
     alloc: Global,
     words: &[String],
@@ -42,8 +44,10 @@ pub fn run<S: Source, K: Sink>(
         → Replays (S.left source.old) (S.left source.new)
         (Appends (K.held sink.old) (K.held sink.new)) }
     ensures write_fault { result ≡ Status.WriteFault
-        → Replays (S.left source.old) (S.left source.new)
-        (AddsFront (K.held sink.old) (K.held sink.new)) }
+        → (Replays (S.left source.old) (S.left source.new)
+        (AddsFront (K.held sink.old) (K.held sink.new)))
+        ⊎ (FindsWrong (S.left source.old) (S.left source.new)
+        (AddsFront (K.held sink.old) (K.held sink.new))) }
     ensures silent { writes result ≡ false → Keeps (K.held sink.old) (K.held sink.new) }
 
     ensures write_cause { result ≡ Status.WriteFault
@@ -58,7 +62,8 @@ pub fn run<S: Source, K: Sink>(
     ensures no_opening { result ≡ Status.NoOpening
         → WasRead (S.left source.old) (S.left source.new) HasNoOpening }
     ensures unreadable { result ≡ Status.Unreadable
-        → WasRead (S.left source.old) (S.left source.new) HasUnreadable }
+        → FindsWrong (S.left source.old) (S.left source.new)
+        (Appends (K.held sink.old) (K.held sink.new)) }
     ensures audit_wrong { result ≢ Status.AuditWrong }
 
     // And each of these comes where its cause is, unless memory or a fault is in the way.
@@ -78,8 +83,27 @@ pub fn run<S: Source, K: Sink>(
         Ok(day) => replay_day(alloc, &day, sink),
         Err(DayFault::TooMany) => Status::TooLong,
         Err(DayFault::NoOpening) => Status::NoOpening,
-        Err(DayFault::Unreadable) => Status::Unreadable,
+        Err(DayFault::Unreadable { record_no, field }) => tell_wrong(record_no, field, sink),
         Err(DayFault::NoMemory) => Status::NoMemory,
+    }
+}
+
+// Writes which field of which record is wrong.
+fn tell_wrong<K: Sink>(record_no: u32, field: u8, sink: &mut K) -> Status
+    ensures unreadable { result ≡ Status.Unreadable
+        → Appends (K.held sink.old) (K.held sink.new) (wrong_line record_no field) }
+    ensures write_fault { result ≡ Status.WriteFault
+        → AddsFront (K.held sink.old) (K.held sink.new) (wrong_line record_no field) }
+    ensures write_cause { result ≡ Status.WriteFault
+        → Rose (K.faults sink.old) (K.faults sink.new) }
+    ensures write_count { result ≢ Status.WriteFault → K.faults sink.new ≡ K.faults sink.old }
+    ensures later { K.faults sink.old ≤ K.faults sink.new }
+    ensures only { (result ≡ Status.Unreadable) ⊎ (result ≡ Status.WriteFault) }
+{
+    if put_all(sink, write_wrong(record_no, field).as_slice()) {
+        Status::Unreadable
+    } else {
+        Status::WriteFault
     }
 }
 

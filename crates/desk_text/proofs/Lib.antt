@@ -1,4 +1,5 @@
 pub mod FieldLemmas
+pub mod FormLemmas
 pub mod SpelledLemmas
 pub mod ApartLemmas
 pub mod ReplyApartLemmas

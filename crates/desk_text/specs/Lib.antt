@@ -2,3 +2,4 @@ pub mod Marked
 pub mod Word
 pub mod Spelled
 pub mod Line
+pub mod RecordForms

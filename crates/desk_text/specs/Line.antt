@@ -1,5 +1,5 @@
 -- Lines of a journal.
-use Rattle.std.specs.Prelude.{◌≡◌, ℕ, true, nat_le, List, [], ◌∷◌, ◌++◌}
+use Rattle.std.specs.Prelude.{◌≡◌, ℕ, true, nat_le, List, [], ◌∷◌, ◌++◌, codes, decimal}
 use Rattle.std.specs.List.{list_all}
 
 -- each byte is 32 or above, so that none is a line feed or a carriage return
@@ -11,3 +11,7 @@ pub record IsLine (line : List ℕ) : Type 0 where
   pub text : List ℕ
   pub plain : IsPlain text
   pub is : line ≡ text ++ 10 ∷ []
+
+-- the line that says which field of which record is the first wrong one
+abbrev pub wrong_line : ℕ → ℕ → List ℕ
+wrong_line record_no field = codes "unreadable " ++ decimal record_no ++ codes " " ++ decimal field ++ 10 ∷ []

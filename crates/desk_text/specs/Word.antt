@@ -1,7 +1,9 @@
--- The words of commands.
+-- The words of commands and of events.
 use Rattle.std.specs.Prelude.{ℕ, List, codes}
 use Rattle.desk_text.specs.declared.word.Word.{Word}
 use Rattle.desk_text.specs.declared.word.Word.TheVariants as word
+use Rattle.desk_text.specs.declared.event_word.EventWord.{EventWord}
+use Rattle.desk_text.specs.declared.event_word.EventWord.TheVariants as event_word
 
 -- the word as it is written
 abbrev pub word_text : Word → List ℕ
@@ -27,3 +29,14 @@ word_text word.Hours = codes "hours"
 word_text word.At = codes "at"
 word_text word.Explain = codes "explain"
 word_text word.Vac = codes "vac"
+
+-- the word of an event as it is written
+abbrev pub event_word_text : EventWord → List ℕ
+event_word_text event_word.Ride = codes "ride"
+event_word_text event_word.Duty = codes "duty"
+event_word_text event_word.Interim = codes "interim"
+event_word_text event_word.Resume = codes "resume"
+event_word_text event_word.Relieve = codes "relieve"
+event_word_text event_word.RideHome = codes "ridehome"
+event_word_text event_word.Final = codes "final"
+event_word_text event_word.Other = codes "other"

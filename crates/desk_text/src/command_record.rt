@@ -1,9 +1,11 @@
 //! Commands, read from the fields of a record.
-ghost use Rattle.std.specs.Prelude.{◌≡◌, IfSome, map};
+ghost use Rattle.std.specs.Prelude.{◌≡◌, IfSome, IfOk, IfErr, map};
 ghost use Rattle.desk_model.specs.declared.command.Cmd.{Cmd as CmdValue};
 ghost use Rattle.desk_model.specs.Statement.{StatedValue};
 ghost use Rattle.desk_text.specs.Spelled.{SpellsCommand, StatesCommand};
+ghost use Rattle.desk_text.specs.RecordForms.{IsWrongAt};
 
+use crate::first_wrong::wrong_field;
 use crate::spelled_command::{
     read_annul, read_at, read_board, read_next, read_vac_state, read_vacancy,
 };
@@ -18,8 +20,8 @@ use crate::word::Word;
 use desk_base::Minute;
 use desk_model::{Cmd, Stated};
 
-/// The command that a record's fields state, and the minute at which it was stated; `None` where they state none.
-/// The first field is the minute, the second the command's word, and behind it stands what the command is about:
+/// The command that a record's fields state, and the minute at which it was stated. Where they state none it is the place,
+/// from 1, of the first field that is missing, one too many, or none that may stand there behind the fields before it. The first field is the minute, the second the command's word, and behind it stands what the command is about:
 ///
 /// | Word | Fields behind it |
 /// |---|---|
@@ -34,7 +36,19 @@ use desk_model::{Cmd, Stated};
 /// | `offer`, `accept`, `decline`, `noanswer`, `withdraw`, `explain` | vacancy, person |
 /// | `hours` | person, month |
 /// | `at` | board, place |
-pub fn read_command(fields: &[&[u8]]) -> Option<Stated>
+pub fn read_command(fields: &[&[u8]]) -> Result<Stated, u8>
+    ensures some { IfOk result (StatesCommand (map (λ field. field.now) fields.now)) }
+    ensures only { (s : StatedValue) → StatesCommand (map (λ field. field.now) fields.now) s
+        → result ≡ Ok s }
+    ensures wrong { IfErr result (IsWrongAt (map (λ field. field.now) fields.now)) }
+{
+    match read_stated(fields) {
+        Some(stated) => Ok(stated),
+        None => Err(wrong_field(fields)),
+    }
+}
+
+fn read_stated(fields: &[&[u8]]) -> Option<Stated>
     ensures some { IfSome result (StatesCommand (map (λ field. field.now) fields.now)) }
     ensures only { (s : StatedValue) → StatesCommand (map (λ field. field.now) fields.now) s
         → result ≡ Some s }

@@ -7,9 +7,14 @@ use std::test::Fail;
 
 // What the record states, its fields standing between commas.
 pub fn read_record(record: &[u8]) -> Option<Stated> {
+    read_fields(record).ok()
+}
+
+// The same, with the place of the first wrong field where it states nothing. No record of the tests has more than 16 fields.
+pub fn read_fields(record: &[u8]) -> Result<Stated, u8> {
     let mut fields: ArrayVec<&[u8], 16> = ArrayVec::new();
     for field in record.split(|b| *b == b',') {
-        fields.try_push(field).ok()?;
+        fields.try_push(field).map_err(|_| u8::MAX)?;
     }
     read_command(fields.as_slice())
 }

@@ -6,10 +6,14 @@ mod command_record;
 mod different_replies;
 mod each_line;
 mod entry_line;
+mod event_word;
 mod field;
+mod first_wrong;
+mod form;
 mod line_text;
 mod one_statement;
 mod opening_line;
+mod record_forms;
 mod reply_line;
 mod spelled_command;
 mod spelled_event;
@@ -17,6 +21,7 @@ mod spelled_offer;
 mod spelled_person;
 mod stated_line;
 mod word;
+mod wrong_line;
 
 pub use command_record::read_command;
 pub use different_replies::different_replies_have_different_texts;
@@ -25,6 +30,7 @@ pub use entry_line::write_entry;
 pub use line_text::LineText;
 pub use one_statement::a_record_states_one_command;
 pub use opening_line::write_opening;
+pub use wrong_line::write_wrong;
 
 #[cfg(test)]
 mod command_tests;
@@ -34,3 +40,5 @@ mod refused_tests;
 mod reply_tests;
 #[cfg(test)]
 mod tests;
+#[cfg(test)]
+mod wrong_field_tests;

@@ -79,8 +79,8 @@ fn read_interim(at: &[u8], kind: &[u8], place: &[u8]) -> Option<Event>
     Some(Event::Interim(at, kind, place))
 }
 
-// The kind of an interim, by its letter.
-fn read_kind(text: &[u8]) -> Option<Kind>
+/// The kind of an interim, by its letter.
+pub fn read_kind(text: &[u8]) -> Option<Kind>
     ensures some { IfSome result (λ kind. text.now ≡ kind_text kind) }
     ensures only { (kind : KindValue) → text.now ≡ kind_text kind → result ≡ Some kind }
 {

@@ -89,31 +89,52 @@ fn day_files_and_their_faults(rt: HostRuntime) -> Result<(), Fail> {
         ),
         (
             b"2024-03-04 00:00,open,2024-03,1,15\n2024-03-04 00:00,open,2024-03,1,15\n",
-            Some(DayFault::Unreadable),
+            Some(DayFault::Unreadable {
+                record_no: 2,
+                field: 2,
+            }),
         ),
         (
             b"2024-03-04 00:00,open,2024-03,1,15\n2024-03-04 00:01,nextt,12\n",
-            Some(DayFault::Unreadable),
+            Some(DayFault::Unreadable {
+                record_no: 2,
+                field: 2,
+            }),
         ),
         (
             b"2024-03-04 00:00,open,2024-03,1,15\n2024-03-04 00:01,next,12\n2024-03-04 00:01,next\n",
-            Some(DayFault::Unreadable),
+            Some(DayFault::Unreadable {
+                record_no: 3,
+                field: 3,
+            }),
         ),
         (
             b"2024-03-04 00:00,open,2024-03,1,15\n2024-03-04 00:01,next,12\n2024-03-04 00:01,next,12,1,2,3,4,5,6,7,8,9,10\n",
-            Some(DayFault::Unreadable),
+            Some(DayFault::Unreadable {
+                record_no: 3,
+                field: 4,
+            }),
         ),
         (
             b"2024-03-04 00:00,open,2024-03,1,15\n2024-03-04 00:01,next,12\r",
-            Some(DayFault::Unreadable),
+            Some(DayFault::Unreadable {
+                record_no: 2,
+                field: 3,
+            }),
         ),
         (
             b"2024-03-04 00:00,open,2024-03,1,15\n \n2024-03-04 00:01,next,12\n",
-            Some(DayFault::Unreadable),
+            Some(DayFault::Unreadable {
+                record_no: 2,
+                field: 1,
+            }),
         ),
         (
             b"2024-03-04 00:00,open,2024-03,1,15\n2024-03-04 00:01,\"next\",12\n",
-            Some(DayFault::Unreadable),
+            Some(DayFault::Unreadable {
+                record_no: 2,
+                field: 2,
+            }),
         ),
     ];
     for (text, fault) in cases {
@@ -145,7 +166,10 @@ fn a_day_file_of_one_record_too_many(rt: HostRuntime) -> Result<(), Fail> {
     let unreadable = day_of(alloc, OPENING, b"unlist\n", 200_000)?;
     assert_eq!(rt;
         fault_of(read_day(alloc, &unreadable)),
-        Some(DayFault::Unreadable)
+        Some(DayFault::Unreadable {
+            record_no: 2,
+            field: 1
+        })
     );
     Ok(())
 }

@@ -183,12 +183,12 @@ fn openings_and_what_they_write(rt: HostRuntime) -> Result<(), Fail> {
         (
             b"2024-03-04 00:00,open,2024-03,1,15\n2024-03-04 00:01,nextt,12\n",
             Status::Unreadable,
-            none,
+            b"unreadable 2 2\n",
         ),
         (
             b"2024-03-04 00:00,open,2024-03,1,15\n\n2024-03-04 00:00,open,2024-03,1,15\n",
             Status::Unreadable,
-            none,
+            b"unreadable 2 2\n",
         ),
     ];
     for (day, status, text) in cases {

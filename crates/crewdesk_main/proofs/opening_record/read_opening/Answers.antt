@@ -1,8 +1,10 @@
 use Rattle.std.proofs.Common.{◌≡◌, ◌∙◌, sym, ap, arith, length, map, refl, []}
+use Rattle.std.proofs.lemmas.List.{length-map}
 use Rattle.std.proofs.lemmas.Bool.{not-false}
 use Rattle.std.proofs.lemmas.Bool.Decides.{Decides-eqb}
 use Rattle.std.proofs.lemmas.Option.{IfSome_then}
 use Rattle.std.proofs.lemmas.Slice.Eq.{slice_eq-Decides}
+use Rattle.crewdesk_main.proofs.RecordLemmas.{take-short}
 use Rattle.crewdesk_main.proofs.OpeningLemmas.{opening_fields-spelled}
 use Rattle.crewdesk_main.proofs.opening_record.read_opening.Goals as goal
 
@@ -13,6 +15,6 @@ returns-clause-some c =
     let is_word = (slice_eq-Decides Decides-eqb _ _ _ refl).0 (not-false _ (sym c.ne.ensures ∙ c.if-ne.false)) ∙ c.as_slice-2.ensures in
     IfSome_then c.spelled_opening.result c.spelled_opening.ensures.some (λ opening spells. record {
       valid = spells.valid;
-      fields = sym c.in_ok-fields.ensures.some ∙ ap (map (λ field. field.now)) (sym c.as_slice.ensures.value)
+      fields = take-short _ _ (sym c.first_fields-fields.ensures ∙ ap (map (λ field. field.now)) (sym c.as_slice.ensures.value)) (omega (arith, len, length-map fields (λ field. field.now)))
           ∙ opening_fields-spelled fields (record { ref_ptr = (0, 0); now = [] }) opening len is_word spells;
     })

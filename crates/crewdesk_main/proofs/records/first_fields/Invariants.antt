@@ -1,10 +1,10 @@
-use Rattle.std.proofs.Common.{◌≡◌, ◌++◌, ◌+◌, length, map, ℕ, Option, Some, None}
+use Rattle.std.proofs.Common.{◌≡◌, ◌++◌, ◌+◌, ◌≤◌, length, map, ℕ, Option, Some, None}
 use Rattle.std.specs.Option.{option_copied}
 use Rattle.std.specs.Borrow.{Bor}
 use Rattle.std.proofs.Common.{List}
 use Rattle.crewdesk_main.specs.Records.{fields_of}
 use Rattle.desk_base.specs.Parts.{parts_after}
-use Rattle.crewdesk_main.proofs.records.fields_of.Given as goal
+use Rattle.crewdesk_main.proofs.records.first_fields.Given as goal
 
 -- the bytes that are left, and one more where a field is left
 abbrev pub left : Option (Bor (List ℕ)) → ℕ
@@ -12,7 +12,10 @@ left None = 0
 left (Some bytes) = length bytes.now + 1
 
 abbrev pub invariant-loop-rest : goal.invariant-loop-rest
-invariant-loop-rest l = map (λ field. field.now) l.fields.items ++ parts_after 44 (option_copied l.rest) ≡ fields_of l.fn.text
+invariant-loop-rest l = record {
+  parts : map (λ field. field.now) l.fields.items ++ parts_after 44 (option_copied l.rest) ≡ fields_of l.fn.text;
+  few : length l.fields.items ≤ 12;
+}
 
 abbrev pub decreases-loop-rest : goal.decreases-loop-rest
 decreases-loop-rest l = left l.rest
