@@ -1,5 +1,3 @@
-pub mod Records
-pub mod DayFile
 pub mod Words
 pub mod Texts
 pub mod Replay

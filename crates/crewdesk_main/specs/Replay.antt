@@ -1,5 +1,6 @@
 -- What a replay reads and writes.
-use Rattle.std.specs.Prelude.{◌≡◌, ◌≢◌, ◌⊎◌, ℕ, ◌<◌, ◌≤◌, Bool, true, false, Option, None, Some, List, [], length, map, ⊤}
+use Rattle.std.specs.Prelude.{◌≡◌, ◌≢◌, ◌⊎◌, ℕ, ◌<◌, ◌≤◌, Bool, true, false, Option, None, Some, List, [], length, map, ⊤, if◌then◌else◌, String}
+use Rattle.std.specs.Global.{Global}
 use Rattle.desk_io.specs.declared.status.Status.{Status}
 use Rattle.desk_io.specs.declared.status.Status.TheVariants.{Fine, ReadFault, WriteFault, TooLong, NoMemory, NoOpening, Unreadable}
 use Rattle.std.specs.Io.KnownBytes.{Appends}
@@ -12,8 +13,12 @@ use Rattle.desk_model.specs.History.{History}
 use Rattle.desk_model.specs.Legal.{IsLegal, given, history}
 use Rattle.desk_model.specs.Journal.{journal}
 use Rattle.desk_text.specs.Line.{wrong_line}
+use Rattle.desk_text.specs.Tally.{tally_text}
+use Rattle.crewdesk_main.specs.Words.{is_tally}
+use Rattle.crewdesk_main.specs.declared.day_form.DayForm.{DayForm}
+use Rattle.crewdesk_main.specs.declared.day_form.DayForm.TheVariants as form
 use Rattle.crewdesk_main.specs.declared.limits.TheConstants.{BYTE_LIMIT}
-use Rattle.crewdesk_main.specs.DayFile.{IsDayFile, IsSomeDayFile, HasTooMany, HasNoOpening, HasUnreadable, IsUnreadable}
+use Rattle.desk_text.specs.DayFile.{IsDayFile, IsSomeDayFile, HasTooMany, HasNoOpening, HasUnreadable, IsUnreadable}
 
 -- a source that told its bytes told some within the limit that have P, and has none left
 abbrev pub WasRead : Option (List ℕ) → Option (List ℕ) → (List ℕ → Type 0) → Type 0
@@ -34,15 +39,24 @@ pub record IsReplay (o : OpeningValue) (commands : List StatedValue) (h : Histor
   pub legal : IsLegal h
   pub given : map given h.entries ≡ map by_the_day_file commands
 
--- a day file was read, and this was done with the journal of its replay
-pub record Replays (before after : Option (List ℕ)) (Writes : List ℕ → Type 0) : Type 0 where
+-- a day file was read, and this was done with the text of its replay's history
+pub record Replays (before after : Option (List ℕ)) (text : History → List ℕ) (Writes : List ℕ → Type 0) : Type 0 where
   pub opening : OpeningValue
   pub valid : IsOpening opening
   pub commands : List StatedValue
   pub read : WasRead before after (λ bytes. IsDayFile bytes opening commands)
   pub history : History
   pub replay : IsReplay opening commands history
-  pub written : Writes (journal history)
+  pub written : Writes (text history)
+
+-- what is written of a history: its journal or its tally
+abbrev pub text_of : DayForm → History → List ℕ
+text_of form.Replay h = journal h
+text_of form.Tally h = tally_text h
+
+-- what the words ask to be written of it
+abbrev pub asked_text : List (String Global) → History → List ℕ
+asked_text words h = if is_tally words then tally_text h else journal h
 
 -- a day file with a wrong field was read, and this was done with the line that says which
 pub record FindsWrong (before after : Option (List ℕ)) (Writes : List ℕ → Type 0) : Type 0 where
@@ -76,11 +90,11 @@ pub record EndsByTheDay (result : Status) (left : Option (List ℕ)) : Type 0 wh
   pub unreadable : Tells left IsUnreadable → result ≢ WriteFault → EndsAs result Unreadable
   pub day : Tells left IsSomeDayFile → result ≢ WriteFault → EndsAs result Fine
 
--- a run that ended so did what a replay that ends so does: what its source and sink told before and after, and how many
--- faults they counted
-pub record EndsReplay (result : Status) (left left' : Option (List ℕ)) (asked asked' : ℕ) (held held' : Option (List ℕ)) (given given' : ℕ) : Type 0 where
-  pub fine : result ≡ Fine → Replays left left' (Appends held held')
-  pub write_fault : result ≡ WriteFault → Replays left left' (AddsFront held held') ⊎ FindsWrong left left' (AddsFront held held')
+-- a run that ended so did what a replay that ends so does, of whose history this text is written: what its source and sink
+-- told before and after, and how many faults they counted
+pub record EndsReplay (result : Status) (text : History → List ℕ) (left left' : Option (List ℕ)) (asked asked' : ℕ) (held held' : Option (List ℕ)) (given given' : ℕ) : Type 0 where
+  pub fine : result ≡ Fine → Replays left left' text (Appends held held')
+  pub write_fault : result ≡ WriteFault → Replays left left' text (AddsFront held held') ⊎ FindsWrong left left' (AddsFront held held')
   pub write_cause : result ≡ WriteFault → Rose given given'
   pub read_cause : result ≡ ReadFault → Rose asked asked'
   pub too_long : result ≡ TooLong → TookMore left left' BYTE_LIMIT ⊎ WasRead left left' HasTooMany

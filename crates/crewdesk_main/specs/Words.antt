@@ -13,6 +13,14 @@ is_alone form (word ∷ other ∷ more) = false
 abbrev pub is_replay : List (String Global) → Bool
 is_replay words = is_alone (codes "replay") words
 
+-- they are `tally` alone
+abbrev pub is_tally : List (String Global) → Bool
+is_tally words = is_alone (codes "tally") words
+
+-- they are a form that reads a day file
+abbrev pub reads_day : List (String Global) → Bool
+reads_day words = is_replay words || is_tally words
+
 -- they are a form of the command line
 abbrev pub is_form : List (String Global) → Bool
-is_form words = is_alone (codes "--help") words || is_alone (codes "--version") words || is_replay words
+is_form words = is_alone (codes "--help") words || is_alone (codes "--version") words || reads_day words

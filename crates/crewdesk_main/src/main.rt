@@ -2,14 +2,11 @@
 #![tactic(auto)]
 
 mod answers;
-mod command_record;
-mod day_file;
+mod day_form;
 mod forms;
 mod journal;
 mod limits;
 mod lines;
-mod opening_record;
-mod records;
 mod replay;
 mod words;
 mod write_text;

@@ -6,34 +6,35 @@ ghost use Rattle.desk_io.specs.Input.{TookMore, TookFront};
 ghost use Rattle.desk_model.specs.History.{history_of};
 ghost use Rattle.desk_model.specs.Journal.{journal};
 ghost use Rattle.desk_text.specs.Line.{wrong_line};
-ghost use Rattle.crewdesk_main.specs.DayFile.{HasTooMany, HasNoOpening};
-ghost use Rattle.crewdesk_main.specs.Words.{is_replay};
-ghost use Rattle.crewdesk_main.specs.Replay.{Replays, FindsWrong, EndsByTheDay, WasRead, day_history, writes};
+ghost use Rattle.desk_text.specs.DayFile.{HasTooMany, HasNoOpening};
+ghost use Rattle.crewdesk_main.specs.Words.{reads_day};
+ghost use Rattle.crewdesk_main.specs.Replay.{Replays, FindsWrong, EndsByTheDay, WasRead, asked_text, day_history, text_of, writes};
 
 use crate::answers::answer_all;
-use crate::day_file::{DayFault, DayFile, read_day};
+use crate::day_form::DayForm;
 use crate::journal::write_journal;
 use crate::limits::BYTE_LIMIT;
-use crate::words::is_alone;
+use crate::write_text::write_text;
 use desk_base::NoMemory;
 use desk_io::{Sink, Source, Status, put_all, take_all};
-use desk_model::{Entry, one_history_is_legal};
-use desk_text::write_wrong;
+use desk_model::{Entry, Opening, one_history_is_legal};
+use desk_text::{DayFault, DayFile, read_day, write_tally, write_wrong};
 use plain_core::PlainCore;
 use std::alloc::Global;
 
 // How many bytes of the journal are put into the sink at once, at most.
 const BUFFER_BYTES: usize = 65_536;
 
-/// Runs the desk. With the word `replay` alone it reads a day file from the source, replays its commands and writes
-/// the journal to the sink; where a field of the file is wrong it writes a line that says which. It reads all of its input, and takes all memory for the replay, before it writes anything.
+/// Runs the desk. With the word `replay` alone it reads a day file from the source, replays its commands and writes the
+/// journal to the sink, and with `tally` alone the tally; where a field of the file is wrong it writes a line that says
+/// which. It reads all of its input, and takes all memory for the replay, before it writes anything.
 pub fn run<S: Source, K: Sink>(
     alloc: Global,
     words: &[String],
     source: &mut S,
     sink: &mut K,
 ) -> Status
-    ensures usage { result ≡ Status.Usage ↔ (is_replay words.now ≡ false) }
+    ensures usage { result ≡ Status.Usage ↔ (reads_day words.now ≡ false) }
     ensures unasked_left { result ≡ Status.Usage → S.left source.new ≡ S.left source.old }
     ensures read_count { result ≢ Status.ReadFault → S.faults source.new ≡ S.faults source.old }
     ensures write_count { result ≢ Status.WriteFault → K.faults sink.new ≡ K.faults sink.old }
@@ -41,10 +42,10 @@ pub fn run<S: Source, K: Sink>(
     ensures later_sink { K.faults sink.old ≤ K.faults sink.new }
 
     ensures fine { result ≡ Status.Fine
-        → Replays (S.left source.old) (S.left source.new)
+        → Replays (S.left source.old) (S.left source.new) (asked_text words.now)
         (Appends (K.held sink.old) (K.held sink.new)) }
     ensures write_fault { result ≡ Status.WriteFault
-        → (Replays (S.left source.old) (S.left source.new)
+        → (Replays (S.left source.old) (S.left source.new) (asked_text words.now)
         (AddsFront (K.held sink.old) (K.held sink.new)))
         ⊎ (FindsWrong (S.left source.old) (S.left source.new)
         (AddsFront (K.held sink.old) (K.held sink.new))) }
@@ -67,12 +68,12 @@ pub fn run<S: Source, K: Sink>(
     ensures audit_wrong { result ≢ Status.AuditWrong }
 
     // And each of these comes where its cause is, unless memory or a fault is in the way.
-    ensures by_the_day { is_replay words.now ≡ true
+    ensures by_the_day { reads_day words.now ≡ true
         → EndsByTheDay result (S.left source.old) }
 {
-    if !is_alone(words, "replay") {
+    let Some(form) = DayForm::read(words) else {
         return Status::Usage;
-    }
+    };
     let bytes = match take_all(alloc, source, BYTE_LIMIT) {
         Ok(bytes) => bytes,
         Err(fault) => return Status::from(fault),
@@ -80,7 +81,7 @@ pub fn run<S: Source, K: Sink>(
     // What the desk answers is a legal history.
     one_history_is_legal();
     match read_day(alloc, &bytes) {
-        Ok(day) => replay_day(alloc, &day, sink),
+        Ok(day) => print_day(alloc, form, &day, sink),
         Err(DayFault::TooMany) => Status::TooLong,
         Err(DayFault::NoOpening) => Status::NoOpening,
         Err(DayFault::Unreadable { record_no, field }) => tell_wrong(record_no, field, sink),
@@ -107,14 +108,14 @@ fn tell_wrong<K: Sink>(record_no: u32, field: u8, sink: &mut K) -> Status
     }
 }
 
-// Replays the day file's commands on a new desk and writes the journal. All memory is taken, and all commands are
+// Replays the day file's commands on a new desk and writes what is asked for. All memory is taken, and all commands are
 // answered, before anything is written.
-fn replay_day<K: Sink>(alloc: Global, day: &DayFile, sink: &mut K) -> Status
+fn print_day<K: Sink>(alloc: Global, form: DayForm, day: &DayFile, sink: &mut K) -> Status
     ensures fine { result ≡ Status.Fine → Appends (K.held sink.old) (K.held sink.new)
-        (journal (day_history day.now.opening day.now.commands.items)) }
+        (text_of form (day_history day.now.opening day.now.commands.items)) }
     ensures write_fault { result ≡ Status.WriteFault
         → AddsFront (K.held sink.old) (K.held sink.new)
-        (journal (day_history day.now.opening day.now.commands.items)) }
+        (text_of form (day_history day.now.opening day.now.commands.items)) }
     ensures silent { result ≡ Status.NoMemory → Keeps (K.held sink.old) (K.held sink.new) }
     ensures write_cause { result ≡ Status.WriteFault
         → Rose (K.faults sink.old) (K.faults sink.new) }
@@ -126,10 +127,36 @@ fn replay_day<K: Sink>(alloc: Global, day: &DayFile, sink: &mut K) -> Status
     let Ok(entries) = day_entries(alloc, day) else {
         return Status::NoMemory;
     };
+    match form {
+        DayForm::Replay => print_journal(alloc, &day.opening, &entries, sink),
+        DayForm::Tally => write_text(sink, write_tally(&day.opening, &entries).as_slice()),
+    }
+}
+
+// Writes the journal of a desk that was opened so and has these entries.
+fn print_journal<K: Sink>(
+    alloc: Global,
+    opening: &Opening,
+    entries: &[Entry],
+    sink: &mut K,
+) -> Status
+    ensures fine { result ≡ Status.Fine → Appends (K.held sink.old) (K.held sink.new)
+        (journal (history_of opening.now entries.now)) }
+    ensures write_fault { result ≡ Status.WriteFault
+        → AddsFront (K.held sink.old) (K.held sink.new)
+        (journal (history_of opening.now entries.now)) }
+    ensures silent { result ≡ Status.NoMemory → Keeps (K.held sink.old) (K.held sink.new) }
+    ensures write_cause { result ≡ Status.WriteFault
+        → Rose (K.faults sink.old) (K.faults sink.new) }
+    ensures write_count { result ≢ Status.WriteFault → K.faults sink.new ≡ K.faults sink.old }
+    ensures later { K.faults sink.old ≤ K.faults sink.new }
+    ensures only { (result ≡ Status.Fine)
+        ⊎ ((result ≡ Status.WriteFault) ⊎ (result ≡ Status.NoMemory)) }
+{
     let Ok(mut buffer) = Vec::with_capacity(alloc, BUFFER_BYTES) else {
         return Status::NoMemory;
     };
-    if write_journal(&day.opening, &entries, &mut buffer, sink) {
+    if write_journal(opening, entries, &mut buffer, sink) {
         Status::Fine
     } else {
         Status::WriteFault

@@ -1,11 +1,11 @@
 //! The program's runs on given bytes and words.
 use std::alloc::{AllocError, Global};
 
-mod day_files;
 mod faults;
 mod forms;
 mod openings;
 mod replays;
+mod tallies;
 
 const OPENING: &[u8] = b"2024-03-04 00:00,open,2024-03,1,15\n";
 

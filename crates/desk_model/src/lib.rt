@@ -14,6 +14,7 @@ mod laws_of_entries;
 mod legal;
 mod limits;
 mod link;
+mod moment;
 mod offer;
 mod opening;
 mod person;
@@ -44,6 +45,7 @@ pub use limits::{
     VACANCY_LIMIT, the_numbers_of_the_desk, the_numbers_of_the_law,
 };
 pub use link::Link;
+pub use moment::last_moment;
 pub use offer::Offer;
 pub use opening::Opening;
 pub use person::Person;

@@ -5,3 +5,7 @@ pub mod ApartLemmas
 pub mod ReplyApartLemmas
 pub mod PlainLemmas
 pub mod LineLemmas
+pub mod OpeningLemmas
+pub mod DayLemmas
+pub mod LineReadLemmas
+pub mod TallyLemmas

@@ -3,3 +3,8 @@ pub mod Word
 pub mod Spelled
 pub mod Line
 pub mod RecordForms
+pub mod OpeningRecord
+pub mod DayFile
+pub mod DayCommands
+pub mod CommandLine
+pub mod Tally

@@ -36,7 +36,7 @@ use desk_model::{Cmd, Stated};
 /// | `offer`, `accept`, `decline`, `noanswer`, `withdraw`, `explain` | vacancy, person |
 /// | `hours` | person, month |
 /// | `at` | board, place |
-pub fn read_command(fields: &[&[u8]]) -> Result<Stated, u8>
+pub fn read_record(fields: &[&[u8]]) -> Result<Stated, u8>
     ensures some { IfOk result (StatesCommand (map (λ field. field.now) fields.now)) }
     ensures only { (s : StatedValue) → StatesCommand (map (λ field. field.now) fields.now) s
         → result ≡ Ok s }

@@ -1,12 +1,12 @@
 //! Records of commands are read as they are written.
-use crate::{read_command, write_entry};
+use crate::{read_record, write_entry};
 use arrayvec::ArrayVec;
 use desk_base::{Minute, split_once};
 use desk_model::{Entry, Reply, Stated};
 use std::test::Fail;
 
 // What the record states, its fields standing between commas.
-pub fn read_record(record: &[u8]) -> Option<Stated> {
+pub fn read_text(record: &[u8]) -> Option<Stated> {
     read_fields(record).ok()
 }
 
@@ -16,7 +16,7 @@ pub fn read_fields(record: &[u8]) -> Result<Stated, u8> {
     for field in record.split(|b| *b == b',') {
         fields.try_push(field).map_err(|_| u8::MAX)?;
     }
-    read_command(fields.as_slice())
+    read_record(fields.as_slice())
 }
 
 fn a_minute() -> Result<Minute, Fail> {
@@ -98,7 +98,7 @@ fn records_that_are_read(rt: HostRuntime) -> Result<(), Fail> {
         b"2024-03-04 00:01,vac,1",
     ];
     for record in records {
-        let stated = read_record(record).ok_or("not read")?;
+        let stated = read_text(record).ok_or("not read")?;
         assert!(rt; is_written_as(stated, record)?);
     }
     Ok(())

@@ -2,7 +2,11 @@
 #![tactic(auto)]
 
 mod bar_line;
+mod command_line;
 mod command_record;
+mod day_commands;
+mod day_fault;
+mod day_file;
 mod different_replies;
 mod each_line;
 mod entry_line;
@@ -10,30 +14,46 @@ mod event_word;
 mod field;
 mod first_wrong;
 mod form;
+mod limits;
 mod line_text;
 mod one_statement;
 mod opening_line;
+mod opening_record;
+mod read_fail;
 mod record_forms;
+mod record_row;
 mod reply_line;
+mod reply_sort;
 mod spelled_command;
 mod spelled_event;
 mod spelled_offer;
 mod spelled_person;
 mod stated_line;
+mod tally;
 mod word;
 mod wrong_line;
+mod wrong_place;
 
-pub use command_record::read_command;
+pub use command_line::read_command;
+pub use command_record::read_record;
+pub use day_fault::DayFault;
+pub use day_file::{DayFile, bytes_are_one_day_file, read_day};
 pub use different_replies::different_replies_have_different_texts;
 pub use each_line::each_line_ends_once;
 pub use entry_line::write_entry;
+pub use limits::RECORD_LIMIT;
 pub use line_text::LineText;
 pub use one_statement::a_record_states_one_command;
 pub use opening_line::write_opening;
+pub use opening_record::read_opening_record;
+pub use read_fail::ReadFail;
+pub use tally::{a_tally_adds_up, write_tally};
 pub use wrong_line::write_wrong;
 
 #[cfg(test)]
 mod command_tests;
+#[cfg(test)]
+mod day_tests;
 #[cfg(test)]
 mod refused_tests;
 #[cfg(test)]

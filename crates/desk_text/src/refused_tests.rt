@@ -1,5 +1,5 @@
 //! Records that state no command are not read.
-use crate::command_tests::read_record;
+use crate::command_tests::read_text;
 use std::test::Fail;
 
 #[test]
@@ -208,7 +208,7 @@ fn records_that_are_refused(rt: HostRuntime) -> Result<(), Fail> {
         b"2024-03-04 00:01,vacs,12",
     ];
     for record in records {
-        assert!(rt; read_record(record).is_none());
+        assert!(rt; read_text(record).is_none());
     }
     Ok(())
 }

@@ -14,15 +14,6 @@ pub one_more : (o : OpeningValue) (es : List EntryValue) (i : ℕ) (e : EntryVal
     → with_entry (history_of o (take i es)) e ≡ history_of o (take (i + 1) es)
 one_more o es i e within is = ap (history_of o) (ap (λ x. take i es ++ x ∷ []) is ∙ sym (take_more es i e within))
 
--- the last entry's moment
-pub last_moment-is : (es : List EntryValue) (e : EntryValue) → slice_get es (length es - 1) ≡ Some e → last_of (λ x. Some x.moment) es ≡ Some e.moment
-last_moment-is es e found =
-    let within = slice_get_within es (length es - 1) e found in
-    let is : get_or es (length es - 1) e ≡ e = get_or_from_slice_get es (length es - 1) e e found in
-    let whole : take (length es - 1) es ++ e ∷ [] ≡ es =
-    ap (λ x. take (length es - 1) es ++ x ∷ []) (sym is) ∙ sym (take_more es (length es - 1) e within) ∙ take_all (length es - 1 + 1) es (omega arith) in
-    subst (λ xs. last_of (λ x. Some x.moment) xs ≡ Some e.moment) whole (last_of-tells (λ x. Some x.moment) (take (length es - 1) es) e e.moment refl)
-
 -- what the last of those up to a place says, or else a value, by the one before that place
 pub last_of-back : {X : Type 0} (f : EntryValue → Option X) (es : List EntryValue) (i : ℕ) (e : EntryValue) (x : X) (told : Option X) → 0 < i → i ≤ length es
     → e ≡ get_or es (i - 1) e → f e ≡ told → unwrap_or told (unwrap_or (last_of f (take (i - 1) es)) x) ≡ unwrap_or (last_of f (take i es)) x

@@ -1,7 +1,6 @@
-ghost use Rattle.std.specs.Prelude.{◌≡◌, Some, true, false, IfSome, IfNone, unwrap_or};
-ghost use Rattle.desk_model.specs.History.{is_done, last_of};
+ghost use Rattle.std.specs.Prelude.{◌≡◌, true, false, IfSome, IfNone};
+ghost use Rattle.desk_model.specs.History.{is_done};
 
-use desk_base::Minute;
 use desk_model::{Cmd, Entry, Reply};
 
 /// The entry's command, where it was accepted.
@@ -13,15 +12,5 @@ pub(crate) fn accepted(entry: &Entry) -> Option<&Cmd>
     match &entry.reply() {
         Reply::Done => Some(entry.stated().cmd()),
         _ => None,
-    }
-}
-
-/// The moment of the last entry; where there is none, the opening's first minute.
-pub(crate) fn last_moment(start: Minute, entries: &[Entry]) -> Minute
-    ensures { result ≡ unwrap_or (last_of (λ e. Some e.moment) entries.now) start }
-{
-    match entries.last() {
-        Some(entry) => entry.moment(),
-        None => start,
     }
 }

@@ -6,7 +6,6 @@ ghost use Rattle.desk_model.specs.Legal.{IsLegal};
 use crate::assigned::assigned;
 use crate::boards::{count_boards_of, is_on};
 use crate::duty::{gather, is_closed, latest};
-use crate::history::last_moment;
 use crate::lists::Lists;
 use crate::marks::is_marked_off;
 use crate::offers::{on_offer, open_offer};
@@ -19,8 +18,7 @@ use denial_rules::Bar;
 use desk_answers::Reads;
 use desk_base::{Code, Minute, Month, PersonNo, VacNo};
 use desk_model::{
-    BoardSetup, Chain, Entry, Job, Link, Offer, Opening, Person, VacState, a_legal_history_fits,
-};
+    BoardSetup, Chain, Entry, Job, Link, Offer, Opening, Person, VacState, a_legal_history_fits, last_moment};
 use duty_events::{Event, EventFault, Stage, allowed, stage_of};
 use month_hours::{capped, used};
 
@@ -88,7 +86,7 @@ impl Reads for Kept {
     }
 
     fn last_moment(&self) -> Minute {
-        last_moment(self.opening.start(), &self.entries)
+        last_moment(&self.opening, &self.entries)
     }
 
     fn person(&self, person: PersonNo) -> Option<Person> {

@@ -26,11 +26,13 @@ fn the_words_behind_the_name(rt: HostRuntime) -> Result<(), Fail> {
 #[test]
 fn words_that_are_no_form(rt: HostRuntime) -> Result<(), Fail> {
     let alloc = rt.alloc();
-    let wrong: [&[&str]; 6] = [
+    let wrong: [&[&str]; 8] = [
         &[],
         &["replay", "now"],
         &["Replay"],
         &["replay "],
+        &["tally", "tally"],
+        &["replay", "tally"],
         &["serve"],
         &["--help"],
     ];

@@ -137,8 +137,8 @@ fn openings_and_what_they_write(rt: HostRuntime) -> Result<(), Fail> {
         ),
         (
             b"2024-03-04 00:00,open,2024-03,1,15\r",
-            Status::NoOpening,
-            none,
+            Status::Fine,
+            OPENING,
         ),
         (
             b"2024-03-04 00:00,open,2024-03,1,\xff\n",
@@ -167,13 +167,13 @@ fn openings_and_what_they_write(rt: HostRuntime) -> Result<(), Fail> {
         ),
         (
             b"2024-03-04 00:00,\"open\",2024-03,1,15\n",
-            Status::NoOpening,
-            none,
+            Status::Fine,
+            OPENING,
         ),
         (
             b"\xef\xbb\xbf2024-03-04 00:00,open,2024-03,1,15\n",
-            Status::NoOpening,
-            none,
+            Status::Fine,
+            OPENING,
         ),
         (
             b"2024-03-04 00:01,enrol,101,E,HOM,-\n2024-03-04 00:00,open,2024-03,1,15\n",

@@ -1,0 +1,10 @@
+-- What was read of the records behind an opening.
+use Rattle.std.specs.Prelude.{ℕ, Option, None, Some, List}
+use Rattle.desk_model.specs.Statement.{StatedValue}
+use Rattle.desk_text.specs.declared.wrong_place.WrongPlace.{WrongPlace}
+use Rattle.desk_text.specs.DayFile.{StateCommands, HasWrong}
+
+-- the records state these commands; or, where a wrong place is told, it is that of the first which states none
+abbrev pub Tells : Option WrongPlace → List StatedValue → List (List (List ℕ)) → Type 0
+Tells None commands records = StateCommands records commands
+Tells (Some place) commands records = HasWrong records place.record_no place.field

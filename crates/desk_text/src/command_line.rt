@@ -1,0 +1,47 @@
+//! A caller's line.
+ghost use Rattle.std.specs.Prelude.{◌≡◌, ◌≢◌, ◌⊎◌, IfOk, IfErr, IsErrOf};
+ghost use Rattle.desk_model.specs.Statement.{StatedValue};
+ghost use Rattle.desk_text.specs.CommandLine.{IsCommandLine, HasFail};
+ghost use Rattle.desk_text.specs.declared.read_fail.ReadFail.{ReadFail as Fail};
+
+use crate::read_fail::ReadFail;
+use crate::record_row::read_row;
+use csv::ByteRecord;
+use desk_model::Stated;
+use record_rows::Rows;
+use std::alloc::Global;
+
+/// The command that a caller's line states, and the minute at which it was stated. The line has to be one record, as
+/// `csv` reads it, with or without a line feed.
+pub fn read_command(alloc: Global, line: &[u8]) -> Result<Stated, ReadFail>
+    ensures some { IfOk result (IsCommandLine line.now) }
+    ensures fail { IfErr result (λ fail. fail ≢ ReadFail.NoMemory → HasFail line.now fail) }
+
+    // And each comes where its cause is, unless memory is wanting.
+    ensures only { (s : StatedValue) → IsCommandLine line.now s
+        → (result ≡ Ok s) ⊎ (IsErrOf result ReadFail.NoMemory) }
+    ensures tells { (fail : Fail) → HasFail line.now fail
+        → (IsErrOf result fail) ⊎ (IsErrOf result ReadFail.NoMemory) }
+{
+    read_only_record(alloc, line)
+}
+
+// Reads the line's first record, and sees that it has no second one.
+fn read_only_record(alloc: Global, line: &[u8]) -> Result<Stated, ReadFail>
+    ensures some { IfOk result (IsCommandLine line.now) }
+    ensures fail { IfErr result (λ fail. fail ≢ ReadFail.NoMemory → HasFail line.now fail) }
+{
+    let mut rows = Rows::of(alloc, line);
+    let mut row = ByteRecord::new(alloc);
+    if !rows.next(&mut row)? {
+        return Err(ReadFail::Malformed(0));
+    }
+    let read = read_row(&row);
+    if rows.next(&mut row)? {
+        return Err(ReadFail::Malformed(0));
+    }
+    match read {
+        Ok(stated) => Ok(stated),
+        Err(field) => Err(ReadFail::Malformed(field)),
+    }
+}

@@ -1,0 +1,70 @@
+//! The commands of a day file.
+ghost use Rattle.std.specs.Prelude.{◌≡◌, ◌<◌, ◌≤◌, ◌+◌, ◌++◌, ◌∷◌, [], ℕ, List, length, MatchOption, IfOk};
+ghost use Rattle.csv.specs.Records.{fields_of};
+ghost use Rattle.record_rows.specs.Rows.{HasLeft};
+ghost use Rattle.desk_text.specs.DayCommands.{Tells};
+
+use crate::limits::RECORD_LIMIT;
+use crate::record_row::read_row;
+use crate::wrong_place::WrongPlace;
+use csv::ByteRecord;
+use desk_base::NoMemory;
+use desk_model::Stated;
+use record_rows::Rows;
+use std::alloc::Global;
+
+/// What the records behind an opening state, up to the first that states no command.
+#[derive(Drop)]
+pub struct DayCommands {
+    /// The commands, in their order.
+    pub commands: Vec<Stated>,
+    /// Where that record is wrong, if there is one.
+    pub wrong: Option<WrongPlace>,
+}
+
+impl DayCommands {
+    // Takes the record of this number, the next. What is behind a wrong one is passed over.
+    fn take(&mut self, record_no: u32, row: &ByteRecord) -> Result<(), NoMemory>
+        ensures { IfOk result (λ _. (records : List (List (List ℕ)))
+            → record_no ≡ length records + 2
+            → Tells self.old.wrong self.old.commands.items records
+            → Tells self.new.wrong self.new.commands.items (records ++ fields_of row.now ∷ [])) }
+    {
+        if self.wrong.is_none() {
+            match read_row(row) {
+                Ok(stated) => self.commands.push(stated)?,
+                Err(field) => self.wrong = Some(WrongPlace { record_no, field }),
+            }
+        }
+        Ok(())
+    }
+}
+
+/// Reads the records that are left behind an opening, with room for so many commands at first. It is `None` where there
+/// are more than a day file may have.
+pub fn read_commands(
+    alloc: Global,
+    room: usize,
+    rows: &mut Rows,
+    row: &mut ByteRecord,
+) -> Result<Option<DayCommands>, NoMemory>
+    ensures { IfOk result (λ read. (left : List (List (List ℕ))) → HasLeft rows.old left
+        → MatchOption read (RECORD_LIMIT ≤ length left) (λ told.
+        (length left < RECORD_LIMIT) × Tells told.wrong told.commands.items left)) }
+{
+    let mut told = DayCommands {
+        commands: Vec::with_capacity(alloc, room)?,
+        wrong: None,
+    };
+    for record_no in 2..=RECORD_LIMIT as u32 {
+        if !rows.next(row)? {
+            return Ok(Some(told));
+        }
+        told.take(record_no, row)?;
+    }
+    if rows.next(row)? {
+        Ok(None)
+    } else {
+        Ok(Some(told))
+    }
+}

@@ -1,0 +1,54 @@
+//! An opening, read from the fields of a record.
+ghost use Rattle.std.specs.Prelude.{◌≡◌, ◌<◌, ◌^◌, ℕ, decimal, map, IfSome};
+ghost use Rattle.desk_base.specs.Window.{WindowValue};
+ghost use Rattle.desk_model.specs.Opening.{OpeningValue};
+ghost use Rattle.desk_text.specs.OpeningRecord.{StatesOpening, SpellsOpening, SpellsWindow};
+
+use desk_base::{Minute, Month, Window, read_decimal};
+use desk_model::Opening;
+
+/// The opening that a record's fields state, `M,open,month,months,answer`; `None` where they state none.
+pub fn read_opening_record(fields: &[&[u8]]) -> Option<Opening>
+    ensures some { IfSome result (StatesOpening (map (λ field. field.now) fields.now)) }
+    ensures only { (opening : OpeningValue)
+        → StatesOpening (map (λ field. field.now) fields.now) opening → result ≡ Some opening }
+{
+    let [start, word, month, months, answer] = fields else {
+        return None;
+    };
+    if *word != b"open".as_slice() {
+        return None;
+    }
+    spelled_opening(start, month, months, answer)
+}
+
+fn spelled_opening(start: &[u8], month: &[u8], months: &[u8], answer: &[u8]) -> Option<Opening>
+    ensures some { IfSome result (SpellsOpening start.now month.now months.now answer.now) }
+    ensures only { (opening : OpeningValue)
+        → SpellsOpening start.now month.now months.now answer.now opening
+        → result ≡ Some opening }
+{
+    let start = Minute::read(start)?;
+    let window = spelled_window(month, months)?;
+    let answer = small_number(answer)?;
+    Opening::new(start, window, answer)
+}
+
+fn spelled_window(month: &[u8], months: &[u8]) -> Option<Window>
+    ensures some { IfSome result (SpellsWindow month.now months.now) }
+    ensures only { (window : WindowValue) → SpellsWindow month.now months.now window
+        → result ≡ Some window }
+{
+    let first = Month::read(month)?;
+    let months = small_number(months)?;
+    Window::new(first, months)
+}
+
+// The number below 256 that a field spells.
+fn small_number(text: &[u8]) -> Option<u8>
+    ensures some { IfSome result (λ number. text.now ≡ decimal number) }
+    ensures only { (number : ℕ) → number < 2 ^ 8 → text.now ≡ decimal number
+        → result ≡ Some number }
+{
+    u8::try_from(read_decimal(text)?).ok()
+}

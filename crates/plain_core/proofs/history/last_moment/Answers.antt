@@ -1,9 +1,0 @@
-use Rattle.std.proofs.Common.{unwrap_or, sym, ap, ◌∙◌}
-use Rattle.std.specs.Option.{option_copied}
-use Rattle.plain_core.proofs.PrefixLemmas.{last_moment-is}
-use Rattle.plain_core.proofs.history.last_moment.Goals as goal
-
-pub returns-in-Some : goal.returns-in-Some
-returns-in-Some c =
-    let last = sym c.last.ensures.value ∙ ap option_copied c.in-Some.is in
-    c.moment.ensures ∙ ap (λ o. unwrap_or o c.args.start) (sym (last_moment-is c.args.entries.now c.in-Some.entry.now last))

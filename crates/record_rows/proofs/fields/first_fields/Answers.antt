@@ -1,0 +1,17 @@
+use Rattle.std.proofs.Common.{◌∙◌, [], ◌∷◌, sym, arith}
+use Rattle.std.proofs.lemmas.List.{map-append}
+use Rattle.csv.specs.Records.{fields_of}
+use Rattle.record_rows.specs.declared.fields.TheConstants.{FIELD_LIMIT}
+use Rattle.record_rows.proofs.FieldLemmas.{field-there, field-none}
+use Rattle.record_rows.proofs.fields.first_fields.Goals as goal
+
+pub returns-in-None : goal.returns-in-None
+returns-in-None c =
+    c.loop-place.invariant.0 ∙ field-none (fields_of c.args.row.now) c.loop-place.place FIELD_LIMIT (omega (arith, c.loop-place-test.true)) c.in-None.ensures.value
+
+pub loop-place-preserved : goal.loop-place-preserved
+loop-place-preserved c = (
+  rw (c.push.ensures.items, map-append (λ field. field.now) c.loop-place.fields.items (c.in-Some.field ∷ []), c.loop-place.invariant.0)
+      (sym (field-there (fields_of c.args.row.now) c.loop-place.place c.in-Some.field.now (rw c.in-Some.is at c.get.ensures.value))),
+  omega (arith, c.loop-place.invariant.1, c.push.ensures.len),
+)

@@ -1,0 +1,67 @@
+use crate::{Rows, first_fields};
+use csv::ByteRecord;
+use desk_base::NoMemory;
+use std::alloc::Global;
+
+// The records of a text, each as its fields with `;` between them, with `/` behind each record.
+fn told(alloc: Global, text: &[u8]) -> Result<Vec<u8>, NoMemory> {
+    let mut rows = Rows::of(alloc, text);
+    let mut row = ByteRecord::new(alloc);
+    let mut told = Vec::new(alloc);
+    for _ in 0..100 {
+        if !rows.next(&mut row)? {
+            return Ok(told);
+        }
+        for field in first_fields(&row).as_slice() {
+            told.extend_from_slice(field)?;
+            told.push(b';')?;
+        }
+        told.push(b'/')?;
+    }
+    Ok(told)
+}
+
+#[test]
+fn records_of_a_text(rt: HostRuntime) {
+    let table: [(&[u8], &[u8]); 23] = [
+        (b"", b""),
+        (b"a,b\n", b"a;b;/"),
+        (b"a,b", b"a;b;/"),
+        (b"a,b\nc\n", b"a;b;/c;/"),
+        (b"a,b\r\nc\r\n", b"a;b;/c;/"),
+        (b"a\rb", b"a;/b;/"),
+        (b"\n\n\r\n\r\ra\n\n\nb\n\n", b"a;/b;/"),
+        (b" \n", b" ;/"),
+        (b",\n", b";;/"),
+        (b"\"a\",b\n", b"a;b;/"),
+        (b"\"a,b\",c\n", b"a,b;c;/"),
+        (b"\"a\nb\",c\n", b"a\nb;c;/"),
+        (b"\"a\r\nb\",c\n", b"a\r\nb;c;/"),
+        (b"\"say \"\"on\"\"\",c\n", b"say \"on\";c;/"),
+        (b"a\"b,c\n", b"a\"b;c;/"),
+        (b"\"a\"b,c\n", b"ab;c;/"),
+        (b"\"a,b\nc\n", b"a,b\nc\n;/"),
+        (b"\"\",a\n", b";a;/"),
+        (b"\xef\xbb\xbfa,b\n", b"a;b;/"),
+        (b"\xef\xbb\xbf\xef\xbb\xbfa\n", b"\xef\xbb\xbfa;/"),
+        (b"a\n\xef\xbb\xbfb\n", b"a;/\xef\xbb\xbfb;/"),
+        (b"\xef\xbb", b"\xef\xbb;/"),
+        (b"\xef\xbb\xbf\"a\"\n", b"a;/"),
+    ];
+    for (text, records) in table {
+        assert_eq!(rt;
+            told(rt.alloc(), text).expect(&rt, "memory").as_slice(),
+            records
+        );
+    }
+}
+
+#[test]
+fn a_long_record_gives_its_first_12_fields(rt: HostRuntime) {
+    assert_eq!(rt;
+        told(rt.alloc(), b"1,2,3,4,5,6,7,8,9,10,11,12,13,14\n15\n")
+            .expect(&rt, "memory")
+            .as_slice(),
+        b"1;2;3;4;5;6;7;8;9;10;11;12;/15;/".as_slice()
+    );
+}
