@@ -1,5 +1,6 @@
 pub mod FieldLemmas
 pub mod FormLemmas
+pub mod RowLemmas
 pub mod SpelledLemmas
 pub mod ApartLemmas
 pub mod ReplyApartLemmas

@@ -20,6 +20,7 @@ mod spelled_event;
 mod spelled_offer;
 mod spelled_person;
 mod stated_line;
+mod table_of_records;
 mod word;
 mod wrong_line;
 
@@ -30,6 +31,7 @@ pub use entry_line::write_entry;
 pub use line_text::LineText;
 pub use one_statement::a_record_states_one_command;
 pub use opening_line::write_opening;
+pub use table_of_records::the_table_has_just_the_records_of_commands;
 pub use wrong_line::write_wrong;
 
 #[cfg(test)]
