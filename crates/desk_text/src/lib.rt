@@ -31,7 +31,9 @@ pub use entry_line::write_entry;
 pub use line_text::LineText;
 pub use one_statement::a_record_states_one_command;
 pub use opening_line::write_opening;
-pub use table_of_records::the_table_has_just_the_records_of_commands;
+pub use table_of_records::{
+    a_record_is_wrong_at_one_place, the_table_has_just_the_records_of_commands,
+};
 pub use wrong_line::write_wrong;
 
 #[cfg(test)]
