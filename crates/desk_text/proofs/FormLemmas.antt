@@ -76,7 +76,7 @@ begins-short fields count begins =
     let short : nat_le (length (get_or record_forms at.0 [])) 10 ≡ true = AllPass-from_list_all (λ row. nat_le (length row) 10) record_forms refl at.0 [] at.1 in
     omega (arith, leb-true _ _ short, ap length (at.2 []), begins.has.some)
 
-one-back : (n : ℕ) → n + 1 - 1 ≡ n
+pub one-back : (n : ℕ) → n + 1 - 1 ≡ n
 one-back n = omega arith
 
 -- fields that begin like a row and like no row with one more are wrong there
@@ -101,7 +101,7 @@ begins-take fields front count le begins = record {
   };
 }
 
-take-begins : (fields : List (List ℕ)) (front count : ℕ) → count ≤ front → Begins fields count → Begins (take front fields) count
+pub take-begins : (fields : List (List ℕ)) (front count : ℕ) → count ≤ front → Begins fields count → Begins (take front fields) count
 take-begins fields front count le begins = record {
   forms = begins.forms;
   among = begins.among;
@@ -120,7 +120,7 @@ wrong-take fields place wrong = record {
   wrong = λ begins. wrong.wrong (take-begins fields 12 place (omega (arith, begins-short _ _ begins)) begins);
 }
 
-begins-fewer : (fields : List (List ℕ)) (m n : ℕ) → m ≤ n → Begins fields n → Begins fields m
+pub begins-fewer : (fields : List (List ℕ)) (m n : ℕ) → m ≤ n → Begins fields n → Begins fields m
 begins-fewer fields m n le begins = record { forms = begins.forms; among = begins.among; has = has-fewer begins.forms fields m n le begins.has }
 
 -- fields are wrong at one place at most

@@ -1,5 +1,8 @@
 pub mod FieldLemmas
 pub mod FormLemmas
+pub mod RowLemmas
+pub mod RowCommandLemmas
+pub mod PlaceLemmas
 pub mod SpelledLemmas
 pub mod ApartLemmas
 pub mod ReplyApartLemmas

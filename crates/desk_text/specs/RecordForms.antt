@@ -94,3 +94,10 @@ pub record IsWrongAt (fields : List (List ℕ)) (place : ℕ) : Type 0 where
   pub from_1 : 1 ≤ place
   pub right : Begins fields (place - 1)
   pub wrong : ¬ Begins fields place
+
+-- the fields are as many as those of some record, and have their forms
+pub record HasRow (fields : List (List ℕ)) : Type 0 where
+  pub forms : List Form
+  pub among : Contains record_forms forms
+  pub as_many : length forms ≡ length fields
+  pub has : HasForms forms fields (length fields)

@@ -26,3 +26,8 @@ pub record SpellsEvent (fields : List (List ℕ)) (event : Event) : Type 0 where
 pub record StatesCommand (fields : List (List ℕ)) (s : StatedValue) : Type 0 where
   pub valid : IsStated s
   pub fields_are : fields ≡ stated_fields s
+
+-- the fields are those of some command and of the minute at which it was stated
+pub record StatesSome (fields : List (List ℕ)) : Type 0 where
+  pub stated : StatedValue
+  pub states : StatesCommand fields stated

@@ -29,6 +29,7 @@ mod spelled_event;
 mod spelled_offer;
 mod spelled_person;
 mod stated_line;
+mod table_of_records;
 mod tally;
 mod word;
 mod wrong_line;
@@ -47,6 +48,9 @@ pub use one_statement::a_record_states_one_command;
 pub use opening_line::write_opening;
 pub use opening_record::read_opening_record;
 pub use read_fail::ReadFail;
+pub use table_of_records::{
+    a_record_is_wrong_at_one_place, the_table_has_just_the_records_of_commands,
+};
 pub use tally::{a_tally_adds_up, write_tally};
 pub use wrong_line::write_wrong;
 
