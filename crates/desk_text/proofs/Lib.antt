@@ -1,7 +1,12 @@
 pub mod FieldLemmas
+pub mod FieldsLemmas
 pub mod FormLemmas
 pub mod SpelledLemmas
 pub mod ApartLemmas
 pub mod ReplyApartLemmas
 pub mod PlainLemmas
 pub mod LineLemmas
+pub mod CutLemmas
+pub mod PartLemmas
+pub mod SpelledReplyLemmas
+pub mod SpelledEntryLemmas

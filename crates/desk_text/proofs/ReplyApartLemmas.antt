@@ -38,22 +38,22 @@ use Rattle.desk_text.proofs.ApartLemmas.{number-one, minute_text-one, month_text
 -- ---- texts between blanks
 
 -- no byte is a blank
-abbrev IsUnbroken : List ℕ → Type 0
+abbrev pub IsUnbroken : List ℕ → Type 0
 IsUnbroken text = All (λ b. (b == 32) ≡ false) text
 
 -- numbers, codes and kinds are such texts
-decimal-unbroken : (n : ℕ) → n < 2 ^ 64 → IsUnbroken (decimal n)
+pub decimal-unbroken : (n : ℕ) → n < 2 ^ 64 → IsUnbroken (decimal n)
 decimal-unbroken n small = All-from_get_or (λ b. (b == 32) ≡ false) (decimal n) 0 (λ i within.
     let digit = digit_at (decimal n) i (decimal_is_IsNumeral n small).0.1 within in
     ne_eqb (get_or (decimal n) i 0) 32 (λ e. omega (arith, digit)))
 
-code-unbroken : (code : List ℕ) → IsCode code → IsUnbroken code
+pub code-unbroken : (code : List ℕ) → IsCode code → IsUnbroken code
 code-unbroken code is k d within = letter (get_or code k d) (AllPass-from_list_all is_code_byte code is.bytes k d within)
   where
     letter : (b : ℕ) → is_code_byte b ≡ true → (b == 32) ≡ false
     letter b h = grind (arith, nat_tests, h)
 
-kind-unbroken : (k : Kind) → IsUnbroken (kind_text k)
+pub kind-unbroken : (k : Kind) → IsUnbroken (kind_text k)
 kind-unbroken kind.D = All-cons (λ b. (b == 32) ≡ false) 68 [] refl (All-nil (λ b. (b == 32) ≡ false))
 kind-unbroken kind.P = All-cons (λ b. (b == 32) ≡ false) 80 [] refl (All-nil (λ b. (b == 32) ≡ false))
 kind-unbroken kind.O = All-cons (λ b. (b == 32) ≡ false) 79 [] refl (All-nil (λ b. (b == 32) ≡ false))
@@ -97,7 +97,7 @@ unfolding minute_text day_text month_text
 minute-broken t is = let no : (32 == 32) ≡ false = is 10 0 (lit< tt) in false≢true (sym no)
 
 -- a minute that may lie behind the year 2099
-late_text-one : (a b : ℕ) → a < 2 ^ 28 → b < 2 ^ 28 → late_text a ≡ late_text b → a ≡ b
+pub late_text-one : (a b : ℕ) → a < 2 ^ 28 → b < 2 ^ 28 → late_text a ≡ late_text b → a ≡ b
 late_text-one a b ha hb e = go (nat_lt a YEARS_END) (nat_lt b YEARS_END) e
   where
     apart-decimal : (t n : ℕ) → n < 2 ^ 28 → minute_text t ≡ decimal n → ⊥

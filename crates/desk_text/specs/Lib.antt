@@ -3,3 +3,6 @@ pub mod Word
 pub mod Spelled
 pub mod Line
 pub mod RecordForms
+pub mod Heads
+pub mod SpelledReply
+pub mod SpelledEntry

@@ -1,8 +1,10 @@
 //! The texts of the desk: commands read, and the journal's lines written.
 #![tactic(auto)]
 
+mod bar_head;
 mod bar_line;
 mod command_record;
+mod cut;
 mod different_replies;
 mod each_line;
 mod entry_line;
@@ -13,12 +15,20 @@ mod form;
 mod line_text;
 mod one_statement;
 mod opening_line;
+mod outcome_line;
+mod record_fields;
 mod record_forms;
+mod reply_head;
 mod reply_line;
+mod spelled_bar;
 mod spelled_command;
+mod spelled_entry;
 mod spelled_event;
 mod spelled_offer;
+mod spelled_part;
 mod spelled_person;
+mod spelled_reply;
+mod spelled_stage;
 mod stated_line;
 mod word;
 mod wrong_line;
@@ -30,6 +40,8 @@ pub use entry_line::write_entry;
 pub use line_text::LineText;
 pub use one_statement::a_record_states_one_command;
 pub use opening_line::write_opening;
+pub use outcome_line::{write_bar, write_outcome};
+pub use spelled_entry::read_entry;
 pub use wrong_line::write_wrong;
 
 #[cfg(test)]
