@@ -1,5 +1,5 @@
 -- Texts cut at a mark, and behind a head.
-use Rattle.std.proofs.Common.{◌≡◌, ◌≢◌, ◌∙◌, ℕ, ◌+◌, ◌-◌, ◌<◌, ◌==◌, true, false, Option, None, Some, IfSome, IfNone, Bor, nat_eq, List, [], ◌∷◌, ◌++◌, length, take, drop, refl, sym, ap, arith, length-append}
+use Rattle.std.proofs.Common.{◌≡◌, ◌≢◌, ◌∙◌, ℕ, ◌+◌, ◌-◌, ◌<◌, ◌==◌, true, false, Option, None, Some, IfSome, IfNone, Bor, nat_eq, List, [], ◌∷◌, ◌++◌, length, get_or, take, drop, refl, sym, ap, arith, length-append}
 use Rattle.std.specs.List.{All, join_with_byte}
 use Rattle.std.specs.Cmp.Lexicographic.{pointwise}
 use Rattle.std.proofs.lemmas.Bool.{eq-eqb, false≢true}
@@ -31,6 +31,13 @@ parts-text mark text front back e =
 pub text-parts : (mark : ℕ) (text front back : List ℕ) → All (λ b. (b == mark) ≡ false) front → text ≡ front ++ mark ∷ back
     → parts_by mark text ≡ front ∷ parts_by mark back
 text-parts mark text front back free e = ap (parts_by mark) e ∙ slice_split_at (λ b. b == mark) front mark back free (eq-eqb mark mark refl)
+
+-- where two texts are one, so is what stands before the first mark, and what stands behind it
+pub cut-one : (mark : ℕ) (a b x y : List ℕ) → All (λ c. (c == mark) ≡ false) a → All (λ c. (c == mark) ≡ false) b
+    → a ++ mark ∷ x ≡ b ++ mark ∷ y → (a ≡ b) × (x ≡ y)
+cut-one mark a b x y ha hb e =
+    let parts = sym (text-parts mark _ a x ha refl) ∙ text-parts mark _ b y hb e in
+    (ap (λ ps. get_or ps 0 []) parts, parts-one mark x y (ap (λ ps. drop 1 ps) parts))
 
 -- there are parts behind a mark
 pub some-parts : (mark : ℕ) (back : List ℕ) → [] ≡ parts_by mark back → ⊥

@@ -1,5 +1,5 @@
 pub mod FieldLemmas
-pub mod FieldsLemmas
+pub mod FirstFieldsLemmas
 pub mod FormLemmas
 pub mod SpelledLemmas
 pub mod ApartLemmas
@@ -10,3 +10,5 @@ pub mod CutLemmas
 pub mod PartLemmas
 pub mod SpelledReplyLemmas
 pub mod SpelledEntryLemmas
+pub mod BeginningLemmas
+pub mod OpeningLemmas

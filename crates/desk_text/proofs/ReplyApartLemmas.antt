@@ -1,12 +1,10 @@
 -- Different replies have different texts.
-use Rattle.std.proofs.Common.{◌≡◌, ◌∙◌, ℕ, ◌<◌, ◌^◌, ◌==◌, Bool, true, false, cond, nat_lt, List, [], ◌∷◌, ◌++◌, get_or, take, drop, decimal, refl, sym, ap, subst, lit<, arith, append_assoc}
+use Rattle.std.proofs.Common.{◌≡◌, ℕ, ◌<◌, ◌^◌, ◌==◌, Bool, true, false, cond, nat_lt, List, [], ◌∷◌, ◌++◌, get_or, take, drop, decimal, refl, sym, ap, subst, lit<, arith, append_assoc}
 use Rattle.std.specs.List.{All}
 use Rattle.std.proofs.lemmas.Bool.{ne_eqb, false≢true}
 use Rattle.std.proofs.lemmas.Bool.Decides.{nat_tests}
 use Rattle.std.proofs.lemmas.Fmt.{decimal_injective, decimal_is_IsNumeral}
-use Rattle.std.proofs.lemmas.List.{append_cancel_left}
 use Rattle.std.proofs.lemmas.List.Elements.{All-from_get_or, All-cons, All-nil}
-use Rattle.std.proofs.lemmas.List.Splits.{slice_split_at}
 use Rattle.std.proofs.lemmas.List.Sums.{AllPass-from_list_all}
 use Rattle.std.proofs.lemmas.Str.Parse.{digit_at}
 use Rattle.desk_base.specs.declared.minute.TheConstants.{YEARS_END}
@@ -14,7 +12,6 @@ use Rattle.desk_base.specs.Code.{IsCode, is_code_byte}
 use Rattle.desk_base.specs.Day.{day_text}
 use Rattle.desk_base.specs.Minute.{minute_text}
 use Rattle.desk_base.specs.Month.{month_text}
-use Rattle.desk_base.specs.Parts.{parts_by}
 use Rattle.duty_events.specs.declared.event_fault.EventFault.{EventFault}
 use Rattle.duty_events.specs.declared.event_fault.EventFault.TheVariants as fault
 use Rattle.duty_events.specs.declared.kind.Kind.{Kind}
@@ -32,6 +29,7 @@ use Rattle.desk_model.specs.BarTexts.{late_text, bar_text}
 use Rattle.desk_model.specs.Fits.{FitsState, FitsFault, FitsReply}
 use Rattle.desk_model.specs.ReplyTexts.{state_text, stage_text, fault_text, reply_text}
 use Rattle.desk_model.specs.StatedTexts.{kind_text}
+use Rattle.desk_text.proofs.CutLemmas.{cut-one}
 use Rattle.desk_text.proofs.SpelledLemmas.{apart}
 use Rattle.desk_text.proofs.ApartLemmas.{number-one, minute_text-one, month_text-one, craft_text-one, kind_text-one}
 
@@ -60,9 +58,7 @@ kind-unbroken kind.O = All-cons (λ b. (b == 32) ≡ false) 79 [] refl (All-nil 
 
 -- where two texts are one, so is what stands before the first blank, and what stands behind it
 split : (a b x y : List ℕ) → IsUnbroken a → IsUnbroken b → a ++ 32 ∷ x ≡ b ++ 32 ∷ y → (a ≡ b) × (x ≡ y)
-split a b x y ha hb e =
-    let first : a ≡ b = ap (λ parts. get_or parts 0 []) (sym (slice_split_at (λ c. c == 32) a 32 x ha refl) ∙ ap (parts_by 32) e ∙ slice_split_at (λ c. c == 32) b 32 y hb refl) in
-    (first, ap (drop 1) (append_cancel_left a (32 ∷ x) (32 ∷ y) (e ∙ ap (λ t. t ++ 32 ∷ y) (sym first))))
+split a b x y ha hb e = cut-one 32 a b x y ha hb e
 
 -- a number, and a text behind it
 numbered-one : (m n : ℕ) (x y : List ℕ) → m < 2 ^ 64 → n < 2 ^ 64 → decimal m ++ 32 ∷ x ≡ decimal n ++ 32 ∷ y → (m ≡ n) × (x ≡ y)

@@ -12,13 +12,13 @@ use Rattle.desk_base.proofs.PartsLemmas.{AreUnmarked, parts_by-join}
 use Rattle.duty_events.specs.declared.event.Event.{Event}
 use Rattle.desk_model.specs.declared.command.Cmd.{Cmd}
 use Rattle.desk_model.specs.Entry.{EntryValue}
-use Rattle.desk_model.specs.Fits.{IsStated, Fits}
+use Rattle.desk_model.specs.Fits.{Fits}
 use Rattle.desk_model.specs.Journal.{entry_line}
 use Rattle.desk_model.specs.ReplyTexts.{reply_text}
 use Rattle.desk_model.specs.StatedTexts.{event_fields, command_fields, stated_fields}
 use Rattle.desk_model.specs.Statement.{StatedValue}
 use Rattle.desk_text.specs.SpelledEntry.{IsEntryLine, SpellsEntry}
-use Rattle.desk_text.proofs.FieldsLemmas.{take-short}
+use Rattle.desk_text.proofs.FirstFieldsLemmas.{take-short}
 use Rattle.desk_text.proofs.PlainLemmas.{Passes, IsInner, is_inner, join, weaker, number, minute_in}
 use Rattle.desk_text.proofs.LineLemmas.{stated_inner}
 
@@ -48,18 +48,17 @@ AreUnmarked-inner (field ∷ fields) all = (no_comma field (all 0 field (omega a
 pub fields-split : (first : List ℕ) (fields : List (List ℕ)) → All IsInner (first ∷ fields) → parts_by 44 (join_with_byte 44 (first ∷ fields)) ≡ first ∷ fields
 fields-split first fields all = parts_by-join 44 first fields (AreUnmarked-inner (first ∷ fields) all)
 
--- fields that spell a command are all the fields of their text
-pub stated-some : (text : List ℕ) (front : List (List ℕ)) (s : StatedValue) → front ≡ take 12 (parts_by 44 text) → front ≡ stated_fields s
-    → text ≡ join_with_byte 44 (stated_fields s)
-stated-some text front s is same =
-    sym (join_with_byte-slice_split 44 text) ∙ ap (join_with_byte 44) (take-short (parts_by 44 text) (stated_fields s) (sym is ∙ same) (few_fields s))
+-- where the first fields of a text are these few, it is they with commas between them
+pub text-of-fields : (text : List ℕ) (front fields : List (List ℕ)) → front ≡ take 12 (parts_by 44 text) → front ≡ fields → length fields < 12
+    → text ≡ join_with_byte 44 fields
+text-of-fields text front fields is same few =
+    sym (join_with_byte-slice_split 44 text) ∙ ap (join_with_byte 44) (take-short (parts_by 44 text) fields (sym is ∙ same) few)
 
--- and a text of a command has its fields
-pub stated-only : (text : List ℕ) (front : List (List ℕ)) (s : StatedValue) → IsStated s → front ≡ take 12 (parts_by 44 text) → text ≡ join_with_byte 44 (stated_fields s)
-    → front ≡ stated_fields s
-stated-only text front s valid is e =
-    let parts : parts_by 44 text ≡ stated_fields s = ap (parts_by 44) e ∙ fields-split (minute_text s.minute) (command_fields s.cmd) (stated_inner s valid) in
-    is ∙ ap (λ l. take 12 l) parts ∙ take_all 12 (stated_fields s) (omega (arith, few_fields s))
+-- and of such a text they are the first fields
+pub fields-of-text : (text : List ℕ) (front : List (List ℕ)) (first : List ℕ) (fields : List (List ℕ)) → All IsInner (first ∷ fields)
+    → front ≡ take 12 (parts_by 44 text) → text ≡ join_with_byte 44 (first ∷ fields) → length (first ∷ fields) < 12 → front ≡ first ∷ fields
+fields-of-text text front first fields all is e few =
+    is ∙ ap (λ l. take 12 l) (ap (parts_by 44) e ∙ fields-split first fields all) ∙ take_all 12 (first ∷ fields) (omega (arith, few))
 
 -- ---- the parts of a line
 
@@ -87,9 +86,11 @@ inner_no_bar xs is = weaker no_bar xs (λ b h. grind (arith, nat_tests, h)) is
 pub caller-unbarred : (e : EntryValue) → Fits e → All (λ b. (b == 124) ≡ false) (decimal e.caller)
 caller-unbarred e is = unbarred _ (inner_no_bar _ (number e.caller (omega (arith, is.caller))))
 
+pub joined-unbarred : (fields : List (List ℕ)) → All IsInner fields → All (λ b. (b == 124) ≡ false) (join_with_byte 44 fields)
+joined-unbarred fields all = unbarred _ (join 44 refl fields (λ k d within. inner_no_bar _ (all k d within)))
+
 pub stated-unbarred : (e : EntryValue) → Fits e → All (λ b. (b == 124) ≡ false) (join_with_byte 44 (stated_fields e.stated))
-stated-unbarred e is =
-    unbarred _ (join 44 refl (stated_fields e.stated) (λ k d within. inner_no_bar _ (stated_inner e.stated is.stated k d within)))
+stated-unbarred e is = joined-unbarred (stated_fields e.stated) (stated_inner e.stated is.stated)
 
 pub moment-unbarred : (e : EntryValue) → Fits e → All (λ b. (b == 124) ≡ false) (minute_text e.moment)
 moment-unbarred e is = unbarred _ (inner_no_bar _ (minute_in e.moment is.moment))
@@ -99,9 +100,9 @@ pub ok-some : {T E : Type 0} (r : Result T E) (P Q : T → Type 0) → ((x : T) 
 ok-some (Ok x) P Q each h = each x h
 ok-some (Err e) P Q each h = tt
 
--- what stands before the line feed of an entry's line
-pub before-line_feed : (line front : List ℕ) (e : EntryValue) → line ≡ front ++ 10 ∷ [] → line ≡ entry_line e → front ≡ parts_text e
-before-line_feed line front e is same = append_cancel_right front (parts_text e) (10 ∷ []) (sym is ∙ same ∙ entry_line-parts e)
+-- what stands before a line's line feed
+pub before-line_feed : (line front text : List ℕ) → line ≡ front ++ 10 ∷ [] → line ≡ text ++ 10 ∷ [] → front ≡ text
+before-line_feed line front text is same = append_cancel_right front text (10 ∷ []) (sym is ∙ same)
 
 -- four parts that spell an entry make its line
 pub line-of-parts : (line front caller stated moment reply rest more : List ℕ) (e : EntryValue)

@@ -6,3 +6,4 @@ pub mod RecordForms
 pub mod Heads
 pub mod SpelledReply
 pub mod SpelledEntry
+pub mod OpeningRecord

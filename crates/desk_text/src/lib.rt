@@ -3,6 +3,7 @@
 
 mod bar_head;
 mod bar_line;
+mod beginnings;
 mod command_record;
 mod cut;
 mod different_replies;
@@ -12,9 +13,11 @@ mod event_word;
 mod field;
 mod first_wrong;
 mod form;
+mod journal_opening;
 mod line_text;
 mod one_statement;
 mod opening_line;
+mod opening_record;
 mod outcome_line;
 mod record_fields;
 mod record_forms;
@@ -33,13 +36,16 @@ mod stated_line;
 mod word;
 mod wrong_line;
 
+pub use beginnings::no_line_begins_another;
 pub use command_record::read_command;
 pub use different_replies::different_replies_have_different_texts;
 pub use each_line::each_line_ends_once;
 pub use entry_line::write_entry;
+pub use journal_opening::read_opening;
 pub use line_text::LineText;
 pub use one_statement::a_record_states_one_command;
 pub use opening_line::write_opening;
+pub use opening_record::opening_of;
 pub use outcome_line::{write_bar, write_outcome};
 pub use spelled_entry::read_entry;
 pub use wrong_line::write_wrong;

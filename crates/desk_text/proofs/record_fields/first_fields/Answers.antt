@@ -3,7 +3,7 @@ use Rattle.std.specs.Option.{option_copied}
 use Rattle.std.proofs.lemmas.List.{length-map}
 use Rattle.std.proofs.lemmas.Bool.{eqb-true}
 use Rattle.desk_base.specs.Parts.{parts_after}
-use Rattle.desk_text.proofs.FieldsLemmas.{take-front, take-whole}
+use Rattle.desk_text.proofs.FirstFieldsLemmas.{take-front, take-whole}
 use Rattle.desk_text.proofs.record_fields.first_fields.Goals as goal
 
 pub returns-then-is_full : goal.returns-then-is_full

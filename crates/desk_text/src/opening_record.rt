@@ -1,0 +1,57 @@
+//! The opening's record.
+ghost use Rattle.std.specs.Prelude.{◌≡◌, ◌<◌, ◌^◌, ℕ, decimal, IfSome, map};
+ghost use Rattle.desk_base.specs.Window.{WindowValue};
+ghost use Rattle.desk_model.specs.Opening.{OpeningValue, IsOpening, opening_fields};
+ghost use Rattle.desk_text.specs.OpeningRecord.{SpellsOpening, SpellsWindow};
+
+use desk_base::{Minute, Month, Window, read_decimal};
+use desk_model::Opening;
+
+/// The opening of a record's fields, `M,open,month,months,answer`: 1 to 24 months within the years 2000 to 2099, a minute of
+/// them, and 1 to 60 minutes to answer. `None` where the fields are no opening's.
+pub fn opening_of(fields: &[&[u8]]) -> Option<Opening>
+    ensures some { IfSome result (λ opening. IsOpening opening
+        × (map (λ field. field.now) fields.now ≡ opening_fields opening)) }
+    ensures only { (opening : OpeningValue) → IsOpening opening
+        → map (λ field. field.now) fields.now ≡ opening_fields opening
+        → result ≡ Some opening }
+{
+    let [start, word, month, months, answer] = fields else {
+        return None;
+    };
+    if *word != b"open".as_slice() {
+        return None;
+    }
+    spelled_opening(start, month, months, answer)
+}
+
+fn spelled_opening(start: &[u8], month: &[u8], months: &[u8], answer: &[u8]) -> Option<Opening>
+    ensures some { IfSome result (SpellsOpening start.now month.now months.now answer.now) }
+    ensures only { (opening : OpeningValue)
+        → SpellsOpening start.now month.now months.now answer.now opening
+        → result ≡ Some opening }
+{
+    let start = Minute::read(start)?;
+    let window = spelled_window(month, months)?;
+    let answer = small_number(answer)?;
+    Opening::new(start, window, answer)
+}
+
+fn spelled_window(month: &[u8], months: &[u8]) -> Option<Window>
+    ensures some { IfSome result (SpellsWindow month.now months.now) }
+    ensures only { (window : WindowValue) → SpellsWindow month.now months.now window
+        → result ≡ Some window }
+{
+    let first = Month::read(month)?;
+    let months = small_number(months)?;
+    Window::new(first, months)
+}
+
+// The number below 256 that a field spells.
+fn small_number(text: &[u8]) -> Option<u8>
+    ensures some { IfSome result (λ number. text.now ≡ decimal number) }
+    ensures only { (number : ℕ) → number < 2 ^ 8 → text.now ≡ decimal number
+        → result ≡ Some number }
+{
+    u8::try_from(read_decimal(text)?).ok()
+}
