@@ -53,6 +53,12 @@ pub use wrong_line::write_wrong;
 #[cfg(test)]
 mod command_tests;
 #[cfg(test)]
+mod read_line_tests;
+#[cfg(test)]
+mod read_reply_tests;
+#[cfg(test)]
+mod refused_line_tests;
+#[cfg(test)]
 mod refused_tests;
 #[cfg(test)]
 mod reply_tests;
