@@ -1,4 +1,5 @@
 pub mod FieldLemmas
+pub mod FirstFieldsLemmas
 pub mod FormLemmas
 pub mod RowLemmas
 pub mod RowCommandLemmas
@@ -12,3 +13,8 @@ pub mod OpeningLemmas
 pub mod DayLemmas
 pub mod LineReadLemmas
 pub mod TallyLemmas
+pub mod CutLemmas
+pub mod PartLemmas
+pub mod SpelledReplyLemmas
+pub mod SpelledEntryLemmas
+pub mod BeginningLemmas

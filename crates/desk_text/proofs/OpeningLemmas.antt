@@ -1,6 +1,8 @@
 -- The opening's record, field by field.
-use Rattle.std.proofs.Common.{◌≡◌, ℕ, List, [], ◌∷◌, length, get_or, map, codes, arith, refl, ap, Bor, Option, None, Some}
+use Rattle.std.proofs.Common.{◌≡◌, ℕ, List, [], ◌∷◌, ◌++◌, length, get_or, map, codes, arith, refl, ap, Bor, Option, None, Some}
 use Rattle.std.specs.Option.{SomeIff}
+use Rattle.std.specs.List.{join_with_byte}
+use Rattle.desk_model.specs.Journal.{opening_line}
 use Rattle.desk_model.specs.Opening.{OpeningValue, opening_fields}
 use Rattle.desk_text.specs.OpeningRecord.{SpellsOpening}
 
@@ -20,3 +22,8 @@ opening_fields-spelled (f0 ∷ f1 ∷ f2 ∷ f3 ∷ f4 ∷ f5 ∷ more) d o len 
 pub SomeIff-yes : {T : Type 0} (r : Option T) (P : Type 0) (v : T) → SomeIff r P v → P → r ≡ Some v
 SomeIff-yes None P v h p = absurd (h p)
 SomeIff-yes (Some x) P v h p = ap Some h.1
+
+-- an opening's line: its fields with commas between them
+pub opening_line-fields : (o : OpeningValue) → opening_line o ≡ join_with_byte 44 (opening_fields o) ++ 10 ∷ []
+unfolding opening_line
+opening_line-fields o = refl

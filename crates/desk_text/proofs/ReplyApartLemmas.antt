@@ -1,12 +1,10 @@
 -- Different replies have different texts.
-use Rattle.std.proofs.Common.{◌≡◌, ◌∙◌, ℕ, ◌<◌, ◌^◌, ◌==◌, Bool, true, false, cond, nat_lt, List, [], ◌∷◌, ◌++◌, get_or, take, drop, decimal, refl, sym, ap, subst, lit<, arith, append_assoc}
+use Rattle.std.proofs.Common.{◌≡◌, ℕ, ◌<◌, ◌^◌, ◌==◌, Bool, true, false, cond, nat_lt, List, [], ◌∷◌, ◌++◌, get_or, take, drop, decimal, refl, sym, ap, subst, lit<, arith, append_assoc}
 use Rattle.std.specs.List.{All}
 use Rattle.std.proofs.lemmas.Bool.{ne_eqb, false≢true}
 use Rattle.std.proofs.lemmas.Bool.Decides.{nat_tests}
 use Rattle.std.proofs.lemmas.Fmt.{decimal_injective, decimal_is_IsNumeral}
-use Rattle.std.proofs.lemmas.List.{append_cancel_left}
 use Rattle.std.proofs.lemmas.List.Elements.{All-from_get_or, All-cons, All-nil}
-use Rattle.std.proofs.lemmas.List.Splits.{slice_split_at}
 use Rattle.std.proofs.lemmas.List.Sums.{AllPass-from_list_all}
 use Rattle.std.proofs.lemmas.Str.Parse.{digit_at}
 use Rattle.desk_base.specs.declared.minute.TheConstants.{YEARS_END}
@@ -14,7 +12,6 @@ use Rattle.desk_base.specs.Code.{IsCode, is_code_byte}
 use Rattle.desk_base.specs.Day.{day_text}
 use Rattle.desk_base.specs.Minute.{minute_text}
 use Rattle.desk_base.specs.Month.{month_text}
-use Rattle.desk_base.specs.Parts.{parts_by}
 use Rattle.duty_events.specs.declared.event_fault.EventFault.{EventFault}
 use Rattle.duty_events.specs.declared.event_fault.EventFault.TheVariants as fault
 use Rattle.duty_events.specs.declared.kind.Kind.{Kind}
@@ -32,37 +29,36 @@ use Rattle.desk_model.specs.BarTexts.{late_text, bar_text}
 use Rattle.desk_model.specs.Fits.{FitsState, FitsFault, FitsReply}
 use Rattle.desk_model.specs.ReplyTexts.{state_text, stage_text, fault_text, reply_text}
 use Rattle.desk_model.specs.StatedTexts.{kind_text}
+use Rattle.desk_text.proofs.CutLemmas.{cut-one}
 use Rattle.desk_text.proofs.SpelledLemmas.{apart}
 use Rattle.desk_text.proofs.ApartLemmas.{number-one, minute_text-one, month_text-one, craft_text-one, kind_text-one}
 
 -- ---- texts between blanks
 
 -- no byte is a blank
-abbrev IsUnbroken : List ℕ → Type 0
+abbrev pub IsUnbroken : List ℕ → Type 0
 IsUnbroken text = All (λ b. (b == 32) ≡ false) text
 
 -- numbers, codes and kinds are such texts
-decimal-unbroken : (n : ℕ) → n < 2 ^ 64 → IsUnbroken (decimal n)
+pub decimal-unbroken : (n : ℕ) → n < 2 ^ 64 → IsUnbroken (decimal n)
 decimal-unbroken n small = All-from_get_or (λ b. (b == 32) ≡ false) (decimal n) 0 (λ i within.
     let digit = digit_at (decimal n) i (decimal_is_IsNumeral n small).0.1 within in
     ne_eqb (get_or (decimal n) i 0) 32 (λ e. omega (arith, digit)))
 
-code-unbroken : (code : List ℕ) → IsCode code → IsUnbroken code
+pub code-unbroken : (code : List ℕ) → IsCode code → IsUnbroken code
 code-unbroken code is k d within = letter (get_or code k d) (AllPass-from_list_all is_code_byte code is.bytes k d within)
   where
     letter : (b : ℕ) → is_code_byte b ≡ true → (b == 32) ≡ false
     letter b h = grind (arith, nat_tests, h)
 
-kind-unbroken : (k : Kind) → IsUnbroken (kind_text k)
+pub kind-unbroken : (k : Kind) → IsUnbroken (kind_text k)
 kind-unbroken kind.D = All-cons (λ b. (b == 32) ≡ false) 68 [] refl (All-nil (λ b. (b == 32) ≡ false))
 kind-unbroken kind.P = All-cons (λ b. (b == 32) ≡ false) 80 [] refl (All-nil (λ b. (b == 32) ≡ false))
 kind-unbroken kind.O = All-cons (λ b. (b == 32) ≡ false) 79 [] refl (All-nil (λ b. (b == 32) ≡ false))
 
 -- where two texts are one, so is what stands before the first blank, and what stands behind it
 split : (a b x y : List ℕ) → IsUnbroken a → IsUnbroken b → a ++ 32 ∷ x ≡ b ++ 32 ∷ y → (a ≡ b) × (x ≡ y)
-split a b x y ha hb e =
-    let first : a ≡ b = ap (λ parts. get_or parts 0 []) (sym (slice_split_at (λ c. c == 32) a 32 x ha refl) ∙ ap (parts_by 32) e ∙ slice_split_at (λ c. c == 32) b 32 y hb refl) in
-    (first, ap (drop 1) (append_cancel_left a (32 ∷ x) (32 ∷ y) (e ∙ ap (λ t. t ++ 32 ∷ y) (sym first))))
+split a b x y ha hb e = cut-one 32 a b x y ha hb e
 
 -- a number, and a text behind it
 numbered-one : (m n : ℕ) (x y : List ℕ) → m < 2 ^ 64 → n < 2 ^ 64 → decimal m ++ 32 ∷ x ≡ decimal n ++ 32 ∷ y → (m ≡ n) × (x ≡ y)
@@ -97,7 +93,7 @@ unfolding minute_text day_text month_text
 minute-broken t is = let no : (32 == 32) ≡ false = is 10 0 (lit< tt) in false≢true (sym no)
 
 -- a minute that may lie behind the year 2099
-late_text-one : (a b : ℕ) → a < 2 ^ 28 → b < 2 ^ 28 → late_text a ≡ late_text b → a ≡ b
+pub late_text-one : (a b : ℕ) → a < 2 ^ 28 → b < 2 ^ 28 → late_text a ≡ late_text b → a ≡ b
 late_text-one a b ha hb e = go (nat_lt a YEARS_END) (nat_lt b YEARS_END) e
   where
     apart-decimal : (t n : ℕ) → n < 2 ^ 28 → minute_text t ≡ decimal n → ⊥

@@ -8,3 +8,6 @@ pub mod DayFile
 pub mod DayCommands
 pub mod CommandLine
 pub mod Tally
+pub mod Heads
+pub mod SpelledReply
+pub mod SpelledEntry

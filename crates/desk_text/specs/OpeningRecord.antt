@@ -3,6 +3,7 @@ use Rattle.std.specs.Prelude.{◌≡◌, ℕ, List, decimal}
 use Rattle.desk_base.specs.Month.{month_text}
 use Rattle.desk_base.specs.Minute.{minute_text}
 use Rattle.desk_base.specs.Window.{WindowValue, IsWindow}
+use Rattle.desk_model.specs.Journal.{opening_line}
 use Rattle.desk_model.specs.Opening.{OpeningValue, IsOpening, opening_fields}
 
 -- the fields are this opening's
@@ -22,3 +23,8 @@ pub record SpellsOpening (start month months answer : List ℕ) (o : OpeningValu
   pub start_is : start ≡ minute_text o.start
   pub window_is : SpellsWindow month months o.window
   pub answer_is : answer ≡ decimal o.answer
+
+-- the line is this opening's
+pub record IsOpeningLine (line : List ℕ) (o : OpeningValue) : Type 0 where
+  pub valid : IsOpening o
+  pub line_is : line ≡ opening_line o

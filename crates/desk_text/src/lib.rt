@@ -1,9 +1,12 @@
 //! The texts of the desk: commands read, and the journal's lines written.
 #![tactic(auto)]
 
+mod bar_head;
 mod bar_line;
+mod beginnings;
 mod command_line;
 mod command_record;
+mod cut;
 mod day_commands;
 mod day_fault;
 mod day_file;
@@ -14,20 +17,29 @@ mod event_word;
 mod field;
 mod first_wrong;
 mod form;
+mod journal_opening;
 mod limits;
 mod line_text;
 mod one_statement;
 mod opening_line;
 mod opening_record;
+mod outcome_line;
 mod read_fail;
+mod record_fields;
 mod record_forms;
 mod record_row;
+mod reply_head;
 mod reply_line;
 mod reply_sort;
+mod spelled_bar;
 mod spelled_command;
+mod spelled_entry;
 mod spelled_event;
 mod spelled_offer;
+mod spelled_part;
 mod spelled_person;
+mod spelled_reply;
+mod spelled_stage;
 mod stated_line;
 mod table_of_records;
 mod tally;
@@ -35,6 +47,7 @@ mod word;
 mod wrong_line;
 mod wrong_place;
 
+pub use beginnings::no_line_begins_another;
 pub use command_line::read_command;
 pub use command_record::read_record;
 pub use day_fault::DayFault;
@@ -42,12 +55,14 @@ pub use day_file::{DayFile, bytes_are_one_day_file, read_day};
 pub use different_replies::different_replies_have_different_texts;
 pub use each_line::each_line_ends_once;
 pub use entry_line::write_entry;
+pub use journal_opening::read_opening;
 pub use limits::RECORD_LIMIT;
 pub use line_text::LineText;
 pub use one_statement::a_record_states_one_command;
 pub use opening_line::write_opening;
-pub use opening_record::read_opening_record;
+pub use outcome_line::{write_bar, write_outcome};
 pub use read_fail::ReadFail;
+pub use spelled_entry::read_entry;
 pub use table_of_records::{
     a_record_is_wrong_at_one_place, the_table_has_just_the_records_of_commands,
 };
@@ -58,6 +73,12 @@ pub use wrong_line::write_wrong;
 mod command_tests;
 #[cfg(test)]
 mod day_tests;
+#[cfg(test)]
+mod read_line_tests;
+#[cfg(test)]
+mod read_reply_tests;
+#[cfg(test)]
+mod refused_line_tests;
 #[cfg(test)]
 mod refused_tests;
 #[cfg(test)]

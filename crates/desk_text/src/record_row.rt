@@ -8,7 +8,7 @@ ghost use Rattle.desk_text.specs.RecordForms.{IsWrongAt};
 ghost use Rattle.desk_text.specs.Spelled.{StatesCommand};
 
 use crate::command_record::read_record;
-use crate::opening_record::read_opening_record;
+use crate::opening_record::opening_of;
 use csv::ByteRecord;
 use desk_model::{Opening, Stated};
 use record_rows::first_fields;
@@ -29,5 +29,5 @@ pub fn read_opening_row(row: &ByteRecord) -> Option<Opening>
     ensures only { (opening : OpeningValue) → StatesOpening (fields_of row.now) opening
         → result ≡ Some opening }
 {
-    read_opening_record(first_fields(row).as_slice())
+    opening_of(first_fields(row).as_slice())
 }

@@ -4,7 +4,7 @@ use Rattle.std.proofs.lemmas.Bool.Decides.{Decides-eqb}
 use Rattle.std.proofs.lemmas.Option.{IfSome_then}
 use Rattle.std.proofs.lemmas.Slice.Eq.{slice_eq-Decides}
 use Rattle.desk_text.proofs.OpeningLemmas.{opening_fields-spelled}
-use Rattle.desk_text.proofs.opening_record.read_opening_record.Goals as goal
+use Rattle.desk_text.proofs.opening_record.opening_of.Goals as goal
 
 pub returns-clause-some : goal.returns-clause-some
 returns-clause-some c =

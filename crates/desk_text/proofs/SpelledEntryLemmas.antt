@@ -1,0 +1,114 @@
+-- The parts of an entry's line, and the fields of what it states.
+use Rattle.std.specs.Result.{result_ok}
+use Rattle.std.proofs.Common.{◌≡◌, ◌∙◌, ℕ, suc, Result, Ok, Err, IfOk, IfSome, ◌<◌, ◌==◌, Bool, true, false, not, List, [], ◌∷◌, ◌++◌, length, get_or, take, decimal, refl, sym, ap, arith, append_assoc}
+use Rattle.std.specs.List.{All, join_with_byte}
+use Rattle.std.proofs.lemmas.Bool.Decides.{nat_tests}
+use Rattle.std.proofs.lemmas.List.{take_all, append_cancel_right}
+use Rattle.std.proofs.lemmas.List.Splits.{join_with_byte-slice_split}
+use Rattle.std.proofs.lemmas.List.Sums.{AllPass-from_list_all}
+use Rattle.desk_base.specs.Minute.{minute_text}
+use Rattle.desk_base.specs.Parts.{parts_by}
+use Rattle.desk_base.proofs.PartsLemmas.{AreUnmarked, parts_by-join}
+use Rattle.duty_events.specs.declared.event.Event.{Event}
+use Rattle.desk_model.specs.declared.command.Cmd.{Cmd}
+use Rattle.desk_model.specs.Entry.{EntryValue}
+use Rattle.desk_model.specs.Fits.{Fits}
+use Rattle.desk_model.specs.Journal.{entry_line}
+use Rattle.desk_model.specs.ReplyTexts.{reply_text}
+use Rattle.desk_model.specs.StatedTexts.{event_fields, command_fields, stated_fields}
+use Rattle.desk_model.specs.Statement.{StatedValue}
+use Rattle.desk_text.specs.SpelledEntry.{IsEntryLine, SpellsEntry}
+use Rattle.desk_text.proofs.FirstFieldsLemmas.{take-short}
+use Rattle.desk_text.proofs.PlainLemmas.{Passes, IsInner, is_inner, join, weaker, number, minute_in}
+use Rattle.desk_text.proofs.LineLemmas.{stated_inner}
+
+-- ---- the fields of what is stated
+
+few_event : (e : Event) → length (event_fields e) < 5
+few_event e = grind arith
+
+few_command : (c : Cmd) → length (command_fields c) < 11
+few_command c = grind (arith, few_event)
+
+-- they are fewer than the fields of a record that are kept
+pub few_fields : (s : StatedValue) → length (stated_fields s) < 12
+few_fields s = omega (arith, few_command s.cmd)
+
+AreUnmarked-inner : (fields : List (List ℕ)) → All IsInner fields → AreUnmarked 44 fields
+AreUnmarked-inner [] all = tt
+AreUnmarked-inner (field ∷ fields) all = (no_comma field (all 0 field (omega arith)), AreUnmarked-inner fields (λ k d within. all (suc k) d (omega arith)))
+  where
+    other : (b : ℕ) → is_inner b ≡ true → (b == 44) ≡ false
+    other b h = grind (arith, nat_tests, h)
+
+    no_comma : (xs : List ℕ) → IsInner xs → All (λ b. (b == 44) ≡ false) xs
+    no_comma xs is k d within = other (get_or xs k d) (AllPass-from_list_all is_inner xs is.all k d within)
+
+-- what is joined by commas is split into those fields
+pub fields-split : (first : List ℕ) (fields : List (List ℕ)) → All IsInner (first ∷ fields) → parts_by 44 (join_with_byte 44 (first ∷ fields)) ≡ first ∷ fields
+fields-split first fields all = parts_by-join 44 first fields (AreUnmarked-inner (first ∷ fields) all)
+
+-- where the first fields of a text are these few, it is they with commas between them
+pub text-of-fields : (text : List ℕ) (front fields : List (List ℕ)) → front ≡ take 12 (parts_by 44 text) → front ≡ fields → length fields < 12
+    → text ≡ join_with_byte 44 fields
+text-of-fields text front fields is same few =
+    sym (join_with_byte-slice_split 44 text) ∙ ap (join_with_byte 44) (take-short (parts_by 44 text) fields (sym is ∙ same) few)
+
+-- and of such a text they are the first fields
+pub fields-of-text : (text : List ℕ) (front : List (List ℕ)) (first : List ℕ) (fields : List (List ℕ)) → All IsInner (first ∷ fields)
+    → front ≡ take 12 (parts_by 44 text) → text ≡ join_with_byte 44 (first ∷ fields) → length (first ∷ fields) < 12 → front ≡ first ∷ fields
+fields-of-text text front first fields all is e few =
+    is ∙ ap (λ l. take 12 l) (ap (parts_by 44) e ∙ fields-split first fields all) ∙ take_all 12 (first ∷ fields) (omega (arith, few))
+
+-- ---- the parts of a line
+
+-- what stands before the line feed
+abbrev pub parts_text : EntryValue → List ℕ
+parts_text e = decimal e.caller ++ 124 ∷ (join_with_byte 44 (stated_fields e.stated) ++ 124 ∷ (minute_text e.moment ++ 124 ∷ reply_text e.reply))
+
+pub entry_line-parts : (e : EntryValue) → entry_line e ≡ parts_text e ++ 10 ∷ []
+unfolding entry_line
+entry_line-parts e = simp append_assoc
+
+-- no byte is the mark between the parts
+abbrev no_bar : ℕ → Bool
+no_bar b = not (b == 124)
+
+unbarred : (xs : List ℕ) → Passes no_bar xs → All (λ b. (b == 124) ≡ false) xs
+unbarred xs is k d within = other (get_or xs k d) (AllPass-from_list_all no_bar xs is.all k d within)
+  where
+    other : (b : ℕ) → no_bar b ≡ true → (b == 124) ≡ false
+    other b h = grind (arith, nat_tests, h)
+
+inner_no_bar : (xs : List ℕ) → IsInner xs → Passes no_bar xs
+inner_no_bar xs is = weaker no_bar xs (λ b h. grind (arith, nat_tests, h)) is
+
+pub caller-unbarred : (e : EntryValue) → Fits e → All (λ b. (b == 124) ≡ false) (decimal e.caller)
+caller-unbarred e is = unbarred _ (inner_no_bar _ (number e.caller (omega (arith, is.caller))))
+
+pub joined-unbarred : (fields : List (List ℕ)) → All IsInner fields → All (λ b. (b == 124) ≡ false) (join_with_byte 44 fields)
+joined-unbarred fields all = unbarred _ (join 44 refl fields (λ k d within. inner_no_bar _ (all k d within)))
+
+pub stated-unbarred : (e : EntryValue) → Fits e → All (λ b. (b == 124) ≡ false) (join_with_byte 44 (stated_fields e.stated))
+stated-unbarred e is = joined-unbarred (stated_fields e.stated) (stated_inner e.stated is.stated)
+
+pub moment-unbarred : (e : EntryValue) → Fits e → All (λ b. (b == 124) ≡ false) (minute_text e.moment)
+moment-unbarred e is = unbarred _ (inner_no_bar _ (minute_in e.moment is.moment))
+
+-- what holds of a result's value, where there is one, holds of the value that is kept of it
+pub ok-some : {T E : Type 0} (r : Result T E) (P Q : T → Type 0) → ((x : T) → P x → Q x) → IfOk r P → IfSome (result_ok r) Q
+ok-some (Ok x) P Q each h = each x h
+ok-some (Err e) P Q each h = tt
+
+-- what stands before a line's line feed
+pub before-line_feed : (line front text : List ℕ) → line ≡ front ++ 10 ∷ [] → line ≡ text ++ 10 ∷ [] → front ≡ text
+before-line_feed line front text is same = append_cancel_right front text (10 ∷ []) (sym is ∙ same)
+
+-- four parts that spell an entry make its line
+pub line-of-parts : (line front caller stated moment reply rest more : List ℕ) (e : EntryValue)
+    → line ≡ front ++ 10 ∷ [] → front ≡ caller ++ 124 ∷ rest → rest ≡ stated ++ 124 ∷ more → more ≡ moment ++ 124 ∷ reply
+    → SpellsEntry caller stated moment reply e → IsEntryLine line e
+line-of-parts line front caller stated moment reply rest more e a b c d spells = record {
+  valid = spells.valid;
+  line_is = rw (a, b, c, d, spells.caller_is, spells.stated_is, spells.moment_is, spells.reply_is) (sym (entry_line-parts e));
+}

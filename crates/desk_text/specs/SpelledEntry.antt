@@ -1,0 +1,28 @@
+-- What lines of a journal, and their parts, say.
+use Rattle.std.specs.Prelude.{◌≡◌, ℕ, List, decimal}
+use Rattle.std.specs.List.{join_with_byte}
+use Rattle.desk_base.specs.Minute.{minute_text}
+use Rattle.desk_model.specs.Entry.{EntryValue}
+use Rattle.desk_model.specs.Fits.{IsStated, Fits}
+use Rattle.desk_model.specs.Journal.{entry_line}
+use Rattle.desk_model.specs.ReplyTexts.{reply_text}
+use Rattle.desk_model.specs.StatedTexts.{stated_fields}
+use Rattle.desk_model.specs.Statement.{StatedValue}
+
+-- the line is this entry's, each of whose values is in its range
+pub record IsEntryLine (line : List ℕ) (e : EntryValue) : Type 0 where
+  pub valid : Fits e
+  pub line_is : line ≡ entry_line e
+
+-- the text is that of this command and of the minute at which it was stated: its fields with commas between them
+pub record SpellsStated (text : List ℕ) (s : StatedValue) : Type 0 where
+  pub valid : IsStated s
+  pub text_is : text ≡ join_with_byte 44 (stated_fields s)
+
+-- the four parts of a line are this entry's
+pub record SpellsEntry (caller stated moment reply : List ℕ) (e : EntryValue) : Type 0 where
+  pub valid : Fits e
+  pub caller_is : caller ≡ decimal e.caller
+  pub stated_is : stated ≡ join_with_byte 44 (stated_fields e.stated)
+  pub moment_is : moment ≡ minute_text e.moment
+  pub reply_is : reply ≡ reply_text e.reply

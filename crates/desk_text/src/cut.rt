@@ -1,0 +1,35 @@
+//! Texts taken apart.
+ghost use Rattle.std.specs.Prelude.{◌≡◌, ◌≢◌, ◌==◌, ◌∷◌, ◌++◌, ℕ, List, false, IfSome, IfNone, IsSomeAnd};
+ghost use Rattle.std.specs.List.{All};
+
+use desk_base::split_once;
+
+/// What stands before the first mark, and what stands behind it; `None` where there is no mark.
+pub fn cut(text: &[u8], mark: u8) -> Option<(&[u8], &[u8])>
+    ensures some { IfSome result (λ parts. text.now ≡ parts.0.now ++ mark ∷ parts.1.now) }
+    ensures only { (front back : List ℕ) → All (λ b. (b == mark) ≡ false) front
+        → text.now ≡ front ++ mark ∷ back
+        → IsSomeAnd result (λ parts. (parts.0.now ≡ front) × (parts.1.now ≡ back)) }
+{
+    let (front, after) = split_once(text, mark);
+    match after {
+        Some(back) => Some((front, back)),
+        None => None,
+    }
+}
+
+/// What stands behind the head of a text; `None` where the text begins otherwise.
+pub fn behind<'a>(text: &'a [u8], head: &[u8]) -> Option<&'a [u8]>
+    ensures some { IfSome result (λ rest. text.now ≡ head.now ++ rest.now) }
+    ensures none { IfNone result ((rest : List ℕ) → text.now ≢ head.now ++ rest) }
+{
+    text.strip_prefix(head)
+}
+
+/// What stands before the end of a text; `None` where the text ends otherwise.
+pub fn before<'a>(text: &'a [u8], end: &[u8]) -> Option<&'a [u8]>
+    ensures some { IfSome result (λ front. text.now ≡ front.now ++ end.now) }
+    ensures none { IfNone result ((front : List ℕ) → text.now ≢ front ++ end.now) }
+{
+    text.strip_suffix(end)
+}

@@ -1,0 +1,18 @@
+//! The opening, read from the journal's first line.
+ghost use Rattle.std.specs.Prelude.{◌≡◌, IfSome};
+ghost use Rattle.desk_model.specs.Opening.{OpeningValue};
+ghost use Rattle.desk_text.specs.OpeningRecord.{IsOpeningLine};
+
+use crate::cut::before;
+use crate::opening_record::opening_of;
+use crate::record_fields::first_fields;
+use desk_model::Opening;
+
+/// The opening of the journal's first line, `M,open,month,months,answer` with its line feed; `None` for every other text: the
+/// line is the one spelling of its opening.
+pub fn read_opening(line: &[u8]) -> Option<Opening>
+    ensures some { IfSome result (IsOpeningLine line.now) }
+    ensures only { (o : OpeningValue) → IsOpeningLine line.now o → result ≡ Some o }
+{
+    opening_of(first_fields(before(line, b"\n")?).as_slice())
+}

@@ -1,0 +1,60 @@
+//! Entries, read from lines of a journal.
+ghost use Rattle.std.specs.Prelude.{◌≡◌, ◌≤◌, ℕ, decimal, IfSome};
+ghost use Rattle.desk_model.specs.declared.limits.TheConstants.{LAST_CALLER};
+ghost use Rattle.desk_model.specs.Entry.{EntryValue};
+ghost use Rattle.desk_model.specs.Statement.{StatedValue};
+ghost use Rattle.desk_text.specs.SpelledEntry.{IsEntryLine, SpellsStated, SpellsEntry};
+
+use crate::command_record::read_record;
+use crate::cut::{before, cut};
+use crate::record_fields::first_fields;
+use crate::spelled_reply::read_reply;
+use desk_base::{Minute, read_decimal};
+use desk_model::{Entry, LAST_CALLER, Stated};
+
+/// The entry of a line of the journal, `caller|command|moment|reply` with its line feed; `None` for every other text: the line
+/// is the one spelling of its entry. A command and a reply that the desk would never give it are read all the same.
+pub fn read_entry(line: &[u8]) -> Option<Entry>
+    ensures some { IfSome result (IsEntryLine line.now) }
+    ensures only { (e : EntryValue) → IsEntryLine line.now e → result ≡ Some e }
+{
+    let (caller, rest) = cut(before(line, b"\n")?, b'|')?;
+    let (stated, rest) = cut(rest, b'|')?;
+    let (moment, reply) = cut(rest, b'|')?;
+    read_parts(caller, stated, moment, reply)
+}
+
+fn read_parts(caller: &[u8], stated: &[u8], moment: &[u8], reply: &[u8]) -> Option<Entry>
+    ensures some { IfSome result (SpellsEntry caller.now stated.now moment.now reply.now) }
+    ensures only { (e : EntryValue) → SpellsEntry caller.now stated.now moment.now reply.now e
+        → result ≡ Some e }
+{
+    let caller = read_caller(caller)?;
+    let stated = read_stated(stated)?;
+    let moment = Minute::read(moment)?;
+    let reply = read_reply(reply)?;
+    Some(Entry::new(caller, stated, moment, reply))
+}
+
+// A caller's number, 0 to 63.
+fn read_caller(text: &[u8]) -> Option<u8>
+    ensures some { IfSome result (λ caller. (caller ≤ LAST_CALLER)
+        × (text.now ≡ decimal caller)) }
+    ensures only { (caller : ℕ) → caller ≤ LAST_CALLER → text.now ≡ decimal caller
+        → result ≡ Some caller }
+{
+    let caller = u8::try_from(read_decimal(text)?).ok()?;
+    if caller <= LAST_CALLER {
+        Some(caller)
+    } else {
+        None
+    }
+}
+
+// What was stated, and when: its record with plain commas.
+fn read_stated(text: &[u8]) -> Option<Stated>
+    ensures some { IfSome result (SpellsStated text.now) }
+    ensures only { (s : StatedValue) → SpellsStated text.now s → result ≡ Some s }
+{
+    read_record(first_fields(text).as_slice()).ok()
+}
