@@ -47,6 +47,7 @@ pub use one_statement::a_record_states_one_command;
 pub use opening_line::write_opening;
 pub use opening_record::opening_of;
 pub use outcome_line::{write_bar, write_outcome};
+pub use record_fields::first_fields;
 pub use spelled_entry::read_entry;
 pub use wrong_line::write_wrong;
 
