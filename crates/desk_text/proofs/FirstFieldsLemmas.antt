@@ -1,5 +1,5 @@
 -- The first fields of a record.
-use Rattle.std.proofs.Common.{◌≡◌, ◌∙◌, ℕ, ◌<◌, ◌≤◌, List, [], ◌++◌, length, take, append-nil, sym, ap, arith}
+use Rattle.std.proofs.Common.{◌≡◌, ◌∙◌, ℕ, ◌<◌, List, ◌++◌, length, take, sym, ap, arith}
 use Rattle.std.proofs.Math.Seq.{take-append_seam}
 use Rattle.std.proofs.lemmas.List.{take_all, length-take}
 
@@ -10,7 +10,3 @@ take-short fields front same short = sym (take_all 12 fields (omega (arith, shor
 -- the front of a record's fields, when it has 12
 pub take-front : (front rest fields : List (List ℕ)) → front ++ rest ≡ fields → length front ≡ 12 → front ≡ take 12 fields
 take-front front rest fields parts full = sym (take-append_seam front rest) ∙ ap (λ n. take n (front ++ rest)) full ∙ ap (λ l. take 12 l) parts
-
--- and when no field is left
-pub take-whole : (front fields : List (List ℕ)) → front ++ [] ≡ fields → length front ≤ 12 → front ≡ take 12 fields
-take-whole front fields parts few = sym (take_all 12 front few) ∙ ap (λ l. take 12 l) (sym (append-nil front) ∙ parts)

@@ -1,14 +1,11 @@
-use Rattle.std.proofs.Common.{◌∙◌, sym, arith}
+use Rattle.std.proofs.Common.{◌∙◌, sym}
 use Rattle.std.specs.Option.{option_copied}
 use Rattle.std.proofs.lemmas.List.{length-map}
 use Rattle.std.proofs.lemmas.Bool.{eqb-true}
 use Rattle.desk_base.specs.Parts.{parts_after}
-use Rattle.desk_text.proofs.FirstFieldsLemmas.{take-front, take-whole}
+use Rattle.desk_text.proofs.FirstFieldsLemmas.{take-front}
 use Rattle.desk_text.proofs.record_fields.first_fields.Goals as goal
 
 pub returns-then-is_full : goal.returns-then-is_full
 returns-then-is_full c = take-front _ (parts_after 44 (option_copied c.loop-rest.rest)) _ c.loop-rest.invariant.parts
     (length-map c.loop-rest.fields.items (λ field. field.now) ∙ eqb-true _ _ (sym c.is_full.ensures.value ∙ c.if-is_full.true))
-
-pub returns : goal.returns
-returns c = take-whole _ _ (rw (c.in_default.is) at c.loop-rest.invariant.parts) (omega (arith, length-map c.loop-rest.fields.items (λ field. field.now), c.loop-rest.invariant.few))
