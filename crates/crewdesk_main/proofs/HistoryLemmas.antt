@@ -31,14 +31,24 @@ day_history-more o commands place s within at =
     ∙ ap (history_from (opened o)) (map-append by_the_day_file (take place commands) (s ∷ []))
     ∙ history_from-append (opened o) (map by_the_day_file (take place commands)) (by_the_day_file s ∷ [])
 
--- so a desk that stands for the history so far answers by the entry that comes next
-pub day_history-next : (o : OpeningValue) (commands : List StatedValue) (place : ℕ) (s : StatedValue) (es : List EntryValue) (e : EntryValue)
-    → history_of o es ≡ day_history o (take place commands) → place < length commands → s ≡ get_or commands place s → e ≡ next (history_of o es) 0 s
-    → history_of o (es ++ e ∷ []) ≡ day_history o (take (place + 1) commands)
-day_history-next o commands place s es e so_far within at answer =
-    ap (λ x. history_of o (es ++ x ∷ [])) answer
-    ∙ ap (λ h. with_entry h (next h 0 s)) so_far
-    ∙ sym (day_history-more o commands place s within at)
+-- so the entry that comes next is the one that a desk answers which stands for the history so far
+pub day_history-next : (o : OpeningValue) (commands : List StatedValue) (place : ℕ) (s : StatedValue) (e : EntryValue)
+    → place < length commands → s ≡ get_or commands place s → e ≡ next (day_history o (take place commands)) 0 s
+    → with_entry (day_history o (take place commands)) e ≡ day_history o (take (place + 1) commands)
+day_history-next o commands place s e within at answer =
+    ap (with_entry (day_history o (take place commands))) answer ∙ sym (day_history-more o commands place s within at)
+
+history_from-opening : (h : History) (commands : List (ℕ × StatedValue)) → (history_from h commands).opening ≡ h.opening
+unfolding history_from
+history_from-opening h [] = refl
+history_from-opening h ((caller, s) ∷ rest) = history_from-opening (with_entry h (next h caller s)) rest
+
+-- with its opening, its entries are the history
+pub day_history-entries : (o : OpeningValue) (commands : List StatedValue) (entries : List EntryValue) → entries ≡ (day_history o commands).entries
+    → history_of o entries ≡ day_history o commands
+day_history-entries o commands entries are =
+    ap (history_of o) are
+    ∙ ap (λ opening. history_of opening (day_history o commands).entries) (sym (history_from-opening (opened o) (map by_the_day_file commands)))
 
 -- the day file's commands may be stated by caller 0
 day-MayState : (commands : List StatedValue) → All IsStated commands → All (λ c. MayState c.0 c.1) (map by_the_day_file commands)

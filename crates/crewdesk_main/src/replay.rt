@@ -17,7 +17,7 @@ use crate::limits::BYTE_LIMIT;
 use crate::write_text::write_text;
 use desk_base::NoMemory;
 use desk_io::{Sink, Source, Status, put_all, take_all};
-use desk_model::{Entry, Opening, one_history_is_legal};
+use desk_model::{DeskCore, Entry, Opening, one_history_is_legal};
 use desk_text::{DayFault, DayFile, read_day, write_tally, write_wrong};
 use plain_core::PlainCore;
 use std::alloc::Global;
@@ -124,12 +124,12 @@ fn print_day<K: Sink>(alloc: Global, form: DayForm, day: &DayFile, sink: &mut K)
     ensures only { (result ≡ Status.Fine)
         ⊎ ((result ≡ Status.WriteFault) ⊎ (result ≡ Status.NoMemory)) }
 {
-    let Ok(entries) = day_entries(alloc, day) else {
+    let Ok(core) = answered_desk(alloc, day) else {
         return Status::NoMemory;
     };
     match form {
-        DayForm::Replay => print_journal(alloc, &day.opening, &entries, sink),
-        DayForm::Tally => write_text(sink, write_tally(&day.opening, &entries).as_slice()),
+        DayForm::Replay => print_journal(alloc, &day.opening, core.entries(), sink),
+        DayForm::Tally => write_text(sink, write_tally(&day.opening, core.entries()).as_slice()),
     }
 }
 
@@ -163,11 +163,12 @@ fn print_journal<K: Sink>(
     }
 }
 
-// The entries of a new desk that is given the day file's commands.
-fn day_entries(alloc: Global, day: &DayFile) -> Result<Vec<Entry>, NoMemory>
-    ensures { IfOk result (λ entries. history_of day.now.opening entries.items
-        ≡ day_history day.now.opening day.now.commands.items) }
+// A new desk that has answered the day file's commands.
+fn answered_desk(alloc: Global, day: &DayFile) -> Result<PlainCore, NoMemory>
+    ensures { IfOk result (λ core. ⟦<PlainCore as DeskCore>⟧.stands core
+        (day_history day.now.opening day.now.commands.items)) }
 {
     let mut core = PlainCore::new(alloc, day.opening, day.commands.len() as u64)?;
-    answer_all(alloc, &mut core, &day.commands)
+    answer_all(&mut core, &day.commands);
+    Ok(core)
 }

@@ -9,7 +9,7 @@ use std::marker::Model;
 #[derive(Clone, Copy, Debug)]
 pub struct Code {
     bytes: [u8; 6],
-    len: usize,
+    len: u8,
 }
 
 impl Model for Code {
@@ -58,7 +58,7 @@ impl Code {
         }
         Some(Code {
             bytes: padded(text),
-            len: text.len(),
+            len: text.len() as u8,
         })
     }
 
@@ -67,7 +67,7 @@ impl Code {
         ensures value { result.now ≡ self.now }
         ensures range { IsCode self.now }
     {
-        &self.bytes[..self.len]
+        &self.bytes[..self.len as usize]
     }
 }
 

@@ -18,7 +18,7 @@ pub type ChainText = ArrayVec<u8, 27>;
 #[derive(Clone, Copy, Debug, PartialEq, Eq)]
 pub struct Chain {
     boards: [Code; 4],
-    len: usize,
+    len: u8,
 }
 
 impl Model for Chain {
@@ -61,7 +61,7 @@ impl Chain {
         ensures value { result.now ≡ self.now }
         ensures range { IsChain self.now }
     {
-        &self.boards[..self.len]
+        &self.boards[..self.len as usize]
     }
 
     /// The text of the chain: its codes joined by `+`.
@@ -95,7 +95,7 @@ impl Chain {
             return None;
         }
         let mut boards = self.boards;
-        boards[self.len] = board;
+        boards[self.len as usize] = board;
         Some(Chain {
             boards,
             len: self.len + 1,

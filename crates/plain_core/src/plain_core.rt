@@ -1,5 +1,5 @@
 ghost use Rattle.std.specs.Prelude.{◌≡◌, ◌≤◌, ◌+◌, vec_len, vec_capacity, IfOk};
-ghost use Rattle.desk_model.specs.History.{opened};
+ghost use Rattle.desk_model.specs.History.{History, opened};
 ghost use Rattle.plain_core.specs.Room.{HasRoom};
 
 use crate::kept::Kept;
@@ -34,6 +34,16 @@ impl PlainCore {
             lists,
             left: steps,
         })
+    }
+}
+
+impl PlainCore {
+    /// The entries that it has answered, in their order.
+    pub fn entries(&self) -> &[Entry]
+        ensures { (h : History) → ⟦<PlainCore as DeskCore>⟧.stands self.now h
+            → result.now ≡ h.entries }
+    {
+        &self.kept.entries
     }
 }
 
