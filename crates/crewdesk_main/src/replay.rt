@@ -81,7 +81,10 @@ pub fn run<S: Source, K: Sink>(
     // What the desk answers is a legal history.
     one_history_is_legal();
     match read_day(alloc, &bytes) {
-        Ok(day) => print_day(alloc, form, &day, sink),
+        Ok(day) => {
+            drop(bytes);
+            print_day(alloc, form, &day, sink)
+        }
         Err(DayFault::TooMany) => Status::TooLong,
         Err(DayFault::NoOpening) => Status::NoOpening,
         Err(DayFault::Unreadable { record_no, field }) => tell_wrong(record_no, field, sink),
