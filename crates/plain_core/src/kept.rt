@@ -18,7 +18,9 @@ use denial_rules::Bar;
 use desk_answers::Reads;
 use desk_base::{Code, Minute, Month, PersonNo, VacNo};
 use desk_model::{
-    BoardSetup, Chain, Entry, Job, Link, Offer, Opening, Person, VacState, a_legal_history_fits, last_moment};
+    BoardSetup, Chain, Entry, Job, Link, Offer, Opening, Person, VacState, a_legal_history_fits,
+    last_moment,
+};
 use duty_events::{Event, EventFault, Stage, allowed, stage_of};
 use month_hours::{capped, used};
 
