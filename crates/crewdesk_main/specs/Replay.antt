@@ -58,6 +58,10 @@ text_of form.Tally h = tally_text h
 abbrev pub asked_text : List (String Global) → History → List ℕ
 asked_text words h = if is_tally words then tally_text h else journal h
 
+-- the text was written, or the sink had a fault, and a front of it was
+abbrev pub WritesOrFails : Option (List ℕ) → Option (List ℕ) → ℕ → ℕ → List ℕ → Type 0
+WritesOrFails held held' given given' text = (Appends held held' text × (given' ≡ given)) ⊎ (AddsFront held held' text × Rose given given')
+
 -- a day file with a wrong field was read, and this was done with the line that says which
 pub record FindsWrong (before after : Option (List ℕ)) (Writes : List ℕ → Type 0) : Type 0 where
   pub record_no : ℕ
@@ -87,20 +91,20 @@ pub record EndsByTheDay (result : Status) (left : Option (List ℕ)) : Type 0 wh
   pub more_bytes : TellsMore left → EndsAs result TooLong
   pub too_many : Tells left HasTooMany → EndsAs result TooLong
   pub no_opening : Tells left HasNoOpening → EndsAs result NoOpening
-  pub unreadable : Tells left IsUnreadable → result ≢ WriteFault → EndsAs result Unreadable
+  pub unreadable : Tells left IsUnreadable → EndsAs result Unreadable
   pub day : Tells left IsSomeDayFile → result ≢ WriteFault → EndsAs result Fine
 
 -- a run that ended so did what a replay that ends so does, of whose history this text is written: what its source and sink
 -- told before and after, and how many faults they counted
 pub record EndsReplay (result : Status) (text : History → List ℕ) (left left' : Option (List ℕ)) (asked asked' : ℕ) (held held' : Option (List ℕ)) (given given' : ℕ) : Type 0 where
   pub fine : result ≡ Fine → Replays left left' text (Appends held held')
-  pub write_fault : result ≡ WriteFault → Replays left left' text (AddsFront held held') ⊎ FindsWrong left left' (AddsFront held held')
+  pub write_fault : result ≡ WriteFault → Replays left left' text (AddsFront held held')
   pub write_cause : result ≡ WriteFault → Rose given given'
   pub read_cause : result ≡ ReadFault → Rose asked asked'
   pub too_long : result ≡ TooLong → TookMore left left' BYTE_LIMIT ⊎ WasRead left left' HasTooMany
   pub not_too_long : result ≢ TooLong → TookFront left left' BYTE_LIMIT
   pub no_opening : result ≡ NoOpening → WasRead left left' HasNoOpening
-  pub unreadable : result ≡ Unreadable → FindsWrong left left' (Appends held held')
+  pub unreadable : result ≡ Unreadable → FindsWrong left left' (WritesOrFails held held' given given')
   pub by_the_day : EndsByTheDay result left
 
 -- the ways to end in which the sink was given something

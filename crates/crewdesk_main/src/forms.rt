@@ -48,7 +48,8 @@ pub fn perform<S: Source, K: Sink>(
         → S.faults source.new ≡ S.faults source.old }
     ensures silent { writes result ≡ false → Keeps (K.held sink.old) (K.held sink.new) }
     ensures read_count { result ≢ Status.ReadFault → S.faults source.new ≡ S.faults source.old }
-    ensures write_count { result ≢ Status.WriteFault → K.faults sink.new ≡ K.faults sink.old }
+    ensures write_count { result ≢ Status.WriteFault → result ≢ Status.Unreadable
+        → K.faults sink.new ≡ K.faults sink.old }
     ensures later_source { S.faults source.old ≤ S.faults source.new }
     ensures later_sink { K.faults sink.old ≤ K.faults sink.new }
 {

@@ -8,7 +8,7 @@ ghost use Rattle.desk_model.specs.Journal.{journal};
 ghost use Rattle.desk_text.specs.Line.{wrong_line};
 ghost use Rattle.desk_text.specs.DayFile.{HasTooMany, HasNoOpening};
 ghost use Rattle.crewdesk_main.specs.Words.{reads_day};
-ghost use Rattle.crewdesk_main.specs.Replay.{Replays, FindsWrong, EndsByTheDay, WasRead, asked_text, day_history, text_of, writes};
+ghost use Rattle.crewdesk_main.specs.Replay.{Replays, FindsWrong, WritesOrFails, EndsByTheDay, WasRead, asked_text, day_history, text_of, writes};
 
 use crate::answers::answer_all;
 use crate::day_form::DayForm;
@@ -27,7 +27,7 @@ const BUFFER_BYTES: usize = 65_536;
 
 /// Runs the desk. With the word `replay` alone it reads a day file from the source, replays its commands and writes the
 /// journal to the sink, and with `tally` alone the tally; where a field of the file is wrong it writes a line that says
-/// which. It reads all of its input, and takes all memory for the replay, before it writes anything.
+/// which, and a front of it where the sink has a fault. It reads all of its input, and takes all memory for the replay, before it writes anything.
 pub fn run<S: Source, K: Sink>(
     alloc: Global,
     words: &[String],
@@ -37,7 +37,8 @@ pub fn run<S: Source, K: Sink>(
     ensures usage { result ≡ Status.Usage ↔ (reads_day words.now ≡ false) }
     ensures unasked_left { result ≡ Status.Usage → S.left source.new ≡ S.left source.old }
     ensures read_count { result ≢ Status.ReadFault → S.faults source.new ≡ S.faults source.old }
-    ensures write_count { result ≢ Status.WriteFault → K.faults sink.new ≡ K.faults sink.old }
+    ensures write_count { result ≢ Status.WriteFault → result ≢ Status.Unreadable
+        → K.faults sink.new ≡ K.faults sink.old }
     ensures later_source { S.faults source.old ≤ S.faults source.new }
     ensures later_sink { K.faults sink.old ≤ K.faults sink.new }
 
@@ -45,10 +46,8 @@ pub fn run<S: Source, K: Sink>(
         → Replays (S.left source.old) (S.left source.new) (asked_text words.now)
         (Appends (K.held sink.old) (K.held sink.new)) }
     ensures write_fault { result ≡ Status.WriteFault
-        → (Replays (S.left source.old) (S.left source.new) (asked_text words.now)
-        (AddsFront (K.held sink.old) (K.held sink.new)))
-        ⊎ (FindsWrong (S.left source.old) (S.left source.new)
-        (AddsFront (K.held sink.old) (K.held sink.new))) }
+        → Replays (S.left source.old) (S.left source.new) (asked_text words.now)
+        (AddsFront (K.held sink.old) (K.held sink.new)) }
     ensures silent { writes result ≡ false → Keeps (K.held sink.old) (K.held sink.new) }
 
     ensures write_cause { result ≡ Status.WriteFault
@@ -64,7 +63,8 @@ pub fn run<S: Source, K: Sink>(
         → WasRead (S.left source.old) (S.left source.new) HasNoOpening }
     ensures unreadable { result ≡ Status.Unreadable
         → FindsWrong (S.left source.old) (S.left source.new)
-        (Appends (K.held sink.old) (K.held sink.new)) }
+        (WritesOrFails (K.held sink.old) (K.held sink.new)
+        (K.faults sink.old) (K.faults sink.new)) }
     ensures audit_wrong { result ≢ Status.AuditWrong }
 
     // And each of these comes where its cause is, unless memory or a fault is in the way.
@@ -92,23 +92,15 @@ pub fn run<S: Source, K: Sink>(
     }
 }
 
-// Writes which field of which record is wrong.
+// Writes which field of which record is wrong, or a front of that line where the sink has a fault.
 fn tell_wrong<K: Sink>(record_no: u32, field: u8, sink: &mut K) -> Status
-    ensures unreadable { result ≡ Status.Unreadable
-        → Appends (K.held sink.old) (K.held sink.new) (wrong_line record_no field) }
-    ensures write_fault { result ≡ Status.WriteFault
-        → AddsFront (K.held sink.old) (K.held sink.new) (wrong_line record_no field) }
-    ensures write_cause { result ≡ Status.WriteFault
-        → Rose (K.faults sink.old) (K.faults sink.new) }
-    ensures write_count { result ≢ Status.WriteFault → K.faults sink.new ≡ K.faults sink.old }
+    ensures unreadable { result ≡ Status.Unreadable }
+    ensures written { WritesOrFails (K.held sink.old) (K.held sink.new)
+        (K.faults sink.old) (K.faults sink.new) (wrong_line record_no field) }
     ensures later { K.faults sink.old ≤ K.faults sink.new }
-    ensures only { (result ≡ Status.Unreadable) ⊎ (result ≡ Status.WriteFault) }
 {
-    if put_all(sink, write_wrong(record_no, field).as_slice()) {
-        Status::Unreadable
-    } else {
-        Status::WriteFault
-    }
+    let _whole = put_all(sink, write_wrong(record_no, field).as_slice());
+    Status::Unreadable
 }
 
 // Replays the day file's commands on a new desk and writes what is asked for. All memory is taken, and all commands are

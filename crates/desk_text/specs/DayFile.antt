@@ -31,7 +31,7 @@ pub record HasWrong (records : List (List (List ℕ))) (record_no field : ℕ) :
   pub record_is : record_no ≡ length before + 2
   pub field_is : IsWrongAt bad field
 
--- the first record is an opening's, and these are behind it
+-- there are no more records than a day file may have, the first is an opening's, and these are behind it
 pub record IsOpened (bytes : List ℕ) (o : OpeningValue) (rest : List (List (List ℕ))) : Type 0 where
   pub few : length (records_of bytes) ≤ RECORD_LIMIT
   pub first : List (List ℕ)
@@ -54,7 +54,7 @@ pub record IsSomeDayFile (bytes : List ℕ) : Type 0 where
 abbrev pub HasTooMany : List ℕ → Type 0
 HasTooMany bytes = RECORD_LIMIT < length (records_of bytes)
 
--- the first record is no opening's, or there is none
+-- there are no more records than a day file may have, and the first is no opening's, or there is none
 pub record HasNoOpening (bytes : List ℕ) : Type 0 where
   pub few : length (records_of bytes) ≤ RECORD_LIMIT
   pub none : (o : OpeningValue) (rest : List (List (List ℕ))) → ¬ IsOpened bytes o rest

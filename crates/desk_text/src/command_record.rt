@@ -21,7 +21,9 @@ use desk_base::Minute;
 use desk_model::{Cmd, Stated};
 
 /// The command that a record's fields state, and the minute at which it was stated. Where they state none it is the place,
-/// from 1, of the first field that is missing, one too many, or none that may stand there behind the fields before it. The first field is the minute, the second the command's word, and behind it stands what the command is about:
+/// from 1, of the first field that is missing, one too many, or none that may stand there behind the fields before it.
+///
+/// The first field is the minute, the second the command's word, and behind it stands what the command is about:
 ///
 /// | Word | Fields behind it |
 /// |---|---|

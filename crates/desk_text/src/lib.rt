@@ -1,4 +1,5 @@
-//! The texts of the desk: commands read, and the journal's lines written.
+//! The texts of the desk: commands, day files and callers' lines read, the journal's lines read and written, and tallies
+//! written.
 #![tactic(auto)]
 
 mod bar_head;
@@ -56,7 +57,7 @@ pub use different_replies::different_replies_have_different_texts;
 pub use each_line::each_line_ends_once;
 pub use entry_line::write_entry;
 pub use journal_opening::read_opening;
-pub use limits::RECORD_LIMIT;
+pub use limits::{RECORD_LIMIT, the_most_records_of_a_day_file};
 pub use line_text::LineText;
 pub use one_statement::a_record_states_one_command;
 pub use opening_line::write_opening;

@@ -2,7 +2,7 @@
 use Rattle.std.proofs.Common.{◌≡◌, ◌∙◌, ◌+◌, ℕ, suc, Bool, true, false, Bor, List, [], ◌∷◌, length, Some, None, inl, refl, sym, ap, arith}
 use Rattle.std.specs.Bool.{MatchBool}
 use Rattle.csv.specs.Machine.{Read, next_record}
-use Rattle.csv.specs.Reading.{Reached, ReadRecord, default_config, records_from, records_next, took_first, reader_state}
+use Rattle.csv.specs.Reading.{is_flexible, Reached, ReadRecord, default_config, records_from, records_next, took_first, reader_state}
 use Rattle.csv.specs.declared.parser.State.{State}
 use Rattle.csv.proofs.ReadFacts.{rows-more, rows-end}
 use Rattle.record_rows.specs.declared.rows.Rows.{Rows}
@@ -30,12 +30,12 @@ records_from-none s bytes none =
 
 -- a read that finds a record took the first of those that are left, and one that finds none had none left
 pub read-left : (a b : Rows) (found : Bool) (fields : List (List ℕ)) (left : List (List (List ℕ))) → HasLeft a left
-    → ReadRecord (λ (s : Bor (List ℕ)). Some s.now) a.rdr b.rdr found fields → took_first b.rdr ≡ true
+    → ReadRecord (λ (s : Bor (List ℕ)). Some s.now) a.rdr b.rdr found fields → took_first b.rdr ≡ true → is_flexible b.rdr ≡ is_flexible a.rdr
     → MatchBool found (TookFirst left fields b) (left ≡ [])
 unfolding Reached
-read-left a b false fields left has read first =
+read-left a b false fields left has read first flexible =
     sym has.records ∙ records_from-none _ has.bytes (rows-end (λ (s : Bor (List ℕ)). Some s.now) a.rdr b.rdr fields default_config has.bytes has.config has.source read)
-read-left a b true fields left has read first =
+read-left a b true fields left has read first flexible =
     let more = rows-more (λ (s : Bor (List ℕ)). Some s.now) a.rdr b.rdr fields default_config (reader_state a.rdr) has.bytes has.bytes [] has.config has.source (refl, refl) read in
     let (p, next, fields_are, reached) = more.2 in
     let between : IsBetween (reader_state b.rdr) = rw (sym reached.0) ((next_record-leaves _ [] [] has.bytes).state p next) in
@@ -45,6 +45,7 @@ read-left a b true fields left has read first =
       behind = record {
         trim = read.3 ∙ has.trim;
         ready = inl first;
+        flexible = flexible ∙ has.flexible;
         config = read.2 ∙ has.config;
         bytes = more.0;
         source = more.1;

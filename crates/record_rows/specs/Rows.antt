@@ -1,6 +1,6 @@
 -- The records of a text of fields behind commas, as `csv` documents them.
-use Rattle.std.specs.Prelude.{◌≡◌, ◌⊎◌, ◌+◌, ℕ, Some, List, ◌∷◌, length}
-use Rattle.csv.specs.Reading.{Ready, default_config, reader_config, reader_state, reader_trim, records, records_from, source_of, strip_bom}
+use Rattle.std.specs.Prelude.{◌≡◌, ◌⊎◌, ◌+◌, ℕ, true, Some, List, ◌∷◌, length}
+use Rattle.csv.specs.Reading.{Ready, is_flexible, default_config, reader_config, reader_state, reader_trim, records, records_from, source_of, strip_bom}
 use Rattle.csv.specs.declared.parser.State.{State}
 use Rattle.csv.specs.declared.parser.State.TheVariants as state
 use Rattle.csv.specs.declared.reader.Trim.TheVariants as trim
@@ -15,10 +15,11 @@ records_of text = records default_config (strip_bom text)
 abbrev pub IsBetween : State → Type 0
 IsBetween s = (s ≡ state.StartRecord) ⊎ (s ≡ state.AfterCr)
 
--- these records are still to be read
+-- these records are still to be read, of whatever lengths they are
 pub record HasLeft (rows : Rows) (left : List (List (List ℕ))) : Type 0 where
   pub trim : reader_trim rows.rdr ≡ trim.None
   pub ready : Ready rows.rdr
+  pub flexible : is_flexible rows.rdr ≡ true
   pub config : reader_config rows.rdr ≡ default_config
   pub bytes : List ℕ
   pub source : source_of (λ s. Some s.now) rows.rdr ≡ Some bytes

@@ -77,17 +77,16 @@ fn a_sink_that_fails_at_each_call(rt: HostRuntime) -> Result<(), Fail> {
 fn a_sink_that_fails_at_the_line_of_a_wrong_field(rt: HostRuntime) -> Result<(), Fail> {
     let alloc = rt.alloc();
     let replay = words_of(alloc, &["replay"])?;
-    let cases: [(u64, Status, &[u8]); 3] = [
-        (1, Status::WriteFault, b""),
-        (2, Status::WriteFault, b"unreadab"),
-        (3, Status::Unreadable, b"unreadable 2 3\n"),
-    ];
-    for (call, status, text) in cases {
+    let cases: [(u64, &[u8]); 3] = [(1, b""), (2, b"unreadab"), (3, b"unreadable 2 3\n")];
+    for (call, text) in cases {
         let mut day = OPENING.to_vec(alloc)?;
         day.extend_from_slice(b"2024-03-04 00:01,next,0\n")?;
         let mut source = SureSource::new(day);
         let mut sink = MemorySink::new(alloc, 64, 8, vec![in alloc; call]?)?;
-        assert_eq!(rt; run(alloc, &replay, &mut source, &mut sink), status);
+        assert_eq!(rt;
+            run(alloc, &replay, &mut source, &mut sink),
+            Status::Unreadable
+        );
         assert_eq!(rt; sink.bytes(), text);
     }
     Ok(())

@@ -1,4 +1,4 @@
-use Rattle.std.proofs.Common.{◌∙◌, get_or, sym, ap, arith, codes, refl, inl, inr}
+use Rattle.std.proofs.Common.{◌∙◌, get_or, sym, ap, arith, codes, refl}
 use Rattle.std.specs.Io.KnownBytes.{Appends}
 use Rattle.desk_io.specs.Giving.{AddsFront}
 use Rattle.desk_model.specs.Journal.{journal}
@@ -42,10 +42,7 @@ returns-else-is_alone-2-clause-replay g c replay =
     let same = asked_text-journal c.args.words.now tally in
     record {
       fine = λ ends. Replays-text _ _ _ journal (Appends _ _) same (asked.fine ends);
-      write_fault = λ ends. elim (asked.write_fault ends) [
-        | inl replays ↦ inl (Replays-text _ _ _ journal (AddsFront _ _) same replays)
-        | inr wrong ↦ inr wrong
-      ];
+      write_fault = λ ends. Replays-text _ _ _ journal (AddsFront _ _) same (asked.write_fault ends);
       write_cause = asked.write_cause;
       read_cause = asked.read_cause;
       too_long = asked.too_long;

@@ -1,8 +1,8 @@
-use Rattle.std.proofs.Common.{◌≡◌, arith, inl, inr, rules}
+use Rattle.std.proofs.Common.{◌≡◌, arith, rules}
 use Rattle.std.specs.Io.KnownBytes.{Appends}
 use Rattle.desk_io.specs.Giving.{AddsFront}
 use Rattle.crewdesk_main.proofs.HistoryLemmas.{IsReplay-day}
-use Rattle.crewdesk_main.specs.Replay.{Tells}
+use Rattle.crewdesk_main.specs.Replay.{Tells, WritesOrFails}
 use Rattle.desk_text.specs.declared.day_fault.DayFault.{DayFault}
 use Rattle.desk_text.specs.declared.day_fault.DayFault.TheVariants as fault
 use Rattle.desk_text.specs.DayFile.{HasFault}
@@ -22,18 +22,13 @@ returns-in-Ok-read_day-clause-write_fault g c = λ fault.
     let law = c.one_history_is_legal.ensures in
     let day = c.in-Ok-read_day.ensures.day in
     let replay = IsReplay-day law.opening law.legal law.given _ _ day.opened.opening.valid day.states.valid in
-    inl (Replays-TookAll _ _ c.in-Ok.bytes.items _ _ _ _ (AddsFront _ _) c.in-Ok.ensures.whole (omega (arith, c.in-Ok.ensures.bounded, c.in-Ok.bytes.ok.0))
-    c.deref.ensures.value day replay (rw (c.in-Some.ensures.some.1 _) (c.print_day.ensures.write_fault fault)))
+    Replays-TookAll _ _ c.in-Ok.bytes.items _ _ _ _ (AddsFront _ _) c.in-Ok.ensures.whole (omega (arith, c.in-Ok.ensures.bounded, c.in-Ok.bytes.ok.0))
+    c.deref.ensures.value day replay (rw (c.in-Some.ensures.some.1 _) (c.print_day.ensures.write_fault fault))
 
 pub returns-in-Err-Unreadable-clause-unreadable : goal.returns-in-Err-Unreadable-clause-unreadable
 returns-in-Err-Unreadable-clause-unreadable g c = λ told.
-    FindsWrong-TookAll _ _ c.in-Ok.bytes.items _ _ _ (Appends _ _) c.in-Ok.ensures.whole (omega (arith, c.in-Ok.ensures.bounded, c.in-Ok.bytes.ok.0))
-    c.deref.ensures.value (rw (c.in-Err-Unreadable.field-0-is) at (c.in-Err-Unreadable.ensures.fault (λ e. let is = c.in-Err-Unreadable.field-0-is in cc))) (rw (c.in-Err-Unreadable.record_no-is, c.in-Err-Unreadable.field-is) at (c.tell_wrong.ensures.unreadable told))
-
-pub returns-in-Err-Unreadable-clause-write_fault : goal.returns-in-Err-Unreadable-clause-write_fault
-returns-in-Err-Unreadable-clause-write_fault g c = λ fault.
-    inr (FindsWrong-TookAll _ _ c.in-Ok.bytes.items _ _ _ (AddsFront _ _) c.in-Ok.ensures.whole (omega (arith, c.in-Ok.ensures.bounded, c.in-Ok.bytes.ok.0))
-    c.deref.ensures.value (rw (c.in-Err-Unreadable.field-0-is) at (c.in-Err-Unreadable.ensures.fault (λ e. let is = c.in-Err-Unreadable.field-0-is in cc))) (rw (c.in-Err-Unreadable.record_no-is, c.in-Err-Unreadable.field-is) at (c.tell_wrong.ensures.write_fault fault)))
+    FindsWrong-TookAll _ _ c.in-Ok.bytes.items _ _ _ (WritesOrFails (g.K.Sink.held c.args.sink.now) (g.K.Sink.held c.tell_wrong.new.sink) (g.K.Sink.faults c.args.sink.now) (g.K.Sink.faults c.tell_wrong.new.sink)) c.in-Ok.ensures.whole (omega (arith, c.in-Ok.ensures.bounded, c.in-Ok.bytes.ok.0))
+    c.deref.ensures.value (rw (c.in-Err-Unreadable.field-0-is) at (c.in-Err-Unreadable.ensures.fault (λ e. let is = c.in-Err-Unreadable.field-0-is in cc))) (rw (c.in-Err-Unreadable.record_no-is, c.in-Err-Unreadable.field-is) at c.tell_wrong.ensures.written)
 
 pub returns-in-Ok-read_day-clause-by_the_day : goal.returns-in-Ok-read_day-clause-by_the_day
 returns-in-Ok-read_day-clause-by_the_day g c = λ words.
@@ -56,7 +51,7 @@ returns-in-Err-NoOpening-clause-by_the_day g c = λ words.
       more_bytes = search rules;
       too_many = λ tells read memory. let same = one fault.TooMany tells in cc;
       no_opening = search rules;
-      unreadable = λ tells written read memory. let same = one (fault.Unreadable tells.has.record_no tells.has.field) (unreadable-cause _ tells) in cc;
+      unreadable = λ tells read memory. let same = one (fault.Unreadable tells.has.record_no tells.has.field) (unreadable-cause _ tells) in cc;
       day = λ tells. absurd (cause-day _ _ c.in-Ok.bytes.items _ fault.NoOpening c.in-Ok.ensures.whole c.deref.ensures.value has tells);
     }
 

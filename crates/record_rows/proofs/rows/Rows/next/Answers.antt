@@ -5,4 +5,4 @@ use Rattle.record_rows.proofs.rows.Rows.next.Goals as goal
 pub returns : goal.returns
 returns c = λ left has.
     read-left c.args.self.now record { rdr = c.read_byte_record.new.self } c.in-Ok.found (fields_of c.read_byte_record.new.row) left has
-    (c.in-Ok.ensures.reads has.trim has.ready) (c.in-Ok.ensures.ready has.trim)
+    (c.in-Ok.ensures.reads has.trim has.ready) (c.in-Ok.ensures.ready has.trim) c.in-Ok.ensures.flexible

@@ -12,6 +12,7 @@ returns c =
     record {
       trim = rw (e, h) at fr.trim ∙ c.new.ensures.trim;
       ready = inr (inr (rw (e, h) at fr.has_headers, fr.headers));
+      flexible = rw e at fr.flexible;
       config = rw (e, h) at fr.config ∙ c.new.ensures.config;
       bytes = strip_bom c.args.text.now;
       source = fr.source;
