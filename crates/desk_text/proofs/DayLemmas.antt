@@ -19,7 +19,7 @@ use Rattle.desk_model.specs.StatedTexts.{stated_fields}
 use Rattle.record_rows.specs.declared.rows.Rows.{Rows}
 use Rattle.record_rows.specs.Rows.{HasLeft, records_of}
 use Rattle.desk_text.specs.declared.wrong_place.WrongPlace.{WrongPlace}
-use Rattle.desk_text.specs.DayCommands.{Tells}
+use Rattle.desk_text.specs.DayCommands.{StatesOrWrong}
 use Rattle.desk_text.specs.RecordForms.{IsWrongAt}
 use Rattle.desk_text.specs.Spelled.{StatesCommand}
 use Rattle.desk_text.specs.OpeningRecord.{StatesOpening}
@@ -70,10 +70,10 @@ HasWrong-more records fields record_no field has = record {
 }
 
 -- the same of what is told where a wrong place is
-pub Tells-more : (wrong : Option WrongPlace) (commands : List StatedValue) (records : List (List (List ℕ))) (fields : List (List ℕ))
-    → is_some wrong ≡ true → Tells wrong commands records → Tells wrong commands (records ++ fields ∷ [])
-Tells-more None commands records fields e tells = absurd (false≢true e)
-Tells-more (Some place) commands records fields e tells = HasWrong-more records fields place.record_no place.field tells
+pub StatesOrWrong-more : (wrong : Option WrongPlace) (commands : List StatedValue) (records : List (List (List ℕ))) (fields : List (List ℕ))
+    → is_some wrong ≡ true → StatesOrWrong wrong commands records → StatesOrWrong wrong commands (records ++ fields ∷ [])
+StatesOrWrong-more None commands records fields e tells = absurd (false≢true e)
+StatesOrWrong-more (Some place) commands records fields e tells = HasWrong-more records fields place.record_no place.field tells
 
 -- what a reader has told of the records that it was left with, where the next has this number
 pub record HasRead (all : List (List (List ℕ))) (rows : Rows) (wrong : Option WrongPlace) (commands : List StatedValue) (next : ℕ) : Type 0 where
@@ -81,13 +81,13 @@ pub record HasRead (all : List (List (List ℕ))) (rows : Rows) (wrong : Option 
   pub rest : List (List (List ℕ))
   pub parts : all ≡ read ++ rest
   pub number : next ≡ length read + 2
-  pub tells : Tells wrong commands read
+  pub tells : StatesOrWrong wrong commands read
   pub left : HasLeft rows rest
 
 -- with the next record that is one more
 pub HasRead-more : (all : List (List (List ℕ))) (rows : Rows) (wrong : Option WrongPlace) (commands : List StatedValue) (next : ℕ)
     (has : HasRead all rows wrong commands next) (fields : List (List ℕ)) (rest : List (List (List ℕ))) (rows' : Rows) (wrong' : Option WrongPlace) (commands' : List StatedValue)
-    → has.rest ≡ fields ∷ rest → HasLeft rows' rest → Tells wrong' commands' (has.read ++ fields ∷ []) → HasRead all rows' wrong' commands' (next + 1)
+    → has.rest ≡ fields ∷ rest → HasLeft rows' rest → StatesOrWrong wrong' commands' (has.read ++ fields ∷ []) → HasRead all rows' wrong' commands' (next + 1)
 HasRead-more all rows wrong commands next has fields rest rows' wrong' commands' parts left tells = record {
   read = has.read ++ fields ∷ [];
   rest = rest;
@@ -99,7 +99,7 @@ HasRead-more all rows wrong commands next has fields rest rows' wrong' commands'
 
 -- and with none left it is all
 pub HasRead-all : (all : List (List (List ℕ))) (rows : Rows) (wrong : Option WrongPlace) (commands : List StatedValue) (next : ℕ)
-    (has : HasRead all rows wrong commands next) → has.rest ≡ [] → (next ≡ length all + 2) × Tells wrong commands all
+    (has : HasRead all rows wrong commands next) → has.rest ≡ [] → (next ≡ length all + 2) × StatesOrWrong wrong commands all
 HasRead-all all rows wrong commands next has none =
     let whole : all ≡ has.read = has.parts ∙ ap (λ list. has.read ++ list) none ∙ append-nil has.read in
     (has.number ∙ ap (λ list. length list + 2) (sym whole), rw whole has.tells)

@@ -5,6 +5,6 @@ use Rattle.desk_text.specs.declared.wrong_place.WrongPlace.{WrongPlace}
 use Rattle.desk_text.specs.DayFile.{StateCommands, HasWrong}
 
 -- the records state these commands; or, where a wrong place is told, it is that of the first which states none
-abbrev pub Tells : Option WrongPlace → List StatedValue → List (List (List ℕ)) → Type 0
-Tells None commands records = StateCommands records commands
-Tells (Some place) commands records = HasWrong records place.record_no place.field
+abbrev pub StatesOrWrong : Option WrongPlace → List StatedValue → List (List (List ℕ)) → Type 0
+StatesOrWrong None commands records = StateCommands records commands
+StatesOrWrong (Some place) commands records = HasWrong records place.record_no place.field

@@ -2,7 +2,7 @@
 ghost use Rattle.std.specs.Prelude.{◌≡◌, ◌<◌, ◌≤◌, ◌+◌, ◌++◌, ◌∷◌, [], ℕ, List, length, MatchOption, IfOk};
 ghost use Rattle.csv.specs.Records.{fields_of};
 ghost use Rattle.record_rows.specs.Rows.{HasLeft};
-ghost use Rattle.desk_text.specs.DayCommands.{Tells};
+ghost use Rattle.desk_text.specs.DayCommands.{StatesOrWrong};
 
 use crate::limits::RECORD_LIMIT;
 use crate::record_row::read_row;
@@ -27,8 +27,8 @@ impl DayCommands {
     fn take(&mut self, record_no: u32, row: &ByteRecord) -> Result<(), NoMemory>
         ensures { IfOk result (λ _. (records : List (List (List ℕ)))
             → record_no ≡ length records + 2
-            → Tells self.old.wrong self.old.commands.items records
-            → Tells self.new.wrong self.new.commands.items (records ++ fields_of row.now ∷ [])) }
+            → StatesOrWrong self.old.wrong self.old.commands.items records
+            → StatesOrWrong self.new.wrong self.new.commands.items (records ++ fields_of row.now ∷ [])) }
     {
         if self.wrong.is_none() {
             match read_row(row) {
@@ -50,7 +50,7 @@ pub fn read_commands(
 ) -> Result<Option<DayCommands>, NoMemory>
     ensures { IfOk result (λ read. (left : List (List (List ℕ))) → HasLeft rows.old left
         → MatchOption read (RECORD_LIMIT ≤ length left) (λ told.
-        (length left < RECORD_LIMIT) × Tells told.wrong told.commands.items left)) }
+        (length left < RECORD_LIMIT) × StatesOrWrong told.wrong told.commands.items left)) }
 {
     let mut told = DayCommands {
         commands: Vec::with_capacity(alloc, room)?,

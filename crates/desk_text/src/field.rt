@@ -22,11 +22,11 @@ pub fn read_vac(text: &[u8]) -> Option<VacNo>
     VacNo::new(read_decimal(text)?)
 }
 
-/// The minutes, below 2^16, that a field spells in decimal.
-pub fn read_minutes(text: &[u8]) -> Option<u16>
-    ensures some { IfSome result (λ minutes. text.now ≡ decimal minutes) }
-    ensures only { (minutes : ℕ) → minutes < 2 ^ 16 → text.now ≡ decimal minutes
-        → result ≡ Some minutes }
+/// The count below 2^16, of minutes or of places, that a field spells in decimal.
+pub fn read_count(text: &[u8]) -> Option<u16>
+    ensures some { IfSome result (λ count. text.now ≡ decimal count) }
+    ensures only { (count : ℕ) → count < 2 ^ 16 → text.now ≡ decimal count
+        → result ≡ Some count }
 {
     u16::try_from(read_decimal(text)?).ok()
 }

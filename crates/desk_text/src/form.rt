@@ -3,7 +3,7 @@ ghost use Rattle.desk_text.specs.declared.form.Form.TheVariants as form;
 ghost use Rattle.desk_text.specs.RecordForms.{HasForm};
 
 use crate::event_word::EventWord;
-use crate::field::{read_extra, read_minutes, read_person, read_place};
+use crate::field::{read_count, read_extra, read_person, read_place};
 use crate::spelled_event::read_kind;
 use crate::word::Word;
 use desk_base::{Code, Minute, Month};
@@ -63,8 +63,8 @@ impl Form {
             Form::Sort => read_extra(field).is_some(),
             Form::Kind => read_kind(field).is_some(),
             Form::Chain => Chain::read(field).is_some(),
-            Form::Duty => matches!(read_minutes(field), Some(1..=9_999)),
-            Form::Limbo => matches!(read_minutes(field), Some(0..=999)),
+            Form::Duty => matches!(read_count(field), Some(1..=9_999)),
+            Form::Limbo => matches!(read_count(field), Some(0..=999)),
             Form::Place => read_place(field).is_some(),
         }
     }

@@ -4,8 +4,8 @@ ghost use Rattle.desk_model.specs.Opening.{OpeningValue};
 ghost use Rattle.desk_text.specs.OpeningRecord.{IsOpeningLine};
 
 use crate::cut::before;
+use crate::line_fields::fields_of_line;
 use crate::opening_record::opening_of;
-use crate::record_fields::first_fields;
 use desk_model::Opening;
 
 /// The opening of the journal's first line, `M,open,month,months,answer` with its line feed; `None` for every other text: the
@@ -14,5 +14,5 @@ pub fn read_opening(line: &[u8]) -> Option<Opening>
     ensures some { IfSome result (IsOpeningLine line.now) }
     ensures only { (o : OpeningValue) → IsOpeningLine line.now o → result ≡ Some o }
 {
-    opening_of(first_fields(before(line, b"\n")?).as_slice())
+    opening_of(fields_of_line(before(line, b"\n")?).as_slice())
 }

@@ -4,7 +4,7 @@ ghost use Rattle.desk_model.specs.declared.command.Cmd.{Cmd as CmdValue};
 ghost use Rattle.desk_text.specs.declared.word.Word.TheVariants as word;
 ghost use Rattle.desk_text.specs.Spelled.{Spells};
 
-use crate::field::{read_extra, read_minutes, read_place, read_vac};
+use crate::field::{read_count, read_extra, read_place, read_vac};
 use desk_base::{Code, Minute};
 use desk_model::{Chain, Cmd, Job};
 use qualifications::{Craft, Quals};
@@ -40,8 +40,8 @@ pub fn read_vacancy(about: &[&[u8]]) -> Option<Cmd>
         Quals::read(quals)?,
         Code::read(place)?,
         Minute::read(report)?,
-        read_minutes(duty)?,
-        read_minutes(limbo)?,
+        read_count(duty)?,
+        read_count(limbo)?,
         Chain::read(chain)?,
     )?;
     Some(Cmd::Vacancy(job))

@@ -7,7 +7,7 @@ ghost use Rattle.desk_text.specs.SpelledEntry.{IsEntryLine, SpellsStated, Spells
 
 use crate::command_record::read_record;
 use crate::cut::{before, cut};
-use crate::record_fields::first_fields;
+use crate::line_fields::fields_of_line;
 use crate::spelled_reply::read_reply;
 use desk_base::{Minute, read_decimal};
 use desk_model::{Entry, LAST_CALLER, Stated};
@@ -56,5 +56,5 @@ fn read_stated(text: &[u8]) -> Option<Stated>
     ensures some { IfSome result (SpellsStated text.now) }
     ensures only { (s : StatedValue) → SpellsStated text.now s → result ≡ Some s }
 {
-    read_record(first_fields(text).as_slice()).ok()
+    read_record(fields_of_line(text).as_slice()).ok()
 }

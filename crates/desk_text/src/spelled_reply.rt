@@ -5,7 +5,7 @@ ghost use Rattle.desk_text.specs.declared.reply_head.ReplyHead.TheVariants as he
 ghost use Rattle.desk_text.specs.SpelledReply.{SpellsReply, TellsReply, HasNoReplyHead};
 
 use crate::cut::cut;
-use crate::field::{read_minutes, read_person, read_vac};
+use crate::field::{read_count, read_person, read_vac};
 use crate::reply_head::ReplyHead;
 use crate::spelled_bar::read_bar;
 use crate::spelled_part::{read_late, read_numbers, read_position};
@@ -37,10 +37,10 @@ fn read_kept(head: ReplyHead, kept: &[u8]) -> Option<Reply>
         ReplyHead::Clear => read_clear(kept),
         ReplyHead::Hours => read_hours(kept),
         ReplyHead::Unfilled => Some(Reply::Unfilled {
-            listed: read_minutes(kept)?,
+            listed: read_count(kept)?,
         }),
         ReplyHead::NoOne => Some(Reply::NoOne {
-            length: read_minutes(kept)?,
+            length: read_count(kept)?,
         }),
         ReplyHead::Seen => Some(Reply::Seen(read_person(kept)?)),
         ReplyHead::RunAround => Some(Reply::RunAround(read_person(kept)?)),

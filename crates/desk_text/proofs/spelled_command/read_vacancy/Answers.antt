@@ -5,15 +5,15 @@ use Rattle.desk_model.specs.Job.{job_of, IsPlan}
 use Rattle.desk_text.proofs.SpelledLemmas.{SpellsJob, field_at, same, vacancy, vacancy-spelled, job-of}
 use Rattle.desk_text.proofs.spelled_command.read_vacancy.Goals as goal
 
-pub returns-in_err-read_minutes-clause-only : goal.returns-in_err-read_minutes-clause-only
-returns-in_err-read_minutes-clause-only c = λ command spells.
+pub returns-in_err-read_count-clause-only : goal.returns-in_err-read_count-clause-only
+returns-in_err-read_count-clause-only c = λ command spells.
     let v = vacancy _ command spells in
-    let none = c.in_err-read_minutes.ensures.only v.job.duty (omega (arith, v.job_in.plan.most)) (field_at _ _ 5 _ v.fields_are (omega (arith, c.in-len8.len_at_least))) in cc
+    let none = c.in_err-read_count.ensures.only v.job.duty (omega (arith, v.job_in.plan.most)) (field_at _ _ 5 _ v.fields_are (omega (arith, c.in-len8.len_at_least))) in cc
 
-pub returns-in_err-read_minutes-2-clause-only : goal.returns-in_err-read_minutes-2-clause-only
-returns-in_err-read_minutes-2-clause-only c = λ command spells.
+pub returns-in_err-read_count-2-clause-only : goal.returns-in_err-read_count-2-clause-only
+returns-in_err-read_count-2-clause-only c = λ command spells.
     let v = vacancy _ command spells in
-    let none = c.in_err-read_minutes-2.ensures.only v.job.limbo (omega (arith, v.job_in.plan.limbo_most)) (field_at _ _ 6 _ v.fields_are (omega (arith, c.in-len8.len_at_least))) in cc
+    let none = c.in_err-read_count-2.ensures.only v.job.limbo (omega (arith, v.job_in.plan.limbo_most)) (field_at _ _ 6 _ v.fields_are (omega (arith, c.in-len8.len_at_least))) in cc
 
 pub returns-in_err-read-5-clause-only : goal.returns-in_err-read-5-clause-only
 returns-in_err-read-5-clause-only c = λ command spells.
@@ -24,9 +24,9 @@ pub returns-in_err-job-clause-only : goal.returns-in_err-job-clause-only
 returns-in_err-job-clause-only c = λ command spells.
     let v = vacancy _ command spells in
     let report = same _ _ (c.in_ok-read-4.ensures.only v.job.report v.job_in.plan.report_in (field_at _ _ 4 _ v.fields_are (omega (arith, c.in-len8.len_at_least)))) in
-    let duty = same _ _ (c.in_ok-read_minutes.ensures.only v.job.duty (omega (arith, v.job_in.plan.most)) (field_at _ _ 5 _ v.fields_are (omega (arith, c.in-len8.len_at_least)))) in
-    let limbo = same _ _ (c.in_ok-read_minutes-2.ensures.only v.job.limbo (omega (arith, v.job_in.plan.limbo_most)) (field_at _ _ 6 _ v.fields_are (omega (arith, c.in-len8.len_at_least)))) in
-    let plan : IsPlan c.in_ok-read-4.field-0 c.in_ok-read_minutes.field-0 c.in_ok-read_minutes-2.field-0 = rw (report, duty, limbo) v.job_in.plan in
+    let duty = same _ _ (c.in_ok-read_count.ensures.only v.job.duty (omega (arith, v.job_in.plan.most)) (field_at _ _ 5 _ v.fields_are (omega (arith, c.in-len8.len_at_least)))) in
+    let limbo = same _ _ (c.in_ok-read_count-2.ensures.only v.job.limbo (omega (arith, v.job_in.plan.limbo_most)) (field_at _ _ 6 _ v.fields_are (omega (arith, c.in-len8.len_at_least)))) in
+    let plan : IsPlan c.in_ok-read-4.field-0 c.in_ok-read_count.field-0 c.in_ok-read_count-2.field-0 = rw (report, duty, limbo) v.job_in.plan in
     absurd (c.in_err-job.ensures plan)
 
 pub returns-clause-some : goal.returns-clause-some
@@ -34,15 +34,15 @@ returns-clause-some c =
     let quals : c.in_ok-read-2.field-0 < 2 ^ 64 = search rules in
     let len : length c.args.about.now ≡ 8 = omega (arith, c.in-len8.len_at_least, c.in-len8.len_below) in
     let d : Bor (List ℕ) = record { ref_ptr = (0, 0); now = [] } in
-    let spells : SpellsJob c.args.about.now d (job_of c.in_ok-read_vac.field-0 c.in_ok-read.field-0 c.in_ok-read-2.field-0 c.in_ok-read-3.field-0 c.in_ok-read-4.field-0 c.in_ok-read_minutes.field-0 c.in_ok-read_minutes-2.field-0 c.in_ok-read-5.field-0) = record {
+    let spells : SpellsJob c.args.about.now d (job_of c.in_ok-read_vac.field-0 c.in_ok-read.field-0 c.in_ok-read-2.field-0 c.in_ok-read-3.field-0 c.in_ok-read-4.field-0 c.in_ok-read_count.field-0 c.in_ok-read_count-2.field-0 c.in_ok-read-5.field-0) = record {
       valid = record { vac = c.in_ok-read_vac.ensures.some.0; quals = quals; place = subst IsCode (sym c.in_ok-read-3.ensures.1) c.in_ok-read-3.ensures.0; plan = c.in_ok-job.ensures.0; chain = c.in_ok-read-5.ensures.some.0 };
       vac_is = c.in_ok-read_vac.ensures.some.1;
       craft_is = c.in_ok-read.ensures.some;
       quals_is = c.in_ok-read-2.ensures.some;
       place_is = sym c.in_ok-read-3.ensures.1;
       report_is = c.in_ok-read-4.ensures.some.1;
-      duty_is = c.in_ok-read_minutes.ensures.some;
-      limbo_is = c.in_ok-read_minutes-2.ensures.some;
+      duty_is = c.in_ok-read_count.ensures.some;
+      limbo_is = c.in_ok-read_count-2.ensures.some;
       chain_is = c.in_ok-read-5.ensures.some.1;
     } in
     vacancy-spelled c.args.about.now d c.in_ok-job.job len (subst (SpellsJob c.args.about.now d) (sym c.in_ok-job.ensures.1) spells)
@@ -55,7 +55,7 @@ returns-clause-only c = λ command spells.
     let quals = same _ _ (c.in_ok-read-2.ensures.only v.job.quals v.job_in.quals (field_at _ _ 2 _ v.fields_are (omega (arith, c.in-len8.len_at_least)))) in
     let place = c.in_ok-read-3.ensures.1 ∙ field_at _ _ 3 _ v.fields_are (omega (arith, c.in-len8.len_at_least)) in
     let report = same _ _ (c.in_ok-read-4.ensures.only v.job.report v.job_in.plan.report_in (field_at _ _ 4 _ v.fields_are (omega (arith, c.in-len8.len_at_least)))) in
-    let duty = same _ _ (c.in_ok-read_minutes.ensures.only v.job.duty (omega (arith, v.job_in.plan.most)) (field_at _ _ 5 _ v.fields_are (omega (arith, c.in-len8.len_at_least)))) in
-    let limbo = same _ _ (c.in_ok-read_minutes-2.ensures.only v.job.limbo (omega (arith, v.job_in.plan.limbo_most)) (field_at _ _ 6 _ v.fields_are (omega (arith, c.in-len8.len_at_least)))) in
+    let duty = same _ _ (c.in_ok-read_count.ensures.only v.job.duty (omega (arith, v.job_in.plan.most)) (field_at _ _ 5 _ v.fields_are (omega (arith, c.in-len8.len_at_least)))) in
+    let limbo = same _ _ (c.in_ok-read_count-2.ensures.only v.job.limbo (omega (arith, v.job_in.plan.limbo_most)) (field_at _ _ 6 _ v.fields_are (omega (arith, c.in-len8.len_at_least)))) in
     let chain = same _ _ (c.in_ok-read-5.ensures.only v.job.chain v.job_in.chain (field_at _ _ 7 _ v.fields_are (omega (arith, c.in-len8.len_at_least)))) in
     ap (λ job. Some (cmd.Vacancy job)) (c.in_ok-job.ensures.1 ∙ job-of v.job _ _ _ _ _ _ _ _ vac craft quals place report duty limbo chain) ∙ ap Some (sym v.is)

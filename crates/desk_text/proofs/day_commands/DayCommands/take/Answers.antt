@@ -1,7 +1,7 @@
 use Rattle.csv.specs.Records.{fields_of}
-use Rattle.desk_text.proofs.DayLemmas.{Tells-more}
+use Rattle.desk_text.proofs.DayLemmas.{StatesOrWrong-more}
 use Rattle.desk_text.proofs.day_commands.DayCommands.take.Goals as goal
 
 pub returns-else-is_none : goal.returns-else-is_none
 returns-else-is_none c = λ records number tells.
-    Tells-more c.args.self.now.wrong c.args.self.now.commands.items records (fields_of c.args.row.now) c.if-is_none.ensures tells
+    StatesOrWrong-more c.args.self.now.wrong c.args.self.now.commands.items records (fields_of c.args.row.now) c.if-is_none.ensures tells

@@ -1,15 +1,13 @@
-//! The fields of a record.
+//! The fields in a journal's line.
 ghost use Rattle.std.specs.Prelude.{◌≡◌, map, take};
 ghost use Rattle.desk_base.specs.Parts.{parts_by};
 
 use arrayvec::ArrayVec;
 use desk_base::split_once;
-
-/// How many fields of a record are kept: more than any record has that states a command.
-pub const FIELD_LIMIT: usize = 12;
+use record_rows::FIELD_LIMIT;
 
 /// The fields of a text between its commas, the first 12 of more.
-pub fn first_fields(text: &[u8]) -> ArrayVec<&[u8], FIELD_LIMIT>
+pub fn fields_of_line(text: &[u8]) -> ArrayVec<&[u8], FIELD_LIMIT>
     ensures { map (λ field. field.now) result.items ≡ take FIELD_LIMIT (parts_by 44 text.now) }
 {
     let mut fields = ArrayVec::new();

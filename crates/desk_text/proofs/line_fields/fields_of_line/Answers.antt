@@ -4,7 +4,7 @@ use Rattle.std.proofs.lemmas.List.{length-map}
 use Rattle.std.proofs.lemmas.Bool.{eqb-true}
 use Rattle.desk_base.specs.Parts.{parts_after}
 use Rattle.desk_text.proofs.FirstFieldsLemmas.{take-front}
-use Rattle.desk_text.proofs.record_fields.first_fields.Goals as goal
+use Rattle.desk_text.proofs.line_fields.fields_of_line.Goals as goal
 
 pub returns-then-is_full : goal.returns-then-is_full
 returns-then-is_full c = take-front _ (parts_after 44 (option_copied c.loop-rest.rest)) _ c.loop-rest.invariant.parts
