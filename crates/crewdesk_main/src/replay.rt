@@ -3,8 +3,6 @@ ghost use Rattle.std.specs.Io.KnownBytes.{Appends, Keeps};
 ghost use Rattle.desk_io.specs.Faults.{Rose};
 ghost use Rattle.desk_io.specs.Giving.{AddsFront};
 ghost use Rattle.desk_io.specs.Input.{TookMore, TookFront};
-ghost use Rattle.desk_model.specs.History.{history_of};
-ghost use Rattle.desk_model.specs.Journal.{journal};
 ghost use Rattle.desk_text.specs.Line.{wrong_line};
 ghost use Rattle.desk_text.specs.DayFile.{HasTooMany, HasNoOpening};
 ghost use Rattle.crewdesk_main.specs.Words.{reads_day};
@@ -14,10 +12,9 @@ use crate::answers::answer_all;
 use crate::day_form::DayForm;
 use crate::journal::write_journal;
 use crate::limits::BYTE_LIMIT;
-use crate::write_text::write_text;
 use desk_base::NoMemory;
 use desk_io::{Sink, Source, Status, put_all, take_all};
-use desk_model::{DeskCore, Entry, Opening, one_history_is_legal};
+use desk_model::{DeskCore, one_history_is_legal};
 use desk_text::{DayFault, DayFile, read_day, write_tally, write_wrong};
 use plain_core::PlainCore;
 use std::alloc::Global;
@@ -27,7 +24,8 @@ const BUFFER_BYTES: usize = 65_536;
 
 /// Runs the desk. With the word `replay` alone it reads a day file from the source, replays its commands and writes the
 /// journal to the sink, and with `tally` alone the tally; where a field of the file is wrong it writes a line that says
-/// which, and a front of it where the sink has a fault. It reads all of its input, and takes all memory for the replay, before it writes anything.
+/// which, or a front of it where the sink has a fault. It reads all of its input, and takes all memory for the replay,
+/// before it writes anything.
 pub fn run<S: Source, K: Sink>(
     alloc: Global,
     words: &[String],
@@ -122,36 +120,14 @@ fn print_day<K: Sink>(alloc: Global, form: DayForm, day: &DayFile, sink: &mut K)
     let Ok(core) = answered_desk(alloc, day) else {
         return Status::NoMemory;
     };
-    match form {
-        DayForm::Replay => print_journal(alloc, &day.opening, core.entries(), sink),
-        DayForm::Tally => write_text(sink, write_tally(&day.opening, core.entries()).as_slice()),
-    }
-}
-
-// Writes the journal of a desk that was opened so and has these entries.
-fn print_journal<K: Sink>(
-    alloc: Global,
-    opening: &Opening,
-    entries: &[Entry],
-    sink: &mut K,
-) -> Status
-    ensures fine { result ≡ Status.Fine → Appends (K.held sink.old) (K.held sink.new)
-        (journal (history_of opening.now entries.now)) }
-    ensures write_fault { result ≡ Status.WriteFault
-        → AddsFront (K.held sink.old) (K.held sink.new)
-        (journal (history_of opening.now entries.now)) }
-    ensures silent { result ≡ Status.NoMemory → Keeps (K.held sink.old) (K.held sink.new) }
-    ensures write_cause { result ≡ Status.WriteFault
-        → Rose (K.faults sink.old) (K.faults sink.new) }
-    ensures write_count { result ≢ Status.WriteFault → K.faults sink.new ≡ K.faults sink.old }
-    ensures later { K.faults sink.old ≤ K.faults sink.new }
-    ensures only { (result ≡ Status.Fine)
-        ⊎ ((result ≡ Status.WriteFault) ⊎ (result ≡ Status.NoMemory)) }
-{
     let Ok(mut buffer) = Vec::with_capacity(alloc, BUFFER_BYTES) else {
         return Status::NoMemory;
     };
-    if write_journal(opening, entries, &mut buffer, sink) {
+    let whole = match form {
+        DayForm::Replay => write_journal(&day.opening, core.entries(), &mut buffer, sink),
+        DayForm::Tally => put_all(sink, write_tally(&day.opening, core.entries()).as_slice()),
+    };
+    if whole {
         Status::Fine
     } else {
         Status::WriteFault
