@@ -1,10 +1,10 @@
 -- Where no row holds.
-use Rattle.std.proofs.Common.{◌≡◌, Bool, true, false, if◌then◌else◌, List, [], ◌∷◌, Option, None, Some, refl}
+use Rattle.std.proofs.Common.{◌≡◌, ℕ, Bool, true, false, if◌then◌else◌, List, [], ◌∷◌, Option, None, Some, refl}
 use Rattle.std.specs.Option.{option_map}
 use Rattle.denial_rules.specs.declared.bar.Bar.{Bar}
 use Rattle.denial_rules.specs.declared.bar.Bar.TheVariants as bar
 use Rattle.denial_rules.specs.declared.facts.Facts.{Facts}
-use Rattle.denial_rules.specs.Table.{marked_off_row, busy_row, on_offer_row, place_row, craft_row, quals_row, answered_row, law_row, first_some, first_bar}
+use Rattle.denial_rules.specs.Table.{marked_off_row, busy_row, on_offer_row, place_row, craft_row, quals_row, answered_row, held_row, law_row, first_some, first_bar}
 
 -- where no row holds, neither the first nor those behind it do
 pub both-none : (row : Option Bar) (rest : List (Option Bar)) → first_some (row ∷ rest) ≡ None → (row ≡ None) × (first_some rest ≡ None)
@@ -18,8 +18,15 @@ busy-none facts none = go facts.in_tour none
     go true none = cc
     go false none = refl
 
--- and then no tour runs, and the law gives no bar
-pub first_bar-none : (facts : Facts) → first_bar facts ≡ None → (facts.in_tour ≡ false) × (facts.law ≡ None)
+held-none : (facts : Facts) → held_row facts ≡ None → facts.held ≡ None
+held-none facts none = go facts.held none
+  where
+    go : (held : Option ℕ) → option_map (λ until. bar.Held until) held ≡ None → held ≡ None
+    go None none = refl
+    go (Some until) none = cc
+
+-- and then no tour runs, no hold, and the law gives no bar
+pub first_bar-none : (facts : Facts) → first_bar facts ≡ None → (facts.in_tour ≡ false) × (facts.held ≡ None) × (facts.law ≡ None)
 first_bar-none facts none =
     let busy = (both-none (marked_off_row facts) _ none).1 in
     let offer = both-none (busy_row facts) _ busy in
@@ -27,4 +34,5 @@ first_bar-none facts none =
     let craft = (both-none (place_row facts) _ place).1 in
     let quals = (both-none (craft_row facts) _ craft).1 in
     let answered = (both-none (quals_row facts) _ quals).1 in
-    let law = (both-none (answered_row facts) _ answered).1 in (busy-none facts offer.0, (both-none (law_row facts) [] law).0)
+    let held = (both-none (answered_row facts) _ answered).1 in
+    let law = both-none (held_row facts) _ held in (busy-none facts offer.0, held-none facts law.0, (both-none (law_row facts) [] law.1).0)

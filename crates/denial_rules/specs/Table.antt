@@ -36,6 +36,10 @@ quals_row facts = option_map (λ number. bar.Lacks number) (lowest_missing facts
 abbrev pub answered_row : Facts → Option Bar
 answered_row facts = if facts.answered then Some bar.Answered else None
 
+-- B8: held after a decline
+abbrev pub held_row : Facts → Option Bar
+held_row facts = option_map (λ until. bar.Held until) facts.held
+
 -- 49 USC 21103: the first bar of the law
 abbrev pub law_row : Facts → Option Bar
 law_row facts = facts.law
@@ -50,6 +54,7 @@ rows facts =
     ∷ craft_row facts
     ∷ quals_row facts
     ∷ answered_row facts
+    ∷ held_row facts
     ∷ law_row facts
     ∷ []
 
@@ -73,4 +78,5 @@ pub record IsFree (facts : Facts) : Type 0 where
   pub of_the_craft : facts.craft_is ≡ facts.craft_asked
   pub qualified : HasAll facts.quals_has facts.quals_asked
   pub not_answered : ¬ IsTrue facts.answered
+  pub not_held : IsNone facts.held
   pub lawful : IsNone facts.law

@@ -23,6 +23,9 @@ pub enum Bar {
     Lacks(u8),
     /// The person declined, did not answer or dropped this vacancy.
     Answered,
+    /// The second edition of this desk's rules: the person has declined an offer from a board of the vacancy's chain, and is
+    /// held. Keeps the minute at which the hold ends.
+    Held(Minute),
     /// 49 USC 21103(a)(3): less than ten hours off duty before the report. Keeps the minute ten hours after the last worked
     /// one, also where the person has rested only later than that.
     Rest(Minute),
@@ -53,6 +56,7 @@ pub fn name(bar: &Bar) -> &'static str
         Bar::OtherCraft(_) => "B5",
         Bar::Lacks(_) => "B6",
         Bar::Answered => "B7",
+        Bar::Held(_) => "B8",
         Bar::Rest(_) => "21103(a)(3)",
         Bar::MoreRest(_) => "21103(c)(4)",
         Bar::Undisturbed(_) => "21103(e)",

@@ -1,5 +1,5 @@
 use crate::Bar;
-use desk_base::{Code, VacNo};
+use desk_base::{Code, Minute, VacNo};
 use qualifications::{Craft, Quals};
 
 /// What bears on whether a person may be offered a vacancy.
@@ -27,6 +27,8 @@ pub struct Facts {
     pub quals_asked: Quals,
     /// The person declined, did not answer or dropped the vacancy.
     pub answered: bool,
+    /// Until when a decline holds the person from the vacancy.
+    pub held: Option<Minute>,
     /// The first bar of 49 USC 21103.
     pub law: Option<Bar>,
 }

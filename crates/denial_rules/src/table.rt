@@ -25,6 +25,8 @@ pub fn first_bar(facts: &Facts) -> Option<Bar>
         Some(Bar::Lacks(number))
     } else if facts.answered {
         Some(Bar::Answered)
+    } else if let Some(until) = facts.held {
+        Some(Bar::Held(until))
     } else {
         facts.law
     }

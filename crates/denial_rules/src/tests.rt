@@ -11,6 +11,7 @@ fn the_first_row_that_holds(rt: HostRuntime) -> Result<(), Fail> {
     let assigned = VacNo::new(7).ok_or("no vacancy")?;
     let offered = VacNo::new(9_999_999).ok_or("no vacancy")?;
     let rested = Minute::new(28_492_440).ok_or("no minute")?;
+    let until = Minute::new(28_491_850).ok_or("no minute")?;
     let asked = Quals::read(b"2+3+5+63").ok_or("no qualifications")?;
     let none = Quals::read(b"-").ok_or("no qualifications")?;
     let some = Quals::read(b"0+2+5").ok_or("no qualifications")?;
@@ -28,6 +29,7 @@ fn the_first_row_that_holds(rt: HostRuntime) -> Result<(), Fail> {
         quals_has: none,
         quals_asked: asked,
         answered: true,
+        held: Some(until),
         law: Some(Bar::Rest(rested)),
     };
     assert_eq!(rt; first_bar(&facts), Some(Bar::MarkedOff));
@@ -49,6 +51,8 @@ fn the_first_row_that_holds(rt: HostRuntime) -> Result<(), Fail> {
     facts.quals_has = all;
     assert_eq!(rt; first_bar(&facts), Some(Bar::Answered));
     facts.answered = false;
+    assert_eq!(rt; first_bar(&facts), Some(Bar::Held(until)));
+    facts.held = None;
     assert_eq!(rt; first_bar(&facts), Some(Bar::Rest(rested)));
     facts.law = None;
     assert_eq!(rt; first_bar(&facts), None);
@@ -70,6 +74,7 @@ fn names_of_the_bars(rt: HostRuntime) -> Result<(), Fail> {
         (Bar::OtherCraft(Craft::B), "B5"),
         (Bar::Lacks(63), "B6"),
         (Bar::Answered, "B7"),
+        (Bar::Held(minute), "B8"),
         (Bar::Rest(minute), "21103(a)(3)"),
         (Bar::MoreRest(minute), "21103(c)(4)"),
         (Bar::Undisturbed(minute), "21103(e)"),

@@ -1,5 +1,5 @@
 -- What one entry more makes of each definition of a history.
-use Rattle.std.proofs.Common.{ℕ, false, None, is_some, ap, ◌∙◌}
+use Rattle.std.proofs.Common.{false, None, is_some, ap, ◌∙◌}
 use Rattle.desk_model.specs.Entry.{EntryValue}
 use Rattle.desk_model.specs.History.{History, steps, step_of, said, first_of}
 use Rattle.desk_model.specs.Register.{enrols, enrols_any, gives, sets_up, sets_up_any, makes, makes_any}
@@ -13,6 +13,7 @@ use Rattle.desk_model.proofs.SaidLemmas.{first_of-snoc, last_of-or, is_some-snoc
 use Rattle.desk_model.proofs.EventLemmas.{events-snoc}
 use Rattle.desk_model.proofs.MovedLemmas.{order-comes}
 use Rattle.desk_model.proofs.AssignedLemmas.{has-comes, assigned-comes}
+use Rattle.desk_model.proofs.HeldLemmas.{hold_end-comes}
 
 pub comes : (h : History) (e : EntryValue) → Comes h e
 comes h e = record {
@@ -32,4 +33,5 @@ comes h e = record {
   has = has-comes h e;
   assigned = assigned-comes h e;
   turned_down = λ v p. ap (λ all. is_some (first_of (turned_by v p) all)) (steps-snoc h e) ∙ is_some-snoc (turned_by v p) (steps h) (step_of h e);
+  hold_end = hold_end-comes h e;
 }

@@ -1,30 +1,22 @@
 -- A vacancy is unfilled where all of its chain are barred, and else offered to the first who isn't.
-use Rattle.std.proofs.Common.{◌≡◌, ℕ, ◌+◌, Bool, true, false, cond, nat_eq, nat_lt, Option, None, Some, is_none, is_some, List, [], ◌∷◌, ◌++◌, length, filter, refl, sym, ap, subst, ◌∙◌, arith}
-use Rattle.std.specs.Option.{option_or}
+use Rattle.std.proofs.Common.{◌≡◌, ℕ, ◌+◌, Bool, true, false, cond, nat_lt, Option, None, Some, is_none, is_some, List, [], ◌∷◌, ◌++◌, length, filter, refl, sym, ap, subst, ◌∙◌, arith}
 use Rattle.std.specs.List.{All, find}
 use Rattle.std.proofs.lemmas.Bool.{false≢true}
 use Rattle.std.proofs.lemmas.Bool.Decides.{nat_tests}
 use Rattle.std.proofs.lemmas.List.Folds.{find-append}
 use Rattle.std.proofs.lemmas.List.Elements.{All-nil, All-cons, All-tail, All-append}
 use Rattle.denial_rules.specs.declared.bar.Bar.{Bar}
-use Rattle.desk_model.specs.declared.command.Cmd.{Cmd}
-use Rattle.desk_model.specs.declared.command.Cmd.TheVariants as cmd
 use Rattle.desk_model.specs.declared.person.Person.{Person}
 use Rattle.desk_model.specs.declared.link.Link.{Link}
 use Rattle.desk_model.specs.declared.reply.Reply.TheVariants as reply
-use Rattle.desk_model.specs.declared.vac_state.VacState.TheVariants as state
-use Rattle.desk_model.specs.Entry.{EntryValue}
 use Rattle.desk_model.specs.Job.{JobValue}
-use Rattle.desk_model.specs.History.{History, said, first_of}
-use Rattle.desk_model.specs.Register.{makes, person_of}
+use Rattle.desk_model.specs.History.{History}
+use Rattle.desk_model.specs.Register.{person_of}
 use Rattle.desk_model.specs.Boards.{is_on, sent_to, keep_last, order, links, chain}
-use Rattle.desk_model.specs.States.{state_of}
 use Rattle.desk_model.specs.Bars.{bar_of, may_have, is_free, first_free}
 use Rattle.desk_model.specs.NextAnswer.{choice_answer, vacant_answer, unless_closed, known_answer, next_answer}
 use Rattle.desk_model.specs.Denials.{IsOpen, IsBarred, IsClear, AreBarred, IsUnfilled, IsFirstClear}
 use Rattle.desk_model.specs.Legal.{IsLegal}
-use Rattle.desk_model.proofs.OrderLemmas.{same_number}
-use Rattle.desk_model.proofs.SaidLemmas.{said-some}
 use Rattle.desk_model.proofs.EnrolledLemmas.{on-enrolled}
 
 -- ---- all of a chain are enrolled

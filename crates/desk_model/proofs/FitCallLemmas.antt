@@ -1,5 +1,5 @@
 -- What is answered of a vacancy in a legal history has its values in their ranges.
-use Rattle.std.proofs.Common.{◌≡◌, ℕ, ◌-◌, Bool, true, false, cond, nat_eq, Option, None, Some, IfSome, length, refl, arith}
+use Rattle.std.proofs.Common.{◌≡◌, ℕ, Bool, true, false, cond, nat_eq, Option, None, Some, IfSome, length, refl, arith}
 use Rattle.std.specs.List.{All}
 use Rattle.desk_base.specs.Number.{IsNumber}
 use Rattle.denial_rules.specs.declared.bar.Bar.{Bar}

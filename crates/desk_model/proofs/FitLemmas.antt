@@ -1,5 +1,5 @@
 -- In a legal history each entry has its values in their ranges.
-use Rattle.std.proofs.Common.{◌≡◌, ℕ, ◌-◌, Bool, true, false, cond, max, Option, None, Some, unwrap_or, refl, sym, subst, inl, inr, arith}
+use Rattle.std.proofs.Common.{◌≡◌, ℕ, Bool, true, false, cond, max, Option, None, Some, unwrap_or, refl, sym, subst, inl, inr, arith}
 use Rattle.std.specs.List.{All}
 use Rattle.std.proofs.lemmas.List.Elements.{All-nil, All-push}
 use Rattle.desk_base.specs.Minute.{IsInYears}

@@ -9,6 +9,7 @@ pub mod MovedLemmas
 pub mod AssignedLemmas
 pub mod BoundLemmas
 pub mod EventLemmas
+pub mod HeldLemmas
 pub mod ComesLemmas
 pub mod RefusalLemmas
 pub mod JudgedLemmas
@@ -36,3 +37,4 @@ pub mod FitLemmas
 pub mod VerdictLemmas
 pub mod AcceptedLemmas
 pub mod SettledLemmas
+pub mod EditionLemmas

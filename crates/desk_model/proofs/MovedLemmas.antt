@@ -11,7 +11,7 @@ use Rattle.desk_model.specs.Boards.{puts, is_on, sends, order}
 use Rattle.desk_model.specs.Comes.{takes_off, without, sent_last, order_by, order_after}
 use Rattle.desk_model.proofs.SaidLemmas.{said-some}
 use Rattle.desk_model.proofs.OrderLemmas.{same_number, nat_eq-same, order-silent, order-sent, order-moved, order-taken}
-use Rattle.desk_model.proofs.OnBoardLemmas.{any-order, said-puts-sends}
+use Rattle.desk_model.proofs.OnBoardLemmas.{any-order}
 
 -- ---- what a command says of a board
 

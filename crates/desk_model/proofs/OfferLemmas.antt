@@ -1,5 +1,5 @@
 -- Whom the desk offers a vacancy stands first of its chain without a bar, and no section of the law keeps them from it.
-use Rattle.std.proofs.Common.{◌≡◌, ℕ, false, not, None, List, refl, sym, ap, ◌∙◌}
+use Rattle.std.proofs.Common.{◌≡◌, ℕ, false, not, None, List, refl}
 use Rattle.duty_events.specs.declared.event.Event.{Event}
 use Rattle.duty_events.specs.declared.stage.Stage.{Stage}
 use Rattle.duty_events.specs.declared.stage.Stage.TheVariants as stage
@@ -13,7 +13,6 @@ use Rattle.desk_model.specs.Entry.{EntryValue}
 use Rattle.desk_model.specs.Job.{JobValue}
 use Rattle.desk_model.specs.History.{History, step_of}
 use Rattle.desk_model.specs.Duty.{events}
-use Rattle.desk_model.specs.Offers.{asks_for}
 use Rattle.desk_model.specs.Bars.{facts_of, bar_of}
 use Rattle.desk_model.specs.Denials.{IsRightOffer, OffersRightly}
 use Rattle.desk_model.specs.Legal.{IsNext, IsLegal}
@@ -31,7 +30,7 @@ clear-off h m job p person none = off_stage (stage_of (events h p)) (first_bar-n
 
 clear-lawful : (h : History) (m : ℕ) (job : JobValue) (p : ℕ) (person : Person) → bar_of h m job p person ≡ None
     → law_bar (events h p) person.home m job.report job.duty job.limbo ≡ None
-clear-lawful h m job p person none = let facts = first_bar-none (facts_of h m job p person) none in rw facts.0 at facts.1
+clear-lawful h m job p person none = let facts = first_bar-none (facts_of h m job p person) none in rw facts.0 at facts.2
 
 -- the law of whom no bar keeps: each of their ten hours before the report is off
 abbrev pub IsTenHours : Type 0

@@ -1,8 +1,7 @@
 -- What an entry says that offers a vacancy, denies it, or tells that another would be run around.
-use Rattle.std.proofs.Common.{◌≡◌, ◌≢◌, ◌≤◌, ◌⊎◌, inl, inr, ℕ, Bool, true, false, cond, ◌||◌, nat_eq, is_none, Option, None, Some, List, [], ◌∷◌, length, refl, sym, ap, subst, ◌∙◌}
+use Rattle.std.proofs.Common.{◌≡◌, ◌≤◌, inl, inr, ℕ, Bool, true, false, cond, ◌||◌, nat_eq, is_none, Option, None, Some, List, [], ◌∷◌, length, refl, sym, ap, subst, ◌∙◌}
 use Rattle.std.specs.List.{find, list_any}
-use Rattle.std.proofs.lemmas.Bool.{cases_Bool, false≢true}
-use Rattle.denial_rules.specs.declared.bar.Bar.{Bar}
+use Rattle.std.proofs.lemmas.Bool.{false≢true}
 use Rattle.desk_model.specs.declared.command.Cmd.{Cmd}
 use Rattle.desk_model.specs.declared.command.Cmd.TheVariants as cmd
 use Rattle.desk_model.specs.declared.link.Link.{Link}
@@ -18,14 +17,13 @@ use Rattle.desk_model.specs.Boards.{chain}
 use Rattle.desk_model.specs.Offers.{asks_for}
 use Rattle.desk_model.specs.States.{state_of}
 use Rattle.desk_model.specs.Bars.{bar_of, may_have, is_free, first_free}
-use Rattle.desk_model.specs.Denials.{Stands, Names}
 use Rattle.desk_model.specs.NextAnswer.{choice_answer}
-use Rattle.desk_model.specs.ExplainAnswer.{place_in, clear_answer}
+use Rattle.desk_model.specs.ExplainAnswer.{place_in}
 use Rattle.desk_model.specs.OfferAnswer.{named_answer}
 use Rattle.desk_model.specs.Legal.{answer_to, IsNext}
 use Rattle.desk_model.proofs.LegalLemmas.{reply-is}
-use Rattle.desk_model.proofs.OrderLemmas.{same_number, nat_eq-same}
-use Rattle.desk_model.proofs.JudgedLemmas.{is_call, is_judging, other-no, IsJudged, IsKnown, IsChosen, explained, called, chosen}
+use Rattle.desk_model.proofs.OrderLemmas.{same_number}
+use Rattle.desk_model.proofs.JudgedLemmas.{is_call, other-no, IsJudged, IsKnown, IsChosen, explained, called, chosen}
 
 -- ---- searches
 

@@ -17,7 +17,7 @@ use Rattle.desk_model.specs.declared.offer.Offer.{Offer}
 use Rattle.desk_model.specs.Entry.{EntryValue}
 use Rattle.desk_model.specs.Job.{JobValue}
 use Rattle.desk_model.specs.History.{History, with_entry, is_done, said}
-use Rattle.desk_model.specs.Register.{makes, person_of, vacancy_of, vacancies}
+use Rattle.desk_model.specs.Register.{person_of, vacancy_of, vacancies}
 use Rattle.desk_model.specs.Boards.{chain}
 use Rattle.desk_model.specs.Offers.{asks_for, offer_in, is_of, settles, ends, offer_said, open_offer, is_to, offered_to, on_offer}
 use Rattle.desk_model.specs.Assigned.{assigned, holder, begun, is_annulled}

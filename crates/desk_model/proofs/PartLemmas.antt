@@ -1,5 +1,5 @@
 -- A command leaves all parts of the desk but those that it may change.
-use Rattle.std.proofs.Common.{◌≡◌, ℕ, Bool, true, false, cond, ◌||◌, ◌&&◌, nat_eq, Option, None, Some, is_some, unwrap_or, List, [], ◌++◌, refl, sym, ap, ◌∙◌, append-nil}
+use Rattle.std.proofs.Common.{◌≡◌, ℕ, Bool, true, false, cond, ◌||◌, max, Option, None, Some, is_some, unwrap_or, List, [], ◌++◌, refl, sym, ap, ◌∙◌, append-nil}
 use Rattle.std.specs.Option.{option_or}
 use Rattle.std.specs.List.{cons_option}
 use Rattle.std.proofs.lemmas.Bool.{false≢true}
@@ -16,11 +16,13 @@ use Rattle.desk_model.specs.Marks.{marks, is_marked_off}
 use Rattle.desk_model.specs.Assigned.{assigned}
 use Rattle.desk_model.specs.States.{state_of}
 use Rattle.desk_model.specs.TurnedDown.{turns_down, has_turned_down}
+use Rattle.desk_model.specs.Held.{holds, hold_end}
 use Rattle.desk_model.specs.Comes.{takes_off, kept, left_by, order_by, assigned_by, state_by, offered_by, left_open}
 use Rattle.desk_model.specs.Parts.{Part, Stays, touches}
 use Rattle.desk_model.specs.Parts as part
 use Rattle.desk_model.specs.Legal.{IsNext, IsLegal}
 use Rattle.desk_model.proofs.SaidLemmas.{or_none}
+use Rattle.desk_model.proofs.HeldLemmas.{max-none}
 use Rattle.desk_model.proofs.ComesLemmas.{comes}
 use Rattle.desk_model.proofs.OnOfferLemmas.{on_offer-comes}
 use Rattle.desk_model.proofs.StateStepLemmas.{state-comes}
@@ -120,6 +122,10 @@ turns-none h (cmd.NoAnswer vac person) v p apart = absurd (false≢true (sym apa
 turns-none h (cmd.Drop person) v p apart = absurd (false≢true (sym apart))
 turns-none h other v p apart = refl
 
+holds-none : (h : History) (c : Cmd) (codes : List (List ℕ)) (p m : ℕ) → touches part.Holds c ≡ false → holds codes p h m c ≡ None
+holds-none h (cmd.Decline vac person) codes p m apart = absurd (false≢true (sym apart))
+holds-none h other codes p m apart = refl
+
 -- ---- each part
 
 pub stays : (h : History) (e : EntryValue) → IsLegal h → IsNext h e → (p : Part) → touches p e.stated.cmd ≡ false → Stays p h (with_entry h e)
@@ -181,3 +187,6 @@ stays h e legal is part.Assignments apart = λ p. (comes h e).assigned p ∙ go 
     go p false = refl
 stays h e legal is part.Refusals apart = λ v p.
     (comes h e).turned_down v p ∙ ap (λ o. has_turned_down h v p || is_some o) (unsaid (turns_down v p h) e (turns-none h e.stated.cmd v p apart)) ∙ or_false (has_turned_down h v p)
+stays h e legal is part.Holds apart = λ codes p.
+    (comes h e).hold_end codes p ∙ ap (λ o. max (hold_end h codes p) (unwrap_or o 0)) (unsaid (holds codes p h e.moment) e (holds-none h e.stated.cmd codes p e.moment apart))
+    ∙ max-none (hold_end h codes p)

@@ -1,5 +1,5 @@
 -- An entry that refuses or tells changes nothing.
-use Rattle.std.proofs.Common.{◌≡◌, ℕ, Bool, true, false, cond, ◌||◌, Option, None, Some, is_some, is_none, unwrap_or, fold, List, [], ◌∷◌, length, refl, sym, ap, ◌∙◌}
+use Rattle.std.proofs.Common.{◌≡◌, ℕ, Bool, true, false, cond, ◌||◌, Option, None, Some, is_some, is_none, unwrap_or, max, fold, List, [], ◌∷◌, length, refl, sym, ap, ◌∙◌}
 use Rattle.std.specs.Option.{option_map}
 use Rattle.std.specs.List.{find, filter_map}
 use Rattle.std.proofs.lemmas.Bool.{false≢true}
@@ -18,6 +18,7 @@ use Rattle.desk_model.specs.Marks.{marks, is_marked_off}
 use Rattle.desk_model.specs.Assigned.{assigns, is_assigned, accepted_by, only_if, assigned, holder, begins, begun_by, begun, annuls}
 use Rattle.desk_model.specs.States.{state_of}
 use Rattle.desk_model.specs.TurnedDown.{turns_down, turned_by, has_turned_down}
+use Rattle.desk_model.specs.Held.{holds, hold_end}
 use Rattle.desk_model.specs.Duty.{tells, told_at, told_by, events_in, keep, told, events, closes}
 use Rattle.desk_model.specs.Bars.{bar_of, may_have, is_free}
 use Rattle.desk_model.specs.Comes.{assigned_by}
@@ -27,6 +28,7 @@ use Rattle.desk_model.proofs.SaidLemmas.{first_of-silent, last_of-silent, filter
 use Rattle.desk_model.proofs.OrderLemmas.{order-silent}
 use Rattle.desk_model.proofs.AssignedLemmas.{only_if-agree, has-comes, assigned-comes}
 use Rattle.desk_model.proofs.OpensLemmas.{said-ends}
+use Rattle.desk_model.proofs.HeldLemmas.{hold_end-comes, max-none}
 
 no_change-done : (r : Reply) → changes r ≡ false → is_done r ≡ false
 no_change-done r same = go (is_done r) same
@@ -89,6 +91,7 @@ refused h e same = record {
   assigned = taken;
   begun = started;
   turned_down = turned;
+  hold_end = waits;
   state = states;
   bar = bars;
   first = λ m job.
@@ -131,6 +134,11 @@ refused h e same = record {
     turned : (v p : ℕ) → has_turned_down (with_entry h e) v p ≡ has_turned_down h v p
     turned v p = ap is_some (ap (first_of (turned_by v p)) (steps-snoc h e) ∙ first_of-silent (turned_by v p) (steps h) (step_of h e) (said-refused (turns_down v p h) e same))
 
+    waits : (codes : List (List ℕ)) (p : ℕ) → hold_end (with_entry h e) codes p ≡ hold_end h codes p
+    waits codes p =
+        hold_end-comes h e codes p ∙ ap (λ o. max (hold_end h codes p) (unwrap_or o 0)) (said-refused (holds codes p h e.moment) e same)
+        ∙ max-none (hold_end h codes p)
+
     held : (v : ℕ) → holder (with_entry h e) v ≡ holder h v
     held v =
         ap (only_if (λ p. is_assigned (with_entry h e) p v)) (last_of-silent (said (accepted_by v)) h.entries e (said-refused (accepted_by v) e same))
@@ -141,7 +149,7 @@ refused h e same = record {
         rw (first_of-silent (said (annuls v)) h.entries e (said-refused (annuls v) e same), started v, held v, offers v) refl
 
     bars : (m : ℕ) (job : JobValue) (p : ℕ) (person : Person) → bar_of (with_entry h e) m job p person ≡ bar_of h m job p person
-    bars m job p person = rw (on_offers p, told p) (rw (taken p) (rw (marked p) (rw (able p) (rw (turned job.vac p) refl))))
+    bars m job p person = rw (on_offers p, told p) (rw (taken p) (rw (marked p) (rw (able p) (rw (turned job.vac p) (rw (waits job.chain p) refl)))))
 
     free : (m : ℕ) (job : JobValue) (p : ℕ) → is_free (with_entry h e) m job p ≡ is_free h m job p
     free m job p = ap (may_have (with_entry h e) m job p) (first_of-silent (said (enrols p)) h.entries e (said-refused (enrols p) e same)) ∙ go (person_of h p)

@@ -1,11 +1,9 @@
 -- What each command of vacancies and offers changes where it is accepted.
-use Rattle.std.proofs.Common.{◌≡◌, ℕ, Bool, true, false, cond, ◌||◌, nat_eq, nat_le, Option, None, Some, is_some, is_none, unwrap_or, List, length, refl, sym, ap, ◌∙◌}
+use Rattle.std.proofs.Common.{◌≡◌, ℕ, ◌+◌, Bool, true, false, cond, ◌||◌, ◌&&◌, nat_eq, max, nat_le, Option, None, Some, is_some, is_none, unwrap_or, List, length, refl, sym, ap, ◌∙◌}
 use Rattle.std.specs.Option.{option_or}
 use Rattle.std.proofs.lemmas.Bool.{false≢true}
-use Rattle.desk_model.specs.declared.limits.TheConstants.{VACANCY_LIMIT}
-use Rattle.desk_model.specs.declared.command.Cmd.{Cmd}
+use Rattle.desk_model.specs.declared.limits.TheConstants.{VACANCY_LIMIT, HOLD}
 use Rattle.desk_model.specs.declared.command.Cmd.TheVariants as cmd
-use Rattle.desk_model.specs.declared.reply.Reply.{Reply}
 use Rattle.desk_model.specs.declared.reply.Reply.TheVariants as reply
 use Rattle.desk_model.specs.declared.offer.Offer.{Offer}
 use Rattle.desk_model.specs.Job.{JobValue}
@@ -17,7 +15,8 @@ use Rattle.desk_model.specs.Boards.{declined, order}
 use Rattle.desk_model.specs.Marks.{is_marked_off}
 use Rattle.desk_model.specs.Assigned.{assigned}
 use Rattle.desk_model.specs.TurnedDown.{has_turned_down}
-use Rattle.desk_model.specs.VacancyAnswer.{unknown_in, bad_in, chain_answer, vacancy_answer}
+use Rattle.desk_model.specs.Held.{is_from, hold_end}
+use Rattle.desk_model.specs.VacancyAnswer.{unknown_in, bad_in, is_first, chain_answer, vacancy_answer}
 use Rattle.desk_model.specs.Comes.{left_open, order_by}
 use Rattle.desk_model.specs.Accepted.{Answered, Accepted, to_bottom, Makes, Offers, Settles, Accepts, Declines, IsSilent, Withdraws, Annuls, Drops}
 use Rattle.desk_model.specs.Legal.{IsNext, IsLegal}
@@ -25,18 +24,20 @@ use Rattle.desk_model.proofs.OrderLemmas.{same_number, nat_eq-swap}
 use Rattle.desk_model.proofs.LegalLemmas.{done-answer}
 use Rattle.desk_model.proofs.ComesLemmas.{comes}
 use Rattle.desk_model.proofs.OpensLemmas.{said-ends}
+use Rattle.desk_model.proofs.HeldLemmas.{max-none}
 use Rattle.desk_model.proofs.OnOfferLemmas.{on_offer-comes}
 use Rattle.desk_model.proofs.StateStepLemmas.{state-comes}
 use Rattle.desk_model.proofs.AcceptedLemmas.{entry, put, any, new}
 
 vacancy-new : (h : History) (m v : ℕ) (job : JobValue) → is_done (vacancy_answer h m job) ≡ true → nat_eq job.vac v ≡ true → is_none (vacancy_of h v) ≡ true
-vacancy-new h m v job done same = ap (λ n. is_none (vacancy_of h n)) (sym (same_number job.vac v same)) ∙ go (vacancy_of h job.vac) done
+vacancy-new h m v job done same = ap (λ n. is_none (vacancy_of h n)) (sym (same_number job.vac v same)) ∙ go (job.relief && is_first h.opening.edition) (vacancy_of h job.vac) done
   where
-    go : (known : Option JobValue)
-        → is_done (cond (is_some known) reply.Used (cond (nat_le VACANCY_LIMIT (length (vacancies h))) reply.VacanciesFull (chain_answer h.opening m job (unknown_in h job.chain) (bad_in h job.chain)))) ≡ true
+    go : (elsewhere : Bool) (known : Option JobValue)
+        → is_done (cond elsewhere reply.OtherEdition (cond (is_some known) reply.Used (cond (nat_le VACANCY_LIMIT (length (vacancies h))) reply.VacanciesFull (chain_answer h.opening m job (unknown_in h job.chain) (bad_in h job.chain))))) ≡ true
         → is_none known ≡ true
-    go None done = refl
-    go (Some other) done = absurd (false≢true done)
+    go true known done = absurd (false≢true done)
+    go false None done = refl
+    go false (Some other) done = absurd (false≢true done)
 
 pub makes : (job : JobValue) → Accepted (cmd.Vacancy job) (Makes job)
 makes job h caller minute moment legal is =
@@ -88,12 +89,13 @@ accepts v p h caller minute moment legal is =
       stands = λ w. state-comes h e w legal is;
     }
 
-pub declines : (v p : ℕ) → Accepted (cmd.Decline v p) (Declines v p)
+pub declines : (v p : ℕ) → Answered (cmd.Decline v p) reply.Done (Declines v p)
 declines v p h caller minute moment legal is = record {
   settled = settled h e v legal is refl refl (λ q. refl);
   stands = λ w. state-comes h e w legal is;
   bottom = λ b. (comes h e).order b ∙ go b (declined b (open_offer h v) p);
   turned = λ w q. (comes h e).turned_down w q ∙ ap (λ o. has_turned_down h w q || o) (any _ q);
+  hold = λ codes q. (comes h e).hold_end codes q ∙ held (hold_end h codes q) (nat_eq p q && is_from codes (open_offer h v));
 }
   where
     e : EntryValue
@@ -102,6 +104,10 @@ declines v p h caller minute moment legal is = record {
     go : (b : List ℕ) (sent : Option ℕ) → order_by (entry caller minute (cmd.Decline v p) moment reply.Done) b sent (order h b) ≡ to_bottom sent (order h b)
     go b None = refl
     go b (Some q) = refl
+
+    held : (was : ℕ) (holds : Bool) → max was (unwrap_or (cond holds (Some (moment + HOLD)) None) 0) ≡ cond holds (max was (moment + HOLD)) was
+    held was true = refl
+    held was false = max-none was
 
 pub is-silent : (v p : ℕ) → Accepted (cmd.NoAnswer v p) (IsSilent v p)
 is-silent v p h caller minute moment legal is =

@@ -1,5 +1,5 @@
 -- What holds at each entry that says that a vacancy is unfilled, denies it, or tells who would be run around.
-use Rattle.std.proofs.Common.{◌≡◌, ◌≢◌, inl, inr, ℕ, Bool, true, false, cond, nat_eq, Option, None, Some, length, refl, sym, ap, ◌∙◌}
+use Rattle.std.proofs.Common.{◌≡◌, inl, inr, ℕ, Bool, true, false, cond, nat_eq, Option, None, Some, length, refl, sym, ap, ◌∙◌}
 use Rattle.std.proofs.lemmas.Bool.{false≢true}
 use Rattle.denial_rules.specs.declared.bar.Bar.{Bar}
 use Rattle.desk_model.specs.declared.command.Cmd.{Cmd}
@@ -19,7 +19,7 @@ use Rattle.desk_model.specs.Bars.{bar_of, first_free}
 use Rattle.desk_model.specs.ExplainAnswer.{clear_answer}
 use Rattle.desk_model.specs.NextAnswer.{choice_answer, next_answer}
 use Rattle.desk_model.specs.OfferAnswer.{named_answer}
-use Rattle.desk_model.specs.Denials.{Stands, Names, IsOpen, IsRightlyUnfilled, IsUnfilledRightly, IsRightDenial, DeniesRightly, IsRightRunAround, RunsAroundRightly}
+use Rattle.desk_model.specs.Denials.{Names, IsOpen, IsRightlyUnfilled, IsUnfilledRightly, IsRightDenial, DeniesRightly, IsRightRunAround, RunsAroundRightly}
 use Rattle.desk_model.specs.Legal.{answer_to, IsNext, IsLegal}
 use Rattle.desk_model.proofs.OrderLemmas.{nat_eq-same}
 use Rattle.desk_model.proofs.JudgedLemmas.{is_call, other-no, IsKnown, IsJudged, IsChosen, explained, called, chosen}

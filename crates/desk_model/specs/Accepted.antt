@@ -1,5 +1,5 @@
 -- What each command changes where it is accepted. What isn't named here stays, by the table of parts.
-use Rattle.std.specs.Prelude.{◌≡◌, ℕ, Bool, true, false, ◌&&◌, ◌||◌, nat_eq, Option, None, Some, if◌then◌else◌, List, [], ◌∷◌, ◌++◌}
+use Rattle.std.specs.Prelude.{◌≡◌, ℕ, ◌+◌, Bool, true, false, ◌&&◌, ◌||◌, nat_eq, max, Option, None, Some, if◌then◌else◌, List, [], ◌∷◌, ◌++◌}
 use Rattle.std.specs.Str.{bytes_eq}
 use Rattle.qualifications.specs.declared.craft.Craft.{Craft}
 use Rattle.duty_events.specs.declared.event.Event.{Event}
@@ -7,10 +7,9 @@ use Rattle.desk_model.specs.declared.command.Cmd.{Cmd}
 use Rattle.desk_model.specs.declared.reply.Reply.{Reply}
 use Rattle.desk_model.specs.declared.reply.Reply.TheVariants as reply
 use Rattle.desk_model.specs.declared.vac_state.VacState.TheVariants as state
-use Rattle.desk_model.specs.declared.offer.Offer.{Offer}
 use Rattle.desk_model.specs.Job.{JobValue}
 use Rattle.desk_model.specs.Statement.{stated_of}
-use Rattle.desk_model.specs.Entry.{EntryValue, entry_of}
+use Rattle.desk_model.specs.Entry.{entry_of}
 use Rattle.desk_model.specs.History.{History, with_entry}
 use Rattle.desk_model.specs.Register.{person_of, quals_of, board_of, vacancy_of, persons, boards, vacancies}
 use Rattle.desk_model.specs.Offers.{open_offer, on_offer}
@@ -20,8 +19,10 @@ use Rattle.desk_model.specs.Marks.{is_marked_off}
 use Rattle.desk_model.specs.Assigned.{reports, is_assigned, assigned}
 use Rattle.desk_model.specs.States.{state_of}
 use Rattle.desk_model.specs.TurnedDown.{has_turned_down}
+use Rattle.desk_model.specs.Held.{is_from, hold_end}
 use Rattle.desk_model.specs.Comes.{without, sent_last, left_open, given_up, started}
 use Rattle.desk_model.specs.Legal.{IsNext, IsLegal}
+use Rattle.desk_model.specs.declared.limits.TheConstants.{HOLD}
 
 -- a legal history goes on by a command with this reply, and then what follows holds of it before and after
 abbrev pub Answered : Cmd → Reply → (History → History → ℕ → Type 0) → Type 0
@@ -105,12 +106,14 @@ pub record Accepts (v p : ℕ) (h later : History) : Type 0 where
   pub has : (q : ℕ) → assigned later q ≡ (if nat_eq p q then Some v else assigned h q)
   pub stands : (w : ℕ) → state_of later w ≡ (if nat_eq v w then state.Taken p else state_of h w)
 
--- who declines goes to the bottom of the board that the offer was made from
-pub record Declines (v p : ℕ) (h later : History) : Type 0 where
+-- who declines goes to the bottom of the board that the offer was made from, and is held from the moment on
+pub record Declines (v p : ℕ) (h later : History) (moment : ℕ) : Type 0 where
   pub settled : Settles v h later
   pub stands : (w : ℕ) → state_of later w ≡ (if nat_eq v w then state.Vacant else state_of h w)
   pub bottom : (b : List ℕ) → order later b ≡ to_bottom (declined b (open_offer h v) p) (order h b)
   pub turned : (w q : ℕ) → has_turned_down later w q ≡ (has_turned_down h w q || (nat_eq v w && nat_eq p q))
+  pub hold : (codes : List (List ℕ)) (q : ℕ) → hold_end later codes q
+      ≡ (if nat_eq p q && is_from codes (open_offer h v) then max (hold_end h codes q) (moment + HOLD) else hold_end h codes q)
 
 -- who doesn't answer is marked off
 pub record IsSilent (v p : ℕ) (h later : History) : Type 0 where

@@ -12,7 +12,7 @@ use Rattle.denial_rules.specs.Bar.{name_of}
 abbrev pub late_text : ℕ → List ℕ
 late_text minute = if nat_lt minute YEARS_END then minute_text minute else decimal minute
 
--- what a bar keeps, behind a space: the vacancy, the place, the craft or the qualification's number; of the law's bars
+-- what a bar keeps, behind a space: the vacancy, the place, the craft or the qualification's number; the minute at which a hold ends; of the law's bars
 -- the minute at which a rest ends, the days in a row and the minutes off duty that they need, or the month and its total
 abbrev pub kept_text : Bar → List ℕ
 kept_text bar.MarkedOff = []
@@ -23,6 +23,7 @@ kept_text (bar.Elsewhere place) = 32 ∷ place
 kept_text (bar.OtherCraft craft) = 32 ∷ craft_text craft
 kept_text (bar.Lacks number) = 32 ∷ decimal number
 kept_text bar.Answered = []
+kept_text (bar.Held until) = 32 ∷ late_text until
 kept_text (bar.Rest ends) = 32 ∷ late_text ends
 kept_text (bar.MoreRest ends) = 32 ∷ late_text ends
 kept_text (bar.Undisturbed ends) = 32 ∷ late_text ends

@@ -16,6 +16,7 @@ use Rattle.desk_model.specs.Offers.{on_offer}
 use Rattle.desk_model.specs.Marks.{is_marked_off}
 use Rattle.desk_model.specs.Assigned.{assigned}
 use Rattle.desk_model.specs.TurnedDown.{has_turned_down}
+use Rattle.desk_model.specs.Held.{held}
 
 -- the first section of the law that keeps an enrolled person from the job, for a call at a moment. It is asked only of
 -- who is in no tour: who is in one is barred by that before
@@ -36,6 +37,7 @@ facts_of h m job p person = record {
   quals_has = quals_of h p;
   quals_asked = job.quals;
   answered = has_turned_down h job.vac p;
+  held = held h m job.chain p;
   law = law_of h m job p person;
 }
 

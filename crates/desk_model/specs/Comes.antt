@@ -1,5 +1,5 @@
 -- What one entry more makes of the desk.
-use Rattle.std.specs.Prelude.{◌≡◌, ℕ, ◌+◌, Bool, true, false, ◌&&◌, ◌||◌, not, nat_eq, Option, None, Some, is_some, unwrap_or, if◌then◌else◌, List, [], ◌∷◌, ◌++◌, filter}
+use Rattle.std.specs.Prelude.{◌≡◌, ℕ, Bool, false, ◌&&◌, ◌||◌, not, nat_eq, max, Option, None, Some, is_some, unwrap_or, if◌then◌else◌, List, [], ◌∷◌, ◌++◌, filter}
 use Rattle.std.specs.Option.{option_or}
 use Rattle.std.specs.Str.{bytes_eq}
 use Rattle.std.specs.List.{cons_option, list_any}
@@ -10,15 +10,16 @@ use Rattle.desk_model.specs.declared.vac_state.VacState.{VacState}
 use Rattle.desk_model.specs.declared.vac_state.VacState.TheVariants as state
 use Rattle.desk_model.specs.declared.offer.Offer.{Offer}
 use Rattle.desk_model.specs.Entry.{EntryValue}
-use Rattle.desk_model.specs.History.{History, with_entry, step_of, is_done, said}
+use Rattle.desk_model.specs.History.{History, with_entry, is_done, said}
 use Rattle.desk_model.specs.Register.{enrols, enrols_any, gives, sets_up, sets_up_any, makes, makes_any, person_of, quals_of, board_of, vacancy_of, persons, boards, vacancies}
 use Rattle.desk_model.specs.Offers.{asks_for, is_of, offer_in, offered_to, settles, offer_said, open_offer}
 use Rattle.desk_model.specs.Boards.{puts, is_on, sends, order}
 use Rattle.desk_model.specs.Duty.{tells, may_come, events, closes, is_closed}
 use Rattle.desk_model.specs.Marks.{marks, is_marked_off}
 use Rattle.desk_model.specs.Assigned.{reports, assigns, is_assigned, assigned}
-use Rattle.desk_model.specs.States.{open_state, state_of}
+use Rattle.desk_model.specs.States.{open_state}
 use Rattle.desk_model.specs.TurnedDown.{turns_down, has_turned_down}
+use Rattle.desk_model.specs.Held.{holds, hold_end}
 
 -- ---- boards
 
@@ -126,3 +127,4 @@ pub record Comes (h : History) (e : EntryValue) : Type 0 where
   pub has : (p v : ℕ) → is_assigned (with_entry h e) p v ≡ unwrap_or (said (assigns p v) e) (is_assigned h p v)
   pub assigned : (p : ℕ) → assigned (with_entry h e) p ≡ assigned_after p e (assigned h p)
   pub turned_down : (v p : ℕ) → has_turned_down (with_entry h e) v p ≡ (has_turned_down h v p || is_some (said (turns_down v p h) e))
+  pub hold_end : (codes : List (List ℕ)) (p : ℕ) → hold_end (with_entry h e) codes p ≡ max (hold_end h codes p) (unwrap_or (said (holds codes p h e.moment) e) 0)

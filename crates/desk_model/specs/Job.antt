@@ -1,10 +1,11 @@
 -- Jobs that a crew is called for.
-use Rattle.std.specs.Prelude.{ℕ, ◌≤◌, List}
+use Rattle.std.specs.Prelude.{ℕ, ◌≤◌, Bool, List}
 use Rattle.desk_base.specs.Minute.{IsInYears}
 use Rattle.qualifications.specs.declared.craft.Craft.{Craft}
 
 -- the vacancy's number; the craft and the qualifications that it asks for; the place and the minute of the report;
--- the planned minutes on duty and, after these, in limbo; the boards that it is filled from, in order
+-- the planned minutes on duty and, after these, in limbo; the boards that it is filled from, in order; and whether it is for
+-- a wreck or relief crew in an actual emergency, 49 USC 21103(d)
 pub record JobValue : Type 0 where
   pub vac : ℕ
   pub craft : Craft
@@ -14,9 +15,10 @@ pub record JobValue : Type 0 where
   pub duty : ℕ
   pub limbo : ℕ
   pub chain : List (List ℕ)
+  pub relief : Bool
 
-abbrev pub job_of : ℕ → Craft → ℕ → List ℕ → ℕ → ℕ → ℕ → List (List ℕ) → JobValue
-job_of vac craft quals place report duty limbo chain = record {
+abbrev pub job_of : ℕ → Craft → ℕ → List ℕ → ℕ → ℕ → ℕ → List (List ℕ) → Bool → JobValue
+job_of vac craft quals place report duty limbo chain relief = record {
   vac = vac;
   craft = craft;
   quals = quals;
@@ -25,6 +27,7 @@ job_of vac craft quals place report duty limbo chain = record {
   duty = duty;
   limbo = limbo;
   chain = chain;
+  relief = relief;
 }
 
 -- the report lies in the years 2000 to 2099, the duty is 1 to 9,999 minutes and the limbo at most 999

@@ -16,6 +16,7 @@ pub mod Marks
 pub mod Assigned
 pub mod States
 pub mod TurnedDown
+pub mod Held
 pub mod Bars
 pub mod EnrolAnswer
 pub mod BoardAnswer
@@ -23,6 +24,7 @@ pub mod ListAnswer
 pub mod UnlistAnswer
 pub mod MarkAnswer
 pub mod VacancyAnswer
+pub mod FirstEdition
 pub mod Refusal
 pub mod NextAnswer
 pub mod Denials

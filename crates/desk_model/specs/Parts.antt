@@ -11,10 +11,11 @@ use Rattle.desk_model.specs.Marks.{is_marked_off}
 use Rattle.desk_model.specs.Assigned.{assigned}
 use Rattle.desk_model.specs.States.{state_of}
 use Rattle.desk_model.specs.TurnedDown.{has_turned_down}
+use Rattle.desk_model.specs.Held.{hold_end}
 
 -- who is enrolled; what they can do; whether they are marked off; what they did; whether their past is closed; which boards there are;
--- who is on them; in which order; which vacancies were made; how these stand; which are on offer; which are assigned; and who has
--- turned which down
+-- who is on them; in which order; which vacancies were made; how these stand; which are on offer; which are assigned; who has
+-- turned which down; and until when declines hold whom
 pub data Part : Type 0 where
   Persons : Part
   Quals : Part
@@ -29,6 +30,7 @@ pub data Part : Type 0 where
   Offers : Part
   Assignments : Part
   Refusals : Part
+  Holds : Part
 
 -- the part is as it was
 abbrev pub Stays : Part → History → History → Type 0
@@ -45,6 +47,7 @@ Stays States h later = (v : ℕ) → state_of later v ≡ state_of h v
 Stays Offers h later = ((v : ℕ) → open_offer later v ≡ open_offer h v) × ((p : ℕ) → on_offer later p ≡ on_offer h p)
 Stays Assignments h later = (p : ℕ) → assigned later p ≡ assigned h p
 Stays Refusals h later = (v p : ℕ) → has_turned_down later v p ≡ has_turned_down h v p
+Stays Holds h later = (codes : List (List ℕ)) (p : ℕ) → hold_end later codes p ≡ hold_end h codes p
 
 -- the command may change the part
 abbrev pub touches : Part → Cmd → Bool
@@ -92,4 +95,5 @@ touches Assignments (cmd.Happened person event) = true
 touches Refusals (cmd.Decline vac person) = true
 touches Refusals (cmd.NoAnswer vac person) = true
 touches Refusals (cmd.Drop person) = true
+touches Holds (cmd.Decline vac person) = true
 touches which other = false

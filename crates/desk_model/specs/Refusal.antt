@@ -13,6 +13,7 @@ use Rattle.desk_model.specs.Marks.{is_marked_off}
 use Rattle.desk_model.specs.Assigned.{is_assigned, assigned, begun}
 use Rattle.desk_model.specs.States.{state_of}
 use Rattle.desk_model.specs.TurnedDown.{has_turned_down}
+use Rattle.desk_model.specs.Held.{hold_end}
 use Rattle.desk_model.specs.Bars.{bar_of, first_free}
 
 -- a reply that changes something: a command was done, or an offer was made
@@ -42,6 +43,7 @@ pub record IsSameDesk (h later : History) : Type 0 where
   pub assigned : (p : ℕ) → assigned later p ≡ assigned h p
   pub begun : (v : ℕ) → begun later v ≡ begun h v
   pub turned_down : (v p : ℕ) → has_turned_down later v p ≡ has_turned_down h v p
+  pub hold_end : (codes : List (List ℕ)) (p : ℕ) → hold_end later codes p ≡ hold_end h codes p
   pub state : (v : ℕ) → state_of later v ≡ state_of h v
   pub bar : (m : ℕ) (job : JobValue) (p : ℕ) (person : Person) → bar_of later m job p person ≡ bar_of h m job p person
   pub first : (m : ℕ) (job : JobValue) → first_free later m job ≡ first_free h m job

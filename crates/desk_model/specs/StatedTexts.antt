@@ -19,6 +19,11 @@ abbrev pub sort_text : Bool → List ℕ
 sort_text true = codes "extra"
 sort_text false = codes "pool"
 
+-- the word of a job: a relief one has its own
+abbrev pub job_word : Bool → List ℕ
+job_word true = codes "relief"
+job_word false = codes "vacancy"
+
 -- the fields of a job: its vacancy, craft, qualifications, place, report, duty, limbo and chain
 abbrev pub job_fields : JobValue → List (List ℕ)
 job_fields job =
@@ -60,7 +65,7 @@ command_fields (cmd.MarkOn person) = codes "on" ∷ decimal person ∷ []
 command_fields (cmd.Qualify person quals) = codes "qualify" ∷ decimal person ∷ quals_text quals ∷ []
 command_fields (cmd.Past person event) = codes "past" ∷ decimal person ∷ event_fields event
 command_fields (cmd.Happened person event) = codes "event" ∷ decimal person ∷ event_fields event
-command_fields (cmd.Vacancy job) = codes "vacancy" ∷ job_fields job
+command_fields (cmd.Vacancy job) = job_word job.relief ∷ job_fields job
 command_fields (cmd.Next vac) = codes "next" ∷ decimal vac ∷ []
 command_fields (cmd.Offer vac person) = codes "offer" ∷ decimal vac ∷ decimal person ∷ []
 command_fields (cmd.Accept vac person) = codes "accept" ∷ decimal vac ∷ decimal person ∷ []

@@ -1,10 +1,12 @@
 -- `vacancy`: the answers in order.
-use Rattle.std.specs.Prelude.{ℕ, ◌+◌, Bool, false, not, nat_lt, nat_le, Option, None, Some, is_none, is_some, if◌then◌else◌, List, length, drop}
+use Rattle.std.specs.Prelude.{ℕ, ◌+◌, Bool, true, false, not, ◌&&◌, nat_lt, nat_le, Option, None, Some, is_none, is_some, if◌then◌else◌, List, length, drop}
 use Rattle.std.specs.List.{find}
 use Rattle.desk_base.specs.Window.{end_of}
-use Rattle.desk_model.specs.declared.limits.TheConstants.{PLAN_LIMIT, VACANCY_LIMIT}
+use Rattle.desk_model.specs.declared.limits.TheConstants.{PLAN_LIMIT, RELIEF_LIMIT, VACANCY_LIMIT}
 use Rattle.desk_model.specs.declared.reply.Reply.{Reply}
 use Rattle.desk_model.specs.declared.reply.Reply.TheVariants as reply
+use Rattle.desk_model.specs.declared.edition.Edition.{Edition}
+use Rattle.desk_model.specs.declared.edition.Edition.TheVariants as edition
 use Rattle.desk_model.specs.declared.board_setup.BoardSetup.{BoardSetup}
 use Rattle.desk_model.specs.Opening.{OpeningValue}
 use Rattle.desk_model.specs.History.{History}
@@ -24,11 +26,12 @@ unknown_in h codes = find (λ b. is_none (board_of h b)) codes
 abbrev pub bad_in : History → List (List ℕ) → Option (List ℕ)
 bad_in h codes = find (λ b. not (is_extra (board_of h b))) (drop 1 codes)
 
--- the duty is above 720 minutes (49 USC 21103(a)(2)); the report is before the moment; the plan ends after the
--- window; else it is done
+-- an ordinary job's duty is above 720 minutes (49 USC 21103(a)(2)), or a relief one's above 960 (21103(d)); the report is before the
+-- moment; the plan ends after the window; else it is done
 abbrev pub plan_answer : OpeningValue → ℕ → JobValue → Reply
 plan_answer o m job =
-    if nat_lt PLAN_LIMIT job.duty then reply.PlanTooLong
+    if not job.relief && nat_lt PLAN_LIMIT job.duty then reply.PlanTooLong
+    else if job.relief && nat_lt RELIEF_LIMIT job.duty then reply.ReliefTooLong
     else if nat_lt job.report m then reply.ReportPast job.report
     else if nat_lt (end_of o.window) (job.report + job.duty + job.limbo) then reply.OutsideWindow
     else reply.Done
@@ -39,9 +42,15 @@ chain_answer o m job (Some b) bad = reply.UnknownBoard b
 chain_answer o m job None (Some b) = reply.BadChain b
 chain_answer o m job None None = plan_answer o m job
 
--- the vacancy was made before; 20,000 were made; else what its chain gives
+-- the rules are of the first edition
+abbrev pub is_first : Edition → Bool
+is_first edition.One = true
+is_first edition.Two = false
+
+-- it is a relief vacancy, which the first edition hasn't; the vacancy was made before; 20,000 were made; else what its chain gives
 abbrev pub vacancy_answer : History → ℕ → JobValue → Reply
 vacancy_answer h m job =
-    if is_some (vacancy_of h job.vac) then reply.Used
+    if job.relief && is_first h.opening.edition then reply.OtherEdition
+    else if is_some (vacancy_of h job.vac) then reply.Used
     else if nat_le VACANCY_LIMIT (length (vacancies h)) then reply.VacanciesFull
     else chain_answer h.opening m job (unknown_in h job.chain) (bad_in h job.chain)

@@ -19,6 +19,7 @@ pub struct Job {
     duty: u16,
     limbo: u16,
     chain: Chain,
+    relief: bool,
 }
 
 impl Model for Job {
@@ -26,7 +27,7 @@ impl Model for Job {
 
     ghost Value = { JobValue };
 
-    ghost view = { λ j. job_of j.vac j.craft j.quals j.place j.report j.duty j.limbo j.chain };
+    ghost view = { λ j. job_of j.vac j.craft j.quals j.place j.report j.duty j.limbo j.chain j.relief };
 
     ghost invariant = { λ j. IsPlan j.report j.duty j.limbo };
 
@@ -39,6 +40,7 @@ impl Model for Job {
       duty = v.duty;
       limbo = v.limbo;
       chain = v.chain;
+      relief = v.relief;
     } };
 }
 
@@ -54,9 +56,10 @@ impl Job {
         duty: u16,
         limbo: u16,
         chain: Chain,
+        relief: bool,
     ) -> Option<Job>
         ensures { SomeIff result (IsPlan report duty limbo)
-            (job_of vac craft quals place report duty limbo chain) }
+            (job_of vac craft quals place report duty limbo chain relief) }
     {
         if report.is_in_years() && duty >= 1 && duty <= 9_999 && limbo <= 999 {
             Some(Job {
@@ -68,6 +71,7 @@ impl Job {
                 duty,
                 limbo,
                 chain,
+                relief,
             })
         } else {
             None
@@ -132,5 +136,12 @@ impl Job {
         ensures { result ≡ self.now.chain }
     {
         self.chain
+    }
+
+    /// Whether it is for a wreck or relief crew in an actual emergency, 49 USC 21103(d).
+    pub fn is_relief(&self) -> bool
+        ensures { result ≡ self.now.relief }
+    {
+        self.relief
     }
 }

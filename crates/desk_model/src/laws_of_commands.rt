@@ -31,7 +31,7 @@ pub fn what_vacancies_and_offers_change()
     ensures next { (v p k : ℕ) (b : List ℕ) → Answered (cmd.Next v) (reply.Offered p b k) (Offers v p b) }
     ensures offer { (v q p k : ℕ) (b : List ℕ) → Answered (cmd.Offer v q) (reply.Offered p b k) (Offers v p b) }
     ensures accept { (v p : ℕ) → Accepted (cmd.Accept v p) (Accepts v p) }
-    ensures decline { (v p : ℕ) → Accepted (cmd.Decline v p) (Declines v p) }
+    ensures decline { (v p : ℕ) → Answered (cmd.Decline v p) reply.Done (Declines v p) }
     ensures no_answer { (v p : ℕ) → Accepted (cmd.NoAnswer v p) (IsSilent v p) }
     ensures withdraw { (v p : ℕ) → Accepted (cmd.Withdraw v p) (Withdraws v) }
     ensures annul { (v : ℕ) → Accepted (cmd.Annul v) (Annuls v) }

@@ -6,10 +6,12 @@ mod booked;
 mod chain;
 mod command;
 mod desk_core;
+mod edition;
 mod entry;
 mod job;
 mod laws;
 mod laws_of_commands;
+mod laws_of_editions;
 mod laws_of_entries;
 mod legal;
 mod limits;
@@ -27,6 +29,7 @@ pub use booked::Booked;
 pub use chain::{Chain, ChainText};
 pub use command::Cmd;
 pub use desk_core::DeskCore;
+pub use edition::Edition;
 pub use entry::Entry;
 pub use job::Job;
 pub use laws::{
@@ -35,14 +38,15 @@ pub use laws::{
     one_offer_to_a_person, order_is_by_rank, unfilled_where_all_are_barred,
 };
 pub use laws_of_commands::{what_persons_and_boards_change, what_vacancies_and_offers_change};
+pub use laws_of_editions::{a_decline_holds_for_eight_hours, the_first_edition_stays_as_it_was};
 pub use laws_of_entries::{
     a_vacancy_is_in_one_state, moments_never_fall, what_a_command_leaves,
     what_an_entry_makes_of_the_desk,
 };
 pub use legal::{a_legal_history_fits, boards_and_chains_are_bounded, one_history_is_legal};
 pub use limits::{
-    BOARD_LIMIT, CHAIN_LIMIT, LAST_CALLER, LIST_LIMIT, MEMBER_LIMIT, PERSON_LIMIT, PLAN_LIMIT,
-    VACANCY_LIMIT, the_numbers_of_the_desk, the_numbers_of_the_law,
+    BOARD_LIMIT, CHAIN_LIMIT, HOLD, LAST_CALLER, LIST_LIMIT, MEMBER_LIMIT, PERSON_LIMIT,
+    PLAN_LIMIT, RELIEF_LIMIT, VACANCY_LIMIT, the_numbers_of_the_desk, the_numbers_of_the_law,
 };
 pub use link::Link;
 pub use moment::last_moment;

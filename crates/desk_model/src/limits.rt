@@ -28,17 +28,24 @@ pub const CHAIN_LIMIT: usize = 4;
 /// 49 USC 21103(a)(2): how many minutes on duty a vacancy may plan, twelve hours.
 pub const PLAN_LIMIT: u16 = 720;
 
+/// 49 USC 21103(d): how many minutes on duty a relief vacancy may plan, sixteen hours.
+pub const RELIEF_LIMIT: u16 = 960;
+
+/// For how many minutes who declines an offer is held, eight hours: the second edition's own rule.
+pub const HOLD: u64 = 480;
+
 /// The highest number of a caller; 0 is the day file's.
 pub const LAST_CALLER: u8 = 63;
 
 /// What the names of the law's numbers stand for, all in minutes but the days: ten hours of rest, (a)(3) of 49 USC 21103;
-/// twelve hours of duty, (a)(2); 276 hours of a month, (a)(1), and 30 of limbo, (c)(1); six days in a row, and the 48 and
+/// twelve hours of duty, (a)(2), and sixteen of a relief crew, (d); 276 hours of a month, (a)(1), and 30 of limbo, (c)(1); six days in a row, and the 48 and
 /// 72 hours off behind six and seven of them, (a)(4)(A); and an interim's four hours and ten, (b)(5) to (7). It does
 /// nothing: its clauses are the law.
 pub fn the_numbers_of_the_law()
     ensures rest { REST ≡ 600 }
     ensures duty { DUTY_LIMIT ≡ 720 }
     ensures plan { PLAN_LIMIT ≡ 720 }
+    ensures relief { RELIEF_LIMIT ≡ 960 }
     ensures month { MONTH_LIMIT ≡ 16_560 }
     ensures limbo { LIMBO_LIMIT ≡ 1_800 }
     ensures days { SIX_DAYS ≡ 6 }
@@ -49,7 +56,7 @@ pub fn the_numbers_of_the_law()
 {}
 
 /// What the names of the desk's numbers stand for: the minutes of the years 2000 to 2099 and their months, counted from 1970;
-/// the months of a window; and how much a desk takes. It does nothing: its clauses are the law.
+/// the months of a window; how much a desk takes; and how long a decline holds. It does nothing: its clauses are the law.
 pub fn the_numbers_of_the_desk()
     ensures years_begin { YEARS_BEGIN ≡ 15_778_080 }
     ensures years_end { YEARS_END ≡ 68_374_080 }
@@ -62,5 +69,6 @@ pub fn the_numbers_of_the_desk()
     ensures members { MEMBER_LIMIT ≡ 500 }
     ensures vacancies { VACANCY_LIMIT ≡ 20_000 }
     ensures chain { CHAIN_LIMIT ≡ 4 }
+    ensures hold { HOLD ≡ 480 }
     ensures callers { LAST_CALLER ≡ 63 }
 {}

@@ -75,6 +75,10 @@ pub enum Reply {
     BadChain(Code),
     /// 49 USC 21103(a)(2): the job has more than twelve hours of duty.
     PlanTooLong,
+    /// 49 USC 21103(d): the relief job has more than sixteen hours of duty.
+    ReliefTooLong,
+    /// The first edition of the rules has no relief vacancies.
+    OtherEdition,
     /// The report, at this minute, is past.
     ReportPast(Minute),
     /// There is no such vacancy.

@@ -1,5 +1,5 @@
 //! Openings, chains, jobs, what is stated and entries are made within their ranges and tell their parts.
-use crate::{Chain, Cmd, Entry, Job, Opening, Reply, Stated};
+use crate::{Chain, Cmd, Edition, Entry, Job, Opening, Reply, Stated};
 use desk_base::{Code, Minute, Month, VacNo, Window};
 use qualifications::{Craft, Quals};
 use std::test::Fail;
@@ -19,12 +19,12 @@ fn openings_keep_their_ranges(rt: HostRuntime) -> Result<(), Fail> {
     ];
     for (text, answer, is_opening) in cases {
         let start = Minute::read(text).ok_or("no minute")?;
-        let opening = Opening::new(start, window, answer);
+        let opening = Opening::new(start, window, answer, Edition::Two);
         assert_eq!(rt; opening.is_some(), is_opening);
         if let Some(opening) = opening {
             assert_eq!(rt;
-                (opening.start(), opening.window(), opening.answer()),
-                (start, window, answer)
+                (opening.start(), opening.window(), opening.answer(), opening.edition()),
+                (start, window, answer, Edition::Two)
             );
         }
     }
@@ -57,6 +57,7 @@ fn jobs_keep_their_ranges(rt: HostRuntime) -> Result<(), Fail> {
                 (report, duty, limbo)
             );
             assert_eq!(rt; job.vac().number(), 12);
+            assert_eq!(rt; job.is_relief(), true);
             assert_eq!(rt; job.craft(), Craft::E);
             assert_eq!(rt; job.quals().write().as_slice(), b"3".as_slice());
             assert_eq!(rt; job.place().text(), b"HOM".as_slice());
@@ -70,7 +71,7 @@ fn job_of(report: Minute, duty: u16, limbo: u16) -> Result<Option<Job>, Fail> {
     let quals = Quals::read(b"3").ok_or("no set")?;
     let place = Code::read(b"HOM").ok_or("no code")?;
     let chain = Chain::read(b"P1+X1").ok_or("no chain")?;
-    Ok(Job::new(vac, Craft::E, quals, place, report, duty, limbo, chain))
+    Ok(Job::new(vac, Craft::E, quals, place, report, duty, limbo, chain, true))
 }
 
 #[test]

@@ -1,0 +1,179 @@
+-- The end of the latest hold: what one entry more makes of it, and that it is the end of one.
+use Rattle.std.proofs.Common.{◌≡◌, ◌≤◌, ◌<◌, ◌⊎◌, inl, inr, ℕ, suc, ◌+◌, ◌^◌, Bool, true, false, cond, ◌&&◌, nat_eq, nat_lt, max, Option, None, Some, unwrap_or, List, [], ◌∷◌, ◌++◌, get_or, refl, sym, ap, subst, ◌∙◌, arith}
+use Rattle.std.specs.List.{All, Contains, list_any, cons_option, filter_map}
+use Rattle.std.specs.Str.{bytes_eq}
+use Rattle.std.proofs.lemmas.Bool.{false≢true}
+use Rattle.std.proofs.lemmas.Bool.Decides.{nat_tests}
+use Rattle.std.proofs.lemmas.List.Elements.{All-nil, All-cons, All-head, All-tail}
+use Rattle.desk_base.specs.declared.minute.TheConstants.{YEARS_BEGIN}
+use Rattle.desk_model.specs.declared.limits.TheConstants.{HOLD}
+use Rattle.desk_model.specs.declared.offer.Offer.{Offer}
+use Rattle.desk_model.specs.declared.command.Cmd.{Cmd}
+use Rattle.desk_model.specs.declared.command.Cmd.TheVariants as cmd
+use Rattle.desk_model.specs.declared.reply.Reply.{Reply}
+use Rattle.desk_model.specs.declared.reply.Reply.TheVariants as reply
+use Rattle.desk_model.specs.Entry.{EntryValue}
+use Rattle.desk_model.specs.History.{History, opened, with_entry, Step, step_of, steps_from, steps, is_done, said}
+use Rattle.desk_model.specs.Offers.{open_offer}
+use Rattle.desk_model.specs.Held.{is_from, holds, held_by, greatest, hold_end, HasDeclined}
+use Rattle.desk_model.specs.Fits.{Fits}
+use Rattle.desk_model.proofs.FoundLemmas.{Tells, All-filter_map}
+use Rattle.desk_model.proofs.SaidLemmas.{steps-snoc, filter_map-snoc, said-some}
+use Rattle.desk_model.proofs.OrderLemmas.{same_number, nat_eq-same}
+
+pub max-none : (n : ℕ) → max n 0 ≡ n
+max-none n = omega arith
+
+greatest-append : (ms ns : List ℕ) → greatest (ms ++ ns) ≡ max (greatest ms) (greatest ns)
+greatest-append [] ns = omega arith
+greatest-append (m ∷ ms) ns = omega (arith, greatest-append ms ns)
+
+-- one entry more
+pub hold_end-comes : (h : History) (e : EntryValue) (codes : List (List ℕ)) (p : ℕ)
+    → hold_end (with_entry h e) codes p ≡ max (hold_end h codes p) (unwrap_or (said (holds codes p h e.moment) e) 0)
+unfolding hold_end
+hold_end-comes h e codes p =
+    ap (λ all. greatest (filter_map (held_by codes p) all)) (steps-snoc h e)
+    ∙ ap greatest (filter_map-snoc (held_by codes p) (steps h) (step_of h e))
+    ∙ greatest-append (filter_map (held_by codes p) (steps h)) (cons_option (said (holds codes p h e.moment) e) [])
+    ∙ ap (max (greatest (filter_map (held_by codes p) (steps h)))) (only (said (holds codes p h e.moment) e))
+  where
+    only : (o : Option ℕ) → greatest (cons_option o []) ≡ unwrap_or o 0
+    only None = refl
+    only (Some m) = max-none m
+
+max-either : (m n : ℕ) → (max m n ≡ m) ⊎ (max m n ≡ n)
+max-either m n = go (nat_lt m n) refl
+  where
+    go : (below : Bool) → nat_lt m n ≡ below → (max m n ≡ m) ⊎ (max m n ≡ n)
+    go true is = let lt : m < n = grind (arith, nat_tests, is) in inr (omega (arith, lt))
+    go false is = let le : n ≤ m = grind (arith, nat_tests, is) in inl (omega (arith, le))
+
+-- where each minute of a list has P, the greatest is 0 or has it
+pub greatest-has : (P : ℕ → Type 0) (ms : List ℕ) → All P ms → (greatest ms ≡ 0) ⊎ P (greatest ms)
+greatest-has P [] all = inl refl
+greatest-has P (m ∷ ms) all = go (greatest-has P ms (All-tail P m ms all)) (max-either m (greatest ms))
+  where
+    first : P m
+    first = All-head P m ms all
+
+    go : (greatest ms ≡ 0) ⊎ P (greatest ms) → (max m (greatest ms) ≡ m) ⊎ (max m (greatest ms) ≡ greatest ms)
+        → (max m (greatest ms) ≡ 0) ⊎ P (max m (greatest ms))
+    go rest (inl is) = inr (subst P (sym is) first)
+    go (inl none) (inr is) = inl (is ∙ none)
+    go (inr has) (inr is) = inr (subst P (sym is) has)
+
+-- a step tells the greatest of what steps tell, where that is above some minute
+greatest-told : (f : Step → Option ℕ) (ss : List Step) (m : ℕ) → m < greatest (filter_map f ss)
+    → (s : Step) × (Contains ss s × (f s ≡ Some (greatest (filter_map f ss))))
+greatest-told f [] m above = absurd (omega (arith, above))
+greatest-told f (s ∷ ss) m above = go (f s) refl above (greatest-told f ss m)
+  where
+    go : (told : Option ℕ) → f s ≡ told → m < greatest (cons_option told (filter_map f ss))
+        → (m < greatest (filter_map f ss) → (t : Step) × (Contains ss t × (f t ≡ Some (greatest (filter_map f ss)))))
+        → (t : Step) × (Contains (s ∷ ss) t × (f t ≡ Some (greatest (cons_option told (filter_map f ss)))))
+    go None is above rest =
+        let found = rest above in (found.0, (behind found.0 found.1.0, found.1.1))
+      where
+        behind : (t : Step) → Contains ss t → Contains (s ∷ ss) t
+        behind t (k, within, at) = (suc k, omega (arith, within), at)
+    go (Some n) is above rest = by_size (max-either n (greatest (filter_map f ss)))
+      where
+        behind : (t : Step) → Contains ss t → Contains (s ∷ ss) t
+        behind t (k, within, at) = (suc k, omega (arith, within), at)
+
+        by_size : (max n (greatest (filter_map f ss)) ≡ n) ⊎ (max n (greatest (filter_map f ss)) ≡ greatest (filter_map f ss))
+            → (t : Step) × (Contains (s ∷ ss) t × (f t ≡ Some (max n (greatest (filter_map f ss)))))
+        by_size (inl size) = (s, ((0, omega arith, refl), is ∙ ap Some (sym size)))
+        by_size (inr size) = let found = rest (omega (arith, above, size)) in (found.0, (behind found.0 found.1.0, found.1.1 ∙ ap Some (sym size)))
+
+-- and it is at least what each tells
+greatest-most : (f : Step → Option ℕ) (ss : List Step) → All (λ s. (m : ℕ) → f s ≡ Some m → m ≤ greatest (filter_map f ss)) ss
+greatest-most f [] = All-nil (λ s. (m : ℕ) → f s ≡ Some m → m ≤ 0)
+greatest-most f (s ∷ ss) = go (f s) refl (greatest-most f ss)
+  where
+    go : (told : Option ℕ) → f s ≡ told → All (λ t. (m : ℕ) → f t ≡ Some m → m ≤ greatest (filter_map f ss)) ss
+        → All (λ t. (m : ℕ) → f t ≡ Some m → m ≤ greatest (cons_option told (filter_map f ss))) (s ∷ ss)
+    go None is rest = All-cons (λ t. (m : ℕ) → f t ≡ Some m → m ≤ greatest (filter_map f ss)) s ss (λ m told. cc) rest
+    go (Some n) is rest =
+        All-cons (λ t. (m : ℕ) → f t ≡ Some m → m ≤ max n (greatest (filter_map f ss))) s ss
+        (λ m told. let same : n ≡ m = cc in omega (arith, same))
+        (λ k d within m told. omega (arith, rest k d within m told))
+
+-- ---- declines
+
+-- what a command holds, it holds by a decline
+holds-declined : (codes : List (List ℕ)) (p : ℕ) (h : History) (m : ℕ) (c : Cmd) (until : ℕ) → holds codes p h m c ≡ Some until
+    → (until ≡ m + HOLD) × ((vac : ℕ) × ((offer : Offer) × ((c ≡ cmd.Decline vac p) × (open_offer h vac ≡ Some offer) × (list_any (bytes_eq offer.board) codes ≡ true))))
+holds-declined codes p h m (cmd.Decline vac person) until told = mine (nat_eq person p) refl told
+  where
+    from : person ≡ p → (offer : Option Offer) → open_offer h vac ≡ offer → (here : Bool) → is_from codes offer ≡ here → cond here (Some (m + HOLD)) None ≡ Some until
+        → (until ≡ m + HOLD)
+        × ((v : ℕ) × ((o : Offer) × ((cmd.Decline vac person ≡ cmd.Decline v p) × (open_offer h v ≡ Some o) × (list_any (bytes_eq o.board) codes ≡ true))))
+    from same offer was false is told = cc
+    from same None was true is told = absurd (false≢true is)
+    from same (Some offer) was true is told = let size : m + HOLD ≡ until = cc in (sym size, (vac, (offer, (ap (cmd.Decline vac) same, was, is))))
+
+    mine : (theirs : Bool) → nat_eq person p ≡ theirs → cond (theirs && is_from codes (open_offer h vac)) (Some (m + HOLD)) None ≡ Some until
+        → (until ≡ m + HOLD)
+        × ((v : ℕ) × ((o : Offer) × ((cmd.Decline vac person ≡ cmd.Decline v p) × (open_offer h v ≡ Some o) × (list_any (bytes_eq o.board) codes ≡ true))))
+    mine true is told = from (same_number person p is) (open_offer h vac) refl (is_from codes (open_offer h vac)) refl told
+    mine false is told = cc
+holds-declined codes p h m other until told = cc
+
+done-reply : (r : Reply) → is_done r ≡ true → r ≡ reply.Done
+done-reply reply.Done done = refl
+done-reply other done = absurd (false≢true done)
+
+held_by-declined : (codes : List (List ℕ)) (p : ℕ) (s : Step) (until : ℕ) → held_by codes p s ≡ Some until → HasDeclined codes p s × (until ≡ s.entry.moment + HOLD)
+held_by-declined codes p s until told =
+    let parts = said-some (holds codes p s.before s.entry.moment) s.entry until told in
+    let by = holds-declined codes p s.before s.entry.moment s.entry.stated.cmd until parts.1 in (
+      record {
+        vac = by.1.0;
+        offer = by.1.1.0;
+        done = done-reply s.entry.reply parts.0;
+        told = by.1.1.1.0;
+        was_open = by.1.1.1.1;
+        from = by.1.1.1.2;
+      },
+      by.0,
+    )
+
+declined-held_by : (codes : List (List ℕ)) (p : ℕ) (s : Step) → HasDeclined codes p s → held_by codes p s ≡ Some (s.entry.moment + HOLD)
+declined-held_by codes p s has = rw (has.done, has.told, nat_eq-same p, has.was_open, has.from) refl
+
+-- the latest hold ends 480 minutes after a decline
+pub hold_end-declined : (h : History) (codes : List (List ℕ)) (p m : ℕ) → m < hold_end h codes p
+    → (s : Step) × (Contains (steps h) s × (HasDeclined codes p s × (hold_end h codes p ≡ s.entry.moment + HOLD)))
+unfolding hold_end
+hold_end-declined h codes p m above =
+    let found = greatest-told (held_by codes p) (steps h) m above in
+    (found.0, (found.1.0, held_by-declined codes p found.0 (greatest (filter_map (held_by codes p) (steps h))) found.1.1))
+
+-- and not before that of any other
+pub declined-hold_end : (h : History) (codes : List (List ℕ)) (p : ℕ) → All (λ s. HasDeclined codes p s → s.entry.moment + HOLD ≤ hold_end h codes p) (steps h)
+unfolding hold_end
+declined-hold_end h codes p k d within has =
+    greatest-most (held_by codes p) (steps h) k d within _ (declined-held_by codes p (get_or (steps h) k d) has)
+
+-- ---- the minutes of holds
+
+-- what holds of each entry holds of each step's
+steps-all : (P : EntryValue → Type 0) (h : History) (es : List EntryValue) → All P es → All (λ s. P s.entry) (steps_from h es)
+steps-all P h [] all = All-nil (λ (s : Step). P s.entry)
+steps-all P h (e ∷ es) all =
+    All-cons (λ s. P s.entry) (step_of h e) (steps_from (with_entry h e) es) (All-head P e es all) (steps-all P (with_entry h e) es (All-tail P e es all))
+
+-- the latest hold ends in the years from 2000 on, if there is one
+pub hold_end-fits : (h : History) (codes : List (List ℕ)) (p : ℕ) → All Fits h.entries
+    → (hold_end h codes p ≡ 0) ⊎ ((YEARS_BEGIN ≤ hold_end h codes p) × (hold_end h codes p < 2 ^ 28))
+unfolding hold_end steps
+hold_end-fits h codes p all =
+    greatest-has (λ m. (YEARS_BEGIN ≤ m) × (m < 2 ^ 28)) (filter_map (held_by codes p) (steps h))
+    (All-filter_map (held_by codes p) (λ m. (YEARS_BEGIN ≤ m) × (m < 2 ^ 28)) (steps h) told)
+  where
+    told : All (Tells (held_by codes p) (λ m. (YEARS_BEGIN ≤ m) × (m < 2 ^ 28))) (steps h)
+    told k d within m is =
+        let moment = (steps-all Fits (opened h.opening) h.entries all k d within).moment in
+        let size = (held_by-declined codes p (get_or (steps h) k d) m is).1 in (omega (arith, moment.0, size), omega (arith, moment.1, size))

@@ -1,0 +1,43 @@
+//! What the second edition of the rules adds to the first, and what it leaves.
+ghost use Rattle.std.specs.Prelude.{◌≡◌, ◌≢◌, ◌≤◌, ◌<◌, ◌+◌, ℕ, false, None, Some, List};
+ghost use Rattle.std.specs.List.{All, Contains};
+ghost use Rattle.desk_model.specs.declared.edition.Edition.TheVariants as edition;
+ghost use Rattle.desk_model.specs.declared.person.Person.{Person};
+ghost use Rattle.desk_model.specs.Job.{JobValue};
+ghost use Rattle.desk_model.specs.History.{History, Step, steps};
+ghost use Rattle.desk_model.specs.Register.{vacancy_of};
+ghost use Rattle.desk_model.specs.Held.{held, HasDeclined};
+ghost use Rattle.desk_model.specs.Bars.{facts_of, bar_of};
+ghost use Rattle.desk_model.specs.VacancyAnswer.{vacancy_answer};
+ghost use Rattle.desk_model.specs.FirstEdition.{first_bar_in_one, vacancy_answer_in_one};
+ghost use Rattle.desk_model.specs.Legal.{IsLegal};
+
+/// In the first edition nobody is held, and a legal history has no relief vacancy; what bars someone is told by the table
+/// without B8. And in either edition a vacancy that is no relief one is answered as the first edition answers it. It does
+/// nothing: its clauses are the laws.
+pub fn the_first_edition_stays_as_it_was()
+    ensures held { (h : History) (m p : ℕ) (codes : List (List ℕ)) → h.opening.edition ≡ edition.One
+        → held h m codes p ≡ None }
+    ensures relief { (h : History) → IsLegal h → h.opening.edition ≡ edition.One
+        → (v : ℕ) (job : JobValue) → vacancy_of h v ≡ Some job → job.relief ≡ false }
+    ensures bars { (h : History) (m p : ℕ) (job : JobValue) (person : Person)
+        → h.opening.edition ≡ edition.One
+        → bar_of h m job p person ≡ first_bar_in_one (facts_of h m job p person) }
+    ensures vacancies { (h : History) (m : ℕ) (job : JobValue) → job.relief ≡ false
+        → vacancy_answer h m job ≡ vacancy_answer_in_one h m job }
+{}
+
+/// In the second edition who declines an offer is held for 480 minutes from that moment, by every vacancy whose chain has the
+/// board that the offer was made from, whether or not they still stand on it: a hold that is not over ends 480 minutes after
+/// such a decline, none ends before that of any, and whom one holds from a vacancy is barred from it. It does nothing: its
+/// clauses are the laws.
+pub fn a_decline_holds_for_eight_hours()
+    ensures ends { (h : History) (m p until : ℕ) (codes : List (List ℕ)) → held h m codes p ≡ Some until
+        → (m < until) × ((s : Step) × (Contains (steps h) s
+            × (HasDeclined codes p s × (until ≡ s.entry.moment + 480)))) }
+    ensures holds { (h : History) (p : ℕ) (codes : List (List ℕ)) → h.opening.edition ≡ edition.Two
+        → All (λ s. HasDeclined codes p s → (m : ℕ) → m < s.entry.moment + 480
+            → (until : ℕ) × ((held h m codes p ≡ Some until) × (s.entry.moment + 480 ≤ until))) (steps h) }
+    ensures bars { (h : History) (m p until : ℕ) (job : JobValue) (person : Person)
+        → held h m job.chain p ≡ Some until → bar_of h m job p person ≢ None }
+{}
