@@ -6,7 +6,7 @@ ghost use Rattle.desk_model.specs.VacancyAnswer.{is_extra, unknown_in, bad_in, p
 
 use crate::Reads;
 use desk_base::{Code, Minute};
-use desk_model::{Job, Opening, PLAN_LIMIT, Reply, VACANCY_LIMIT};
+use desk_model::{Edition, Job, Opening, PLAN_LIMIT, RELIEF_LIMIT, Reply, VACANCY_LIMIT};
 
 // The code is an extra board.
 fn is_extra<R: Reads>(reads: &R, board: &Code) -> bool
@@ -59,8 +59,10 @@ fn plan_answer(opening: &Opening, moment: Minute, job: &Job) -> Reply
 {
     let report = job.report();
     let ends = report.number() + u64::from(job.duty()) + u64::from(job.limbo());
-    if job.duty() > PLAN_LIMIT {
+    if !job.is_relief() && job.duty() > PLAN_LIMIT {
         Reply::PlanTooLong
+    } else if job.is_relief() && job.duty() > RELIEF_LIMIT {
+        Reply::ReliefTooLong
     } else if report < moment {
         Reply::ReportPast(report)
     } else if opening.window().end().number() < ends {
@@ -74,6 +76,9 @@ fn plan_answer(opening: &Opening, moment: Minute, job: &Job) -> Reply
 pub(crate) fn vacancy_answer<R: Reads>(reads: &R, moment: Minute, job: &Job) -> Reply
     ensures { (h : History) → R.tells reads.now h → result ≡ vacancy_answer h moment job.now }
 {
+    if job.is_relief() && reads.opening().edition() == Edition::One {
+        return Reply::OtherEdition;
+    }
     if reads.vacancy(job.vac()).is_some() {
         return Reply::Used;
     }

@@ -1,9 +1,10 @@
 -- What is kept of a legal history, and the entry that a step adds.
-use Rattle.std.proofs.Common.{◌≡◌, ℕ, ◌≤◌, Option, None, Some, IfSome, List, [], ◌∷◌, ◌++◌, length, refl, sym, ap, subst}
+use Rattle.std.proofs.Common.{◌≡◌, ℕ, ◌≤◌, ◌<◌, ◌^◌, ◌⊎◌, inl, inr, arith, Option, None, Some, IfSome, List, [], ◌∷◌, ◌++◌, length, refl, sym, ap, subst}
 use Rattle.std.specs.List.{All}
 use Rattle.std.specs.Coded.{le_prop}
 use Rattle.std.proofs.Math.Logic.{∥∥₁_elim}
 use Rattle.std.proofs.lemmas.Option.{IfSome_then}
+use Rattle.desk_base.specs.declared.minute.TheConstants.{YEARS_BEGIN}
 use Rattle.desk_base.specs.Minute.{IsInYears}
 use Rattle.desk_model.specs.declared.offer.Offer.{Offer}
 use Rattle.desk_model.specs.declared.limits.TheConstants.{MEMBER_LIMIT}
@@ -14,10 +15,12 @@ use Rattle.desk_model.specs.History.{History, history_of, opened, with_entry}
 use Rattle.desk_model.specs.Boards.{order}
 use Rattle.desk_model.specs.Fits.{Fits}
 use Rattle.desk_model.specs.Offers.{open_offer}
+use Rattle.desk_model.specs.Held.{hold_end}
 use Rattle.desk_model.specs.Legal.{next, MayState, IsNext, IsLegal}
 use Rattle.desk_model.proofs.LegalLemmas.{legal-opened, legal-with, IsNext-next}
 use Rattle.desk_model.proofs.BoundLemmas.{length-order}
 use Rattle.desk_model.proofs.FitRegisterLemmas.{open_offer-fits}
+use Rattle.desk_model.proofs.HeldLemmas.{hold_end-fits}
 use Rattle.plain_core.specs.Kept.{IsKept}
 
 pub kept-opened : (o : OpeningValue) → IsOpening o → IsKept o [] (opened o)
@@ -37,6 +40,16 @@ made-kept fit o es v legal = ∥∥₁_elim legal (made-prop (open_offer h v)) (
   where
     h : History
     h = history_of o es
+
+-- where legal histories fit, a hold ends at a minute
+pub hold_end-kept : ((h : History) → IsLegal h → All Fits h.entries) → (o : OpeningValue) (es : List EntryValue) (codes : List (List ℕ)) (p : ℕ) → ∥ IsLegal (history_of o es) ∥₁
+    → hold_end (history_of o es) codes p < 2 ^ 28
+hold_end-kept fit o es codes p legal = ∥∥₁_elim legal le_prop (λ fine. small (hold_end-fits (history_of o es) codes p (fit (history_of o es) fine)))
+  where
+    small : (hold_end (history_of o es) codes p ≡ 0) ⊎ ((YEARS_BEGIN ≤ hold_end (history_of o es) codes p) × (hold_end (history_of o es) codes p < 2 ^ 28))
+        → hold_end (history_of o es) codes p < 2 ^ 28
+    small (inl none) = omega (arith, none)
+    small (inr fits) = fits.1
 
 -- the entry that the rules give comes next
 comes : (h : History) (e : EntryValue) (caller : ℕ) (s : StatedValue) → MayState caller s → e ≡ next h caller s → IsNext h e

@@ -11,6 +11,7 @@ ghost use Rattle.desk_model.specs.Bars.{facts_of, bar_of, is_free, first_free};
 ghost use Rattle.plain_core.specs.Kept.{IsKept};
 ghost use Rattle.plain_core.specs.Room.{HasRoom};
 
+use crate::held::held;
 use crate::kept::Kept;
 use crate::lists::Lists;
 use crate::register::quals_of;
@@ -18,7 +19,7 @@ use crate::turned_down::has_turned_down;
 use denial_rules::{Bar, Facts, first_bar};
 use desk_answers::Reads;
 use desk_base::{Code, Minute, PersonNo};
-use desk_model::{Job, Link, Person};
+use desk_model::{Job, Link, Person, a_legal_history_fits};
 use duty_events::{Event, Stage, place, stage_of};
 use law_bars::law_bar;
 
@@ -53,6 +54,8 @@ impl Kept {
         ensures room { vec_capacity events.new ≡ vec_capacity events.old }
     {
         self.fill_events(number, events);
+        a_legal_history_fits();
+        let chain = job.chain();
         Facts {
             marked_off: self.is_marked_off(number),
             in_tour: stage_of(events) != Stage::Off,
@@ -65,6 +68,7 @@ impl Kept {
             quals_has: quals_of(&self.entries, number),
             quals_asked: job.quals(),
             answered: has_turned_down(&self.entries, job.vac(), number),
+            held: held(&self.opening, &self.entries, moment, chain.codes(), number),
             law: law_of(events, moment, job, person),
         }
     }

@@ -6,6 +6,7 @@ mod bars;
 mod boards;
 mod chains;
 mod duty;
+mod held;
 mod history;
 mod kept;
 mod lists;

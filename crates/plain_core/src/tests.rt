@@ -2,13 +2,14 @@
 use crate::PlainCore;
 use denial_rules::Bar;
 use desk_base::{Code, Minute, Month, PersonNo, VacNo, Window};
-use desk_model::{Chain, Cmd, DeskCore, Job, Opening, Reply, Stated, VacState};
+use desk_model::{Chain, Cmd, DeskCore, Edition, Job, Opening, Reply, Stated, VacState};
 use qualifications::{Craft, Quals};
 use std::alloc::Global;
 use std::test::Fail;
 
 mod assignments;
 mod boards;
+mod editions;
 mod offers;
 
 // When something is stated, as `HH:MM`; what; and the answer.
@@ -24,14 +25,14 @@ fn at(time: &[u8]) -> Option<Minute> {
     Minute::read(&text)
 }
 
-fn opening() -> Option<Opening> {
+fn opening(edition: Edition) -> Option<Opening> {
     let window = Window::new(Month::read(b"2024-03")?, 1)?;
-    Opening::new(at(b"00:00")?, window, 15)
+    Opening::new(at(b"00:00")?, window, 15, edition)
 }
 
-// A desk with memory for so many steps, which gives 15 minutes to answer.
-fn desk(alloc: Global, steps: u64) -> Result<PlainCore, Fail> {
-    let opening = opening().ok_or("no opening")?;
+// A desk of this edition with memory for so many steps, which gives 15 minutes to answer.
+fn desk(alloc: Global, edition: Edition, steps: u64) -> Result<PlainCore, Fail> {
+    let opening = opening(edition).ok_or("no opening")?;
     Ok(PlainCore::new(alloc, opening, steps)?)
 }
 
@@ -49,10 +50,15 @@ fn take<C: DeskCore>(
     Some((entry.moment(), entry.reply()))
 }
 
-// A desk with three engineers of HOM on three boards, in the order of their numbers: the pool P1 and the extra board X1, both
-// at HOM, and the extra board Y1 at AWY.
+// A desk of the first edition with three engineers of HOM on three boards, in the order of their numbers: the pool P1 and the
+// extra board X1, both at HOM, and the extra board Y1 at AWY.
 fn crew(alloc: Global) -> Result<PlainCore, Fail> {
-    let mut core = desk(alloc, 50)?;
+    crew_in(alloc, Edition::One)
+}
+
+// The same in an edition.
+fn crew_in(alloc: Global, edition: Edition) -> Result<PlainCore, Fail> {
+    let mut core = desk(alloc, edition, 50)?;
     let boards: [(&[u8], bool, &[u8]); 3] = [
         (b"P1", false, b"HOM"),
         (b"X1", true, b"HOM"),
@@ -116,6 +122,7 @@ fn vacancy(vac: u32, report: &[u8], quals: &[u8], chain: &[u8]) -> Option<Cmd> {
         600,
         0,
         Chain::read(chain)?,
+        false,
     )?;
     Some(Cmd::Vacancy(job))
 }
@@ -220,7 +227,7 @@ fn on_offer(person: u32) -> Option<Reply> {
 
 #[test]
 fn a_moment_is_never_before_the_last(rt: HostRuntime) -> Result<(), Fail> {
-    let mut core = desk(rt.alloc(), 3)?;
+    let mut core = desk(rt.alloc(), Edition::One, 3)?;
     let outside = Minute::read(b"2024-04-01 00:00");
     let steps = [
         (at(b"06:02"), of_vac("next", 12), Reply::UnknownVacancy),
@@ -237,7 +244,7 @@ fn a_moment_is_never_before_the_last(rt: HostRuntime) -> Result<(), Fail> {
 
 #[test]
 fn more_steps_than_memory_holds(rt: HostRuntime) -> Result<(), Fail> {
-    let opening = opening().ok_or("no opening")?;
+    let opening = opening(Edition::One).ok_or("no opening")?;
     assert!(rt; PlainCore::new(rt.alloc(), opening, u64::MAX).is_err());
     assert!(rt; PlainCore::new(rt.alloc(), opening, 0).is_ok());
     Ok(())
