@@ -30,7 +30,7 @@ use Rattle.desk_model.specs.Fits.{IsCommand, IsJob, IsStated}
 use Rattle.desk_model.specs.StatedTexts.{sort_text, kind_text, event_fields, job_fields, command_fields, stated_fields}
 use Rattle.desk_model.proofs.ChainLemmas.{parts_by-chain_text}
 use Rattle.desk_text.specs.Spelled.{StatesCommand}
-use Rattle.desk_text.proofs.SpelledLemmas.{apart, job-of}
+use Rattle.desk_text.proofs.SpelledLemmas.{apart, job-of, vacancy}
 
 pub number-one : (a b : ℕ) → IsNumber a → IsNumber b → decimal a ≡ decimal b → a ≡ b
 number-one a b ha hb e = decimal_injective a b (omega (arith, ha.1)) (omega (arith, hb.1)) e
@@ -81,8 +81,8 @@ quals_text-one a b ha hb e =
     same : AreLacked a 0 (parts_by 43 (quals_text b)) → AreLacked b 0 (parts_by 43 (quals_text b)) → a ≡ b
     same (ms, em, hm, bm) (ns, en, hn, bn) = sym bm ∙ ap (bits_with 0) (decimals-one ms ns hm hn (sym em ∙ en)) ∙ bn
 
-job_fields-one : (a b : JobValue) → IsJob a → IsJob b → job_fields a ≡ job_fields b → a ≡ b
-job_fields-one a b ha hb e =
+job_fields-one : (a b : JobValue) → IsJob a → IsJob b → a.relief ≡ b.relief → job_fields a ≡ job_fields b → a ≡ b
+job_fields-one a b ha hb relief e =
     let vac = number-one a.vac b.vac ha.vac hb.vac (ap (λ l. get_or l 0 []) e) in
     let craft = craft_text-one a.craft b.craft (ap (λ l. get_or l 1 []) e) in
     let quals = quals_text-one a.quals b.quals ha.quals hb.quals (ap (λ l. get_or l 2 []) e) in
@@ -91,7 +91,7 @@ job_fields-one a b ha hb e =
     let duty = decimal_injective a.duty b.duty (omega (arith, ha.plan.most)) (omega (arith, hb.plan.most)) (ap (λ l. get_or l 5 []) e) in
     let limbo = decimal_injective a.limbo b.limbo (omega (arith, ha.plan.limbo_most)) (omega (arith, hb.plan.limbo_most)) (ap (λ l. get_or l 6 []) e) in
     let chain = chain_text-one a.chain b.chain ha.chain hb.chain (ap (λ l. get_or l 7 []) e) in
-    job-of b a.vac a.craft a.quals a.place a.report a.duty a.limbo a.chain vac craft quals place report duty limbo chain
+    job-of b a.vac a.craft a.quals a.place a.report a.duty a.limbo a.chain a.relief vac craft quals place report duty limbo chain relief
 
 pub kind_text-one : (a b : Kind) → kind_text a ≡ kind_text b → a ≡ b
 kind_text-one kind.D kind.D e = refl
@@ -157,7 +157,15 @@ told_fields-one about w p t p' t' h h' e =
     let told = event_fields-one t t' (ap (λ l. drop 2 l) e) in
     rw (person, told) refl
 
+-- a command with a job's fields is that job's vacancy: it has its row, since its word is not known before it is told which
+vacancy-one : (job : JobValue) (b : Cmd) → IsJob job → IsCommand b → command_fields (cmd.Vacancy job) ≡ command_fields b → cmd.Vacancy job ≡ b
+vacancy-one job b hj hb e =
+    let v = vacancy job.relief (job_fields job) b (record { valid = hb; fields_are = e }) in
+    ap cmd.Vacancy (job_fields-one job v.job hj v.job_in v.relief_is v.fields_are) ∙ sym v.is
+
 command_fields-one : (a b : Cmd) → IsCommand a → IsCommand b → command_fields a ≡ command_fields b → a ≡ b
+command_fields-one (cmd.Vacancy job) b ha hb e = vacancy-one job b ha hb e
+command_fields-one a (cmd.Vacancy job) ha hb e = sym (vacancy-one job a hb ha (sym e))
 command_fields-one (cmd.Enrol p c h q) (cmd.Enrol p' c' h' q') ha hb e =
     let person = number-one p p' ha.0 hb.0 (ap (λ l. get_or l 1 []) e) in
     let craft = craft_text-one c c' (ap (λ l. get_or l 2 []) e) in
@@ -179,7 +187,6 @@ command_fields-one (cmd.Qualify p q) (cmd.Qualify p' q') ha hb e =
     rw (person, quals) refl
 command_fields-one (cmd.Past p t) (cmd.Past p' t') ha hb e = told_fields-one cmd.Past _ p t p' t' ha.0 hb.0 e
 command_fields-one (cmd.Happened p t) (cmd.Happened p' t') ha hb e = told_fields-one cmd.Happened _ p t p' t' ha.0 hb.0 e
-command_fields-one (cmd.Vacancy job) (cmd.Vacancy job') ha hb e = ap cmd.Vacancy (job_fields-one job job' ha hb (ap (λ l. drop 1 l) e))
 command_fields-one (cmd.Next v) (cmd.Next v') ha hb e = number_fields-one cmd.Next _ v v' ha hb e
 command_fields-one (cmd.Offer v p) (cmd.Offer v' p') ha hb e = offer_fields-one cmd.Offer _ v p v' p' ha hb e
 command_fields-one (cmd.Accept v p) (cmd.Accept v' p') ha hb e = offer_fields-one cmd.Accept _ v p v' p' ha hb e

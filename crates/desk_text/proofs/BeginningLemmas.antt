@@ -8,19 +8,19 @@ use Rattle.std.proofs.lemmas.List.Splits.{slice_split_none}
 use Rattle.std.proofs.lemmas.List.Sums.{AllPass-from_list_all}
 use Rattle.desk_base.specs.Minute.{minute_text}
 use Rattle.desk_base.specs.Parts.{parts_by}
-use Rattle.desk_base.specs.Window.{window_of}
 use Rattle.desk_model.specs.Entry.{EntryValue, entry_of}
 use Rattle.desk_model.specs.Fits.{Fits}
 use Rattle.desk_model.specs.Journal.{entry_line, opening_line}
-use Rattle.desk_model.specs.Opening.{OpeningValue, IsOpening, opening_of, opening_fields}
+use Rattle.desk_model.specs.Opening.{OpeningValue, IsOpening, opening_fields}
 use Rattle.desk_model.specs.ReplyTexts.{reply_text}
 use Rattle.desk_model.specs.Statement.{StatedValue}
 use Rattle.desk_model.specs.declared.reply.Reply.{Reply}
 use Rattle.desk_model.specs.StatedTexts.{stated_fields}
 use Rattle.desk_text.specs.Line.{IsPlain, IsLine}
-use Rattle.desk_text.proofs.ApartLemmas.{minute_text-one, month_text-one, stated_fields-one}
+use Rattle.desk_text.proofs.ApartLemmas.{minute_text-one, stated_fields-one}
 use Rattle.desk_text.proofs.CutLemmas.{cut-one, text-parts, some-parts}
 use Rattle.desk_text.proofs.LineLemmas.{stated_inner, opening_inner, entry_line-IsLine, opening_line-IsLine}
+use Rattle.desk_text.proofs.OpeningLemmas.{opening_fields-one}
 use Rattle.desk_text.proofs.ReplyApartLemmas.{reply_text-one}
 use Rattle.desk_text.proofs.SpelledEntryLemmas.{fields-split, parts_text, entry_line-parts, caller-unbarred, stated-unbarred, moment-unbarred, joined-unbarred}
 
@@ -68,20 +68,12 @@ entry-begins a b rest ha hb e =
 
 -- ---- openings
 
-opening-of : (o : OpeningValue) (start first months answer : ℕ) → start ≡ o.start → first ≡ o.window.first → months ≡ o.window.months → answer ≡ o.answer
-    → opening_of start (window_of first months) answer ≡ o
-opening-of o start first months answer a b c d = rw (a, b, c, d) refl
-
 opening_line-one : (a b : OpeningValue) → IsOpening a → IsOpening b → opening_line a ≡ opening_line b → a ≡ b
 unfolding opening_line
 opening_line-one a b ha hb e =
     let text = append_cancel_right (join_with_byte 44 (opening_fields a)) (join_with_byte 44 (opening_fields b)) (10 ∷ []) e in
     let fields : opening_fields a ≡ opening_fields b = sym (fields-split _ _ (opening_inner a ha)) ∙ ap (parts_by 44) text ∙ fields-split _ _ (opening_inner b hb) in
-    opening-of b a.start a.window.first a.window.months a.answer
-    (minute_text-one a.start b.start (ap (λ l. get_or l 0 []) fields))
-    (month_text-one a.window.first b.window.first (ap (λ l. get_or l 2 []) fields))
-    (decimal_injective a.window.months b.window.months (omega (arith, ha.window.most)) (omega (arith, hb.window.most)) (ap (λ l. get_or l 3 []) fields))
-    (decimal_injective a.answer b.answer (omega (arith, ha.most)) (omega (arith, hb.most)) (ap (λ l. get_or l 4 []) fields))
+    opening_fields-one a b ha hb fields
 
 pub opening-begins : (a b : OpeningValue) (rest : List ℕ) → IsOpening a → IsOpening b → opening_line b ≡ opening_line a ++ rest → (a ≡ b) × (rest ≡ [])
 opening-begins a b rest ha hb e =

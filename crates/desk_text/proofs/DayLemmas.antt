@@ -8,10 +8,8 @@ use Rattle.std.proofs.lemmas.Bool.{false≢true}
 use Rattle.std.proofs.lemmas.List.{map-append, length-map, get_or-map, get_or_append_left}
 use Rattle.std.proofs.Math.Seq.{get_or-append_seam}
 use Rattle.std.proofs.lemmas.List.Elements.{All-append, All-cons, All-nil, All-head, All-tail}
-use Rattle.std.proofs.lemmas.Fmt.{decimal_injective}
 use Rattle.std.specs.List.{All}
-use Rattle.desk_base.specs.Window.{window_of}
-use Rattle.desk_model.specs.Opening.{OpeningValue, IsOpening, opening_of, opening_fields}
+use Rattle.desk_model.specs.Opening.{OpeningValue}
 use Rattle.desk_model.specs.declared.command.Cmd.TheVariants as cmd
 use Rattle.desk_model.specs.Statement.{StatedValue, stated_of}
 use Rattle.desk_model.specs.Fits.{IsStated}
@@ -27,8 +25,9 @@ use Rattle.desk_text.specs.declared.limits.TheConstants.{RECORD_LIMIT}
 use Rattle.desk_text.specs.declared.day_fault.DayFault.{DayFault}
 use Rattle.desk_text.specs.declared.day_fault.DayFault.TheVariants as fault
 use Rattle.desk_text.specs.DayFile.{StateCommands, HasWrong, IsOpened, IsDayFile, HasUnreadable, HasNoOpening, HasFault}
-use Rattle.desk_text.proofs.ApartLemmas.{minute_text-one, month_text-one, stated_fields-one}
+use Rattle.desk_text.proofs.ApartLemmas.{stated_fields-one}
 use Rattle.desk_text.proofs.FormLemmas.{wrong-one}
+use Rattle.desk_text.proofs.OpeningLemmas.{opening_fields-one}
 
 -- one more record states one more command
 pub StateCommands-more : (records : List (List (List ℕ))) (commands : List StatedValue) (fields : List (List ℕ)) (s : StatedValue)
@@ -147,15 +146,6 @@ HasWrong-one all n f m g has other =
     )
 
 -- ---- bytes are one day file at most
-
-opening_fields-one : (o p : OpeningValue) → IsOpening o → IsOpening p → opening_fields o ≡ opening_fields p → o ≡ p
-opening_fields-one o p ho hp e =
-    let start = minute_text-one o.start p.start (ap (λ l. get_or l 0 []) e) in
-    let first = month_text-one o.window.first p.window.first (ap (λ l. get_or l 2 []) e) in
-    let months = decimal_injective o.window.months p.window.months (omega (arith, ho.window.most)) (omega (arith, hp.window.most)) (ap (λ l. get_or l 3 []) e) in
-    let answer = decimal_injective o.answer p.answer (omega (arith, ho.most)) (omega (arith, hp.most)) (ap (λ l. get_or l 4 []) e) in
-    let same : opening_of o.start (window_of o.window.first o.window.months) o.answer ≡ opening_of p.start (window_of p.window.first p.window.months) p.answer = rw (start, first, months, answer) refl in
-    same
 
 commands-one : (cs ds : List StatedValue) → All IsStated cs → All IsStated ds → map stated_fields cs ≡ map stated_fields ds → cs ≡ ds
 commands-one [] [] hc hd e = refl

@@ -1,9 +1,11 @@
 -- Lines built piece by piece.
-use Rattle.std.proofs.Common.{◌≡◌, List, ℕ, [], ◌∷◌, ◌++◌, ◌∙◌, sym, codes, decimal, append_assoc, append-nil}
+use Rattle.std.proofs.Common.{◌≡◌, List, ℕ, [], ◌∷◌, ◌++◌, ◌∙◌, refl, sym, codes, decimal, append_assoc, append-nil}
 use Rattle.std.specs.List.{join_with_byte}
 use Rattle.desk_base.specs.Minute.{minute_text}
 use Rattle.desk_base.specs.Month.{month_text}
-use Rattle.desk_model.specs.Opening.{OpeningValue}
+use Rattle.desk_model.specs.declared.edition.Edition.{Edition}
+use Rattle.desk_model.specs.declared.edition.Edition.TheVariants as edition
+use Rattle.desk_model.specs.Opening.{OpeningValue, edition_fields}
 use Rattle.desk_model.specs.Journal.{opening_line}
 use Rattle.desk_model.specs.Entry.{EntryValue}
 use Rattle.desk_model.specs.StatedTexts.{stated_fields}
@@ -25,7 +27,12 @@ pub entry_line-pieces : (e : EntryValue) → entry_line e
 unfolding entry_line
 entry_line-pieces e = simp append_assoc
 
+-- a field, and what names an edition behind it
+joined-last : (field : List ℕ) (e : Edition) → join_with_byte 44 (field ∷ edition_fields e) ≡ field ++ marked (edition_fields e)
+joined-last field edition.One = sym (append-nil field)
+joined-last field edition.Two = refl
+
 pub opening_line-pieces : (o : OpeningValue) → opening_line o
-    ≡ ((((((minute_text o.start ++ codes ",open,") ++ month_text o.window.first) ++ 44 ∷ []) ++ decimal o.window.months) ++ 44 ∷ []) ++ decimal o.answer) ++ 10 ∷ []
+    ≡ (((((((minute_text o.start ++ codes ",open,") ++ month_text o.window.first) ++ 44 ∷ []) ++ decimal o.window.months) ++ 44 ∷ []) ++ decimal o.answer) ++ marked (edition_fields o.edition)) ++ 10 ∷ []
 unfolding opening_line
-opening_line-pieces o = simp append_assoc
+opening_line-pieces o = rw (joined-last (decimal o.answer) o.edition) (simp append_assoc)

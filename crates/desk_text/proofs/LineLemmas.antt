@@ -12,6 +12,8 @@ use Rattle.duty_events.specs.declared.stage.Stage.TheVariants as stage
 use Rattle.denial_rules.specs.declared.bar.Bar.{Bar}
 use Rattle.denial_rules.specs.declared.bar.Bar.TheVariants as bar
 use Rattle.denial_rules.specs.Bar.{FitsBar}
+use Rattle.desk_model.specs.declared.edition.Edition.{Edition}
+use Rattle.desk_model.specs.declared.edition.Edition.TheVariants as edition
 use Rattle.desk_model.specs.declared.reply.Reply.{Reply}
 use Rattle.desk_model.specs.declared.reply.Reply.TheVariants as reply
 use Rattle.desk_model.specs.declared.vac_state.VacState.{VacState}
@@ -20,12 +22,12 @@ use Rattle.desk_model.specs.BarTexts.{bar_text}
 use Rattle.desk_model.specs.Entry.{EntryValue}
 use Rattle.desk_model.specs.Fits.{IsStated, FitsState, FitsStage, FitsFault, FitsReply, Fits}
 use Rattle.desk_model.specs.Journal.{entry_line, opening_line}
-use Rattle.desk_model.specs.Opening.{OpeningValue, IsOpening, opening_fields}
+use Rattle.desk_model.specs.Opening.{OpeningValue, IsOpening, edition_fields, opening_fields}
 use Rattle.desk_model.specs.ReplyTexts.{state_text, stage_text, fault_text, reply_text}
 use Rattle.desk_model.specs.StatedTexts.{kind_text, stated_fields}
 use Rattle.desk_model.specs.Statement.{StatedValue}
 use Rattle.desk_text.specs.Line.{IsLine}
-use Rattle.desk_text.proofs.PlainLemmas.{Passes, IsInner, append, mark, word, number, month_in, minute_in, code, join, weaker, craft_inner, kind_inner, late, all_inner, command_inner, literal, numbered}
+use Rattle.desk_text.proofs.PlainLemmas.{Passes, IsInner, AreInner, append, mark, word, number, month_in, minute_in, code, join, weaker, craft_inner, kind_inner, late, all_inner, command_inner, literal, numbered}
 
 -- ---- what is answered
 
@@ -67,6 +69,7 @@ bar_inner (bar.Elsewhere place) is = word (codes "B4 ") refl (code place is)
 bar_inner (bar.OtherCraft c) is = word (codes "B5 ") refl (craft_inner c)
 bar_inner (bar.Lacks k) is = word (codes "B6 ") refl (number k (omega (arith, is)))
 bar_inner bar.Answered is = literal (codes "B7") refl
+bar_inner (bar.Held until) is = word (codes "B8 ") refl (late until is.1)
 bar_inner (bar.Rest ends) is = word (codes "21103(a)(3) ") refl (late ends is.1)
 bar_inner (bar.MoreRest ends) is = word (codes "21103(c)(4) ") refl (late ends is.1)
 bar_inner (bar.Undisturbed ends) is = word (codes "21103(e) ") refl (late ends is.1)
@@ -109,6 +112,8 @@ reply_inner reply.ListsFull is = literal (codes "lists full") refl
 reply_inner reply.MembersFull is = literal (codes "members full") refl
 reply_inner reply.VacanciesFull is = literal (codes "vacancies full") refl
 reply_inner reply.PlanTooLong is = literal (codes "plan too long 21103(a)(2)") refl
+reply_inner reply.ReliefTooLong is = literal (codes "plan too long 21103(d)") refl
+reply_inner reply.OtherEdition is = literal (codes "not in edition 1") refl
 reply_inner reply.UnknownVacancy is = literal (codes "unknown vacancy") refl
 reply_inner reply.NoOffer is = literal (codes "no offer") refl
 reply_inner reply.NotAssigned is = literal (codes "not assigned") refl
@@ -131,6 +136,10 @@ stated_inner s is = all_inner (stated_fields s) (minute_in s.minute is.minute, c
 stated_plain : (s : StatedValue) → IsStated s → Passes is_plain (join_with_byte 44 (stated_fields s))
 stated_plain s is = join 44 refl (stated_fields s) (all_plain (stated_fields s) (stated_inner s is))
 
+edition_inner : (e : Edition) → AreInner (edition_fields e)
+edition_inner edition.One = tt
+edition_inner edition.Two = (literal (codes "2") refl, tt)
+
 pub opening_inner : (o : OpeningValue) → IsOpening o → All IsInner (opening_fields o)
 opening_inner o is =
     let start = in_years-Holds o.window o.start is.window is.start in
@@ -141,7 +150,7 @@ opening_inner o is =
         literal (codes "open") refl,
         (
           month_in o.window.first first,
-          (number o.window.months (omega (arith, is.window.most)), (number o.answer (omega (arith, is.most)), tt)),
+          (number o.window.months (omega (arith, is.window.most)), (number o.answer (omega (arith, is.most)), edition_inner o.edition)),
         ),
       ),
     )

@@ -28,7 +28,7 @@ use Rattle.desk_model.specs.declared.command.Cmd.{Cmd}
 use Rattle.desk_model.specs.declared.command.Cmd.TheVariants as cmd
 use Rattle.desk_model.specs.BarTexts.{late_text}
 use Rattle.desk_model.specs.Fits.{IsEvent, IsCommand}
-use Rattle.desk_model.specs.StatedTexts.{sort_text, kind_text, event_fields, command_fields}
+use Rattle.desk_model.specs.StatedTexts.{sort_text, job_word, kind_text, event_fields, command_fields}
 
 -- ---- texts
 
@@ -128,6 +128,10 @@ sort_inner : (extra : Bool) → IsInner (sort_text extra)
 sort_inner true = record { all = refl }
 sort_inner false = record { all = refl }
 
+job_word_inner : (relief : Bool) → IsInner (job_word relief)
+job_word_inner true = record { all = refl }
+job_word_inner false = record { all = refl }
+
 decimals : (quals n : ℕ) → n ≤ 64 → All IsInner (map decimal (numbers_below quals n))
 unfolding numbers_below
 decimals quals zero few = All-nil IsInner
@@ -159,7 +163,7 @@ late m small = go (nat_lt m YEARS_END)
 
 -- ---- what is stated
 
-abbrev AreInner : List (List ℕ) → Type 0
+abbrev pub AreInner : List (List ℕ) → Type 0
 AreInner [] = ⊤
 AreInner (x ∷ xs) = IsInner x × AreInner xs
 
@@ -190,7 +194,7 @@ command_inner (cmd.MarkOn p) is = (literal (codes "on") refl, (numbered p is, tt
 command_inner (cmd.Qualify p quals) is = (literal (codes "qualify") refl, (numbered p is.0, (quals_inner quals, tt)))
 command_inner (cmd.Past p e) is = (literal (codes "past") refl, (numbered p is.0, event_inner e is.1))
 command_inner (cmd.Happened p e) is = (literal (codes "event") refl, (numbered p is.0, event_inner e is.1))
-command_inner (cmd.Vacancy job) is = (literal (codes "vacancy") refl, (numbered job.vac is.vac, (craft_inner job.craft, (quals_inner job.quals, (code job.place is.place, (minute_in job.report is.plan.report_in, (number job.duty (omega (arith, is.plan.most)), (number job.limbo (omega (arith, is.plan.limbo_most)), (join 43 refl job.chain (codes_inner job.chain is.chain.codes), tt)))))))))
+command_inner (cmd.Vacancy job) is = (job_word_inner job.relief, (numbered job.vac is.vac, (craft_inner job.craft, (quals_inner job.quals, (code job.place is.place, (minute_in job.report is.plan.report_in, (number job.duty (omega (arith, is.plan.most)), (number job.limbo (omega (arith, is.plan.limbo_most)), (join 43 refl job.chain (codes_inner job.chain is.chain.codes), tt)))))))))
 command_inner (cmd.Next v) is = (literal (codes "next") refl, (numbered v is, tt))
 command_inner (cmd.Offer v p) is = (literal (codes "offer") refl, (numbered v is.0, (numbered p is.1, tt)))
 command_inner (cmd.Accept v p) is = (literal (codes "accept") refl, (numbered v is.0, (numbered p is.1, tt)))

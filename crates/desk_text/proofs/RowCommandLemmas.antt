@@ -1,5 +1,5 @@
 -- Fields that have a row of the table of records, and the command that they state.
-use Rattle.std.proofs.Common.{◌≡◌, ℕ, List, [], ◌∷◌, get_or, decimal, refl}
+use Rattle.std.proofs.Common.{◌≡◌, ℕ, Bool, true, false, List, [], ◌∷◌, get_or, decimal, refl}
 use Rattle.std.specs.List.{All}
 use Rattle.std.proofs.lemmas.List.Elements.{All-cons, All-nil, All-contains}
 use Rattle.desk_base.specs.Code.{IsCode}
@@ -13,7 +13,7 @@ use Rattle.desk_model.specs.declared.command.Cmd.TheVariants as cmd
 use Rattle.desk_model.specs.Job.{job_of}
 use Rattle.desk_model.specs.Statement.{stated_of}
 use Rattle.desk_model.specs.Fits.{IsEvent}
-use Rattle.desk_model.specs.StatedTexts.{event_fields}
+use Rattle.desk_model.specs.StatedTexts.{job_word, event_fields}
 use Rattle.desk_text.specs.declared.form.Form.{Form}
 use Rattle.desk_text.specs.declared.form.Form.TheVariants as form
 use Rattle.desk_text.specs.declared.word.Word.{Word}
@@ -97,13 +97,13 @@ qualify-row : States (form.Minute ∷ form.Word word.Qualify ∷ form.Number ∷
 qualify-row _ _ (next at (next is (next (n, h, e) (next (quals, hq, eq) none)))) =
     stated _ _ (cmd.Qualify n quals) at record { valid = (h, hq); fields_are = rw (is, e, eq) refl }
 
-vacancy-row : States (form.Minute ∷ form.Word word.Vacancy ∷ form.Number ∷ form.Craft ∷ form.Quals ∷ form.Code ∷ form.Minute ∷ form.Duty ∷ form.Limbo
-    ∷ form.Chain ∷ [])
-vacancy-row _ _ (next at (next is (next (n, h, e) (next (craft, ec) (next (quals, hq, eq) (next {field = place} hp (next (t, ht, et)
+vacancy-row : (relief : Bool) (w : Word) → word_text w ≡ job_word relief
+    → States (form.Minute ∷ form.Word w ∷ form.Number ∷ form.Craft ∷ form.Quals ∷ form.Code ∷ form.Minute ∷ form.Duty ∷ form.Limbo ∷ form.Chain ∷ [])
+vacancy-row relief w same _ _ (next at (next is (next (n, h, e) (next (craft, ec) (next (quals, hq, eq) (next {field = place} hp (next (t, ht, et)
     (next (duty, some, most, ed) (next (limbo, hl, el) (next (chain, hc, eh) none)))))))))) =
-    stated _ _ (cmd.Vacancy (job_of n craft quals place t duty limbo chain)) at record {
+    stated _ _ (cmd.Vacancy (job_of n craft quals place t duty limbo chain relief)) at record {
       valid = record { vac = h; quals = hq; place = hp; plan = record { report_in = ht; some = some; most = most; limbo_most = hl }; chain = hc };
-      fields_are = rw (is, e, ec, eq, et, ed, el, eh) refl;
+      fields_are = rw (is, same, e, ec, eq, et, ed, el, eh) refl;
     }
 
 hours-row : States (form.Minute ∷ form.Word word.Hours ∷ form.Number ∷ form.Month ∷ [])
@@ -164,7 +164,8 @@ each-row =
     also happened-row _ ride_home-tells
     also happened-row _ final-tells
     also happened-row _ other-tells
-    also vacancy-row
+    also vacancy-row false word.Vacancy refl
+    also vacancy-row true word.Relief refl
     also number-row word.Next cmd.Next (λ n h. record { valid = h; fields_are = refl })
     also numbers-row word.Offer cmd.Offer (λ m n h h'. record { valid = (h, h'); fields_are = refl })
     also numbers-row word.Accept cmd.Accept (λ m n h h'. record { valid = (h, h'); fields_are = refl })

@@ -1,5 +1,5 @@
 -- Rows of the table of records, and the fields of a command's record, which have one.
-use Rattle.std.proofs.Common.{◌≡◌, ℕ, zero, suc, ◌+◌, ◌-◌, ◌<◌, List, [], ◌∷◌, length, get_or, decimal, arith, refl, sym, ap}
+use Rattle.std.proofs.Common.{◌≡◌, ℕ, zero, suc, Bool, true, false, ◌+◌, ◌-◌, ◌<◌, List, [], ◌∷◌, length, get_or, decimal, arith, refl, sym, ap}
 use Rattle.std.proofs.lemmas.List.Elements.{Contains-get_or}
 use Rattle.desk_base.specs.Minute.{IsInYears, minute_text}
 use Rattle.desk_base.specs.Number.{IsNumber}
@@ -7,9 +7,10 @@ use Rattle.duty_events.specs.declared.event.Event.{Event}
 use Rattle.duty_events.specs.declared.event.Event.TheVariants as event
 use Rattle.desk_model.specs.declared.command.Cmd.{Cmd}
 use Rattle.desk_model.specs.declared.command.Cmd.TheVariants as cmd
+use Rattle.desk_model.specs.Job.{JobValue}
 use Rattle.desk_model.specs.Statement.{StatedValue}
-use Rattle.desk_model.specs.Fits.{IsEvent, IsCommand}
-use Rattle.desk_model.specs.StatedTexts.{event_fields, command_fields}
+use Rattle.desk_model.specs.Fits.{IsEvent, IsJob, IsCommand}
+use Rattle.desk_model.specs.StatedTexts.{event_fields, job_word, job_fields, command_fields}
 use Rattle.desk_text.specs.declared.form.Form.{Form}
 use Rattle.desk_text.specs.declared.form.Form.TheVariants as form
 use Rattle.desk_text.specs.declared.word.Word.{Word}
@@ -117,6 +118,17 @@ event-rows (event.RideHome t) = (12, omega arith, refl, refl)
 event-rows (event.Final t place) = (13, omega arith, refl, refl)
 event-rows (event.Other span place) = (14, omega arith, refl, refl)
 
+-- a job
+job-fit : {before : List ℕ} (job : JobValue) → IsJob job
+    → Fit (form.Number ∷ form.Craft ∷ form.Quals ∷ form.Code ∷ form.Minute ∷ form.Duty ∷ form.Limbo ∷ form.Chain ∷ []) before (job_fields job)
+job-fit job h =
+    next (job.vac, h.vac, refl) (next (job.craft, refl) (next (job.quals, h.quals, refl) (next h.place (next (job.report, h.plan.report_in, refl)
+    (next (job.duty, h.plan.some, h.plan.most, refl) (next (job.limbo, h.plan.limbo_most, refl) (next (job.chain, h.chain, refl) none)))))))
+
+job-row : (t : ℕ) (relief : Bool) (job : JobValue) → IsInYears t → IsJob job → HasRow (minute_text t ∷ job_word relief ∷ job_fields job)
+job-row t false job at h = row 23 _ (omega arith) (said {w = word.Vacancy} at (job-fit job h))
+job-row t true job at h = row 24 _ (omega arith) (said {w = word.Relief} at (job-fit job h))
+
 has-row : (t : ℕ) (command : Cmd) → IsInYears t → IsCommand command → HasRow (minute_text t ∷ command_fields command)
 has-row t (cmd.Enrol person craft home quals) at h =
     row 0 _ (omega arith) (said {w = word.Enrol} at (next (person, h.0, refl) (next (craft, refl) (next h.1 (next (quals, h.2, refl) none)))))
@@ -128,22 +140,19 @@ has-row t (cmd.MarkOn person) at h = row 5 _ (omega arith) (said {w = word.On} a
 has-row t (cmd.Qualify person quals) at h = row 6 _ (omega arith) (said {w = word.Qualify} at (next (person, h.0, refl) (next (quals, h.1, refl) none)))
 has-row t (cmd.Past person e) at h = let place = event-rows e in row place.0 _ (omega (arith, place.1)) (rw place.2 (said {w = word.Past} at (told person e h)))
 has-row t (cmd.Happened person e) at h = let place = event-rows e in row (place.0 + 8) _ (omega (arith, place.1)) (rw place.3 (said {w = word.Event} at (told person e h)))
-has-row t (cmd.Vacancy job) at h =
-    row 23 _ (omega arith) (said {w = word.Vacancy} at
-    (next (job.vac, h.vac, refl) (next (job.craft, refl) (next (job.quals, h.quals, refl) (next h.place (next (job.report, h.plan.report_in, refl)
-    (next (job.duty, h.plan.some, h.plan.most, refl) (next (job.limbo, h.plan.limbo_most, refl) (next (job.chain, h.chain, refl) none)))))))))
-has-row t (cmd.Next vac) at h = row 24 _ (omega arith) (said {w = word.Next} at (number vac h))
-has-row t (cmd.Offer vac person) at h = row 25 _ (omega arith) (said {w = word.Offer} at (numbers vac person h))
-has-row t (cmd.Accept vac person) at h = row 26 _ (omega arith) (said {w = word.Accept} at (numbers vac person h))
-has-row t (cmd.Decline vac person) at h = row 27 _ (omega arith) (said {w = word.Decline} at (numbers vac person h))
-has-row t (cmd.NoAnswer vac person) at h = row 28 _ (omega arith) (said {w = word.NoAnswer} at (numbers vac person h))
-has-row t (cmd.Withdraw vac person) at h = row 29 _ (omega arith) (said {w = word.Withdraw} at (numbers vac person h))
-has-row t (cmd.Annul vac) at h = row 30 _ (omega arith) (said {w = word.Annul} at (number vac h))
-has-row t (cmd.Drop person) at h = row 31 _ (omega arith) (said {w = word.Drop} at (number person h))
-has-row t (cmd.Hours person month) at h = row 32 _ (omega arith) (said {w = word.Hours} at (next (person, h.0, refl) (next (month, h.1, refl) none)))
-has-row t (cmd.At board place) at h = row 33 _ (omega arith) (said {w = word.At} at (next h.0 (next (place, h.1, h.2, refl) none)))
-has-row t (cmd.Explain vac person) at h = row 34 _ (omega arith) (said {w = word.Explain} at (numbers vac person h))
-has-row t (cmd.Vac vac) at h = row 35 _ (omega arith) (said {w = word.Vac} at (number vac h))
+has-row t (cmd.Vacancy job) at h = job-row t job.relief job at h
+has-row t (cmd.Next vac) at h = row 25 _ (omega arith) (said {w = word.Next} at (number vac h))
+has-row t (cmd.Offer vac person) at h = row 26 _ (omega arith) (said {w = word.Offer} at (numbers vac person h))
+has-row t (cmd.Accept vac person) at h = row 27 _ (omega arith) (said {w = word.Accept} at (numbers vac person h))
+has-row t (cmd.Decline vac person) at h = row 28 _ (omega arith) (said {w = word.Decline} at (numbers vac person h))
+has-row t (cmd.NoAnswer vac person) at h = row 29 _ (omega arith) (said {w = word.NoAnswer} at (numbers vac person h))
+has-row t (cmd.Withdraw vac person) at h = row 30 _ (omega arith) (said {w = word.Withdraw} at (numbers vac person h))
+has-row t (cmd.Annul vac) at h = row 31 _ (omega arith) (said {w = word.Annul} at (number vac h))
+has-row t (cmd.Drop person) at h = row 32 _ (omega arith) (said {w = word.Drop} at (number person h))
+has-row t (cmd.Hours person month) at h = row 33 _ (omega arith) (said {w = word.Hours} at (next (person, h.0, refl) (next (month, h.1, refl) none)))
+has-row t (cmd.At board place) at h = row 34 _ (omega arith) (said {w = word.At} at (next h.0 (next (place, h.1, h.2, refl) none)))
+has-row t (cmd.Explain vac person) at h = row 35 _ (omega arith) (said {w = word.Explain} at (numbers vac person h))
+has-row t (cmd.Vac vac) at h = row 36 _ (omega arith) (said {w = word.Vac} at (number vac h))
 
 pub StatesCommand-HasRow : (fields : List (List ℕ)) (s : StatedValue) → StatesCommand fields s → HasRow fields
 StatesCommand-HasRow fields s states = rw states.fields_are (has-row s.minute s.cmd states.valid.minute states.valid.cmd)

@@ -3,6 +3,7 @@ use Rattle.std.specs.Prelude.{◌≡◌, ℕ, List, decimal}
 use Rattle.desk_base.specs.Month.{month_text}
 use Rattle.desk_base.specs.Minute.{minute_text}
 use Rattle.desk_base.specs.Window.{WindowValue, IsWindow}
+use Rattle.desk_model.specs.declared.edition.Edition.{Edition}
 use Rattle.desk_model.specs.Journal.{opening_line}
 use Rattle.desk_model.specs.Opening.{OpeningValue, IsOpening, opening_fields}
 
@@ -17,12 +18,13 @@ pub record SpellsWindow (month months : List ℕ) (w : WindowValue) : Type 0 whe
   pub first_is : month ≡ month_text w.first
   pub months_is : months ≡ decimal w.months
 
--- the first field, the third and the fourth, and the fifth spell an opening
-pub record SpellsOpening (start month months answer : List ℕ) (o : OpeningValue) : Type 0 where
+-- the first field, the third and the fourth, and the fifth spell an opening in an edition of the rules
+pub record SpellsOpening (start month months answer : List ℕ) (edition : Edition) (o : OpeningValue) : Type 0 where
   pub valid : IsOpening o
   pub start_is : start ≡ minute_text o.start
   pub window_is : SpellsWindow month months o.window
   pub answer_is : answer ≡ decimal o.answer
+  pub edition_is : edition ≡ o.edition
 
 -- the line is this opening's
 pub record IsOpeningLine (line : List ℕ) (o : OpeningValue) : Type 0 where

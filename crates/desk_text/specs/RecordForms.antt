@@ -62,6 +62,7 @@ record_forms =
     ∷ (form.Minute ∷ form.Word word.Event ∷ form.Number ∷ form.Event event_word.Final ∷ form.Minute ∷ form.Code ∷ [])
     ∷ (form.Minute ∷ form.Word word.Event ∷ form.Number ∷ form.Event event_word.Other ∷ form.Minute ∷ form.LaterMinute ∷ form.Code ∷ [])
     ∷ (form.Minute ∷ form.Word word.Vacancy ∷ form.Number ∷ form.Craft ∷ form.Quals ∷ form.Code ∷ form.Minute ∷ form.Duty ∷ form.Limbo ∷ form.Chain ∷ [])
+    ∷ (form.Minute ∷ form.Word word.Relief ∷ form.Number ∷ form.Craft ∷ form.Quals ∷ form.Code ∷ form.Minute ∷ form.Duty ∷ form.Limbo ∷ form.Chain ∷ [])
     ∷ (form.Minute ∷ form.Word word.Next ∷ form.Number ∷ [])
     ∷ (form.Minute ∷ form.Word word.Offer ∷ form.Number ∷ form.Number ∷ [])
     ∷ (form.Minute ∷ form.Word word.Accept ∷ form.Number ∷ form.Number ∷ [])

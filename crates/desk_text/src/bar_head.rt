@@ -12,6 +12,7 @@ pub enum BarHead {
     Elsewhere,
     OtherCraft,
     Lacks,
+    Held,
     Rest,
     MoreRest,
     Undisturbed,
@@ -39,6 +40,8 @@ impl BarHead {
             Some((BarHead::OtherCraft, rest))
         } else if let Some(rest) = behind(text, b"B6 ") {
             Some((BarHead::Lacks, rest))
+        } else if let Some(rest) = behind(text, b"B8 ") {
+            Some((BarHead::Held, rest))
         } else if let Some(rest) = behind(text, b"21103(a)(3) ") {
             Some((BarHead::Rest, rest))
         } else if let Some(rest) = behind(text, b"21103(c)(4) ") {

@@ -47,7 +47,7 @@ fn put_kept(line: &mut LineText, bar: &Bar)
             put(line, b" ");
             put_number(line, u32::from(*number));
         }
-        Bar::Rest(ends) | Bar::MoreRest(ends) | Bar::Undisturbed(ends) => {
+        Bar::Held(ends) | Bar::Rest(ends) | Bar::MoreRest(ends) | Bar::Undisturbed(ends) => {
             put(line, b" ");
             put_late(line, *ends);
         }

@@ -33,7 +33,7 @@ use desk_model::{Cmd, Stated};
 /// | `off`, `on`, `drop` | person |
 /// | `qualify` | person, qualifications |
 /// | `past`, `event` | person, and an event |
-/// | `vacancy` | vacancy, craft, qualifications, place, report, duty, limbo, chain |
+/// | `vacancy`, `relief` | vacancy, craft, qualifications, place, report, duty, limbo, chain |
 /// | `next`, `annul`, `vac` | vacancy |
 /// | `offer`, `accept`, `decline`, `noanswer`, `withdraw`, `explain` | vacancy, person |
 /// | `hours` | person, month |
@@ -84,7 +84,8 @@ fn read_cmd(fields: &[&[u8]]) -> Option<Cmd>
         Word::Qualify => read_qualify(about),
         Word::Past => read_past(about),
         Word::Event => read_happened(about),
-        Word::Vacancy => read_vacancy(about),
+        Word::Vacancy => read_vacancy(about, false),
+        Word::Relief => read_vacancy(about, true),
         Word::Next => read_next(about),
         Word::Offer => read_offer(about),
         Word::Accept => read_accept(about),

@@ -34,7 +34,7 @@ fn is_written_as(stated: Stated, record: &[u8]) -> Result<bool, Fail> {
 
 #[test]
 fn records_that_are_read(rt: HostRuntime) -> Result<(), Fail> {
-    let records: [&[u8]; 61] = [
+    let records: [&[u8]; 64] = [
         b"2024-03-04 00:01,enrol,101,E,HOM,-",
         b"2024-03-04 00:01,enrol,1,C,A,0",
         b"2024-03-04 00:01,enrol,9999999,B,AWAY01,0+63",
@@ -96,6 +96,9 @@ fn records_that_are_read(rt: HostRuntime) -> Result<(), Fail> {
         b"2024-03-04 00:01,at,ABCDEF,9999",
         b"2024-03-04 00:01,vac,12",
         b"2024-03-04 00:01,vac,1",
+        b"2024-03-04 00:01,relief,5,E,-,HOM,2024-03-04 08:00,960,0,P1",
+        b"2024-03-04 00:01,relief,1,C,0+63,A,2000-01-01 00:00,1,999,P1+X1",
+        b"2024-03-04 00:01,relief,9999999,B,-,AWAY01,2099-12-31 23:59,9999,0,A+B+C+D",
     ];
     for record in records {
         let stated = read_text(record).ok_or("not read")?;

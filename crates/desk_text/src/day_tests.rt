@@ -17,7 +17,12 @@ fn fault_of(day: Result<DayFile, DayFault>) -> Option<DayFault> {
 }
 
 // A day file of this first line and so many lines after it, each the same.
-fn day_of(alloc: Global, first: &[u8], line: &[u8], count: usize) -> Result<Vec<u8>, AllocError> {
+pub fn day_of(
+    alloc: Global,
+    first: &[u8],
+    line: &[u8],
+    count: usize,
+) -> Result<Vec<u8>, AllocError> {
     let mut day = first.to_vec(alloc)?;
     for _ in 0..count {
         day.extend_from_slice(line)?;
@@ -65,7 +70,7 @@ fn next(number: u32) -> Result<Cmd, Fail> {
 #[test]
 fn day_files_and_their_faults(rt: HostRuntime) -> Result<(), Fail> {
     let alloc = rt.alloc();
-    let cases: [(&[u8], Option<DayFault>); 14] = [
+    let cases: [(&[u8], Option<DayFault>); 18] = [
         (b"", Some(DayFault::NoOpening)),
         (b"\n\r\n\n", Some(DayFault::NoOpening)),
         (b"2024-03-04 00:01,next,12\n", Some(DayFault::NoOpening)),
@@ -121,6 +126,22 @@ fn day_files_and_their_faults(rt: HostRuntime) -> Result<(), Fail> {
                 record_no: 2,
                 field: 1,
             }),
+        ),
+        (
+            b"2024-03-04 00:00,open,2024-03,1,15,2\n2024-03-04 00:01,relief,5,E,-,HOM,2024-03-04 08:00,960,0,P1\n",
+            None,
+        ),
+        (
+            b"2024-03-04 00:00,open,2024-03,1,15,1\n2024-03-04 00:01,next,12\n",
+            Some(DayFault::NoOpening),
+        ),
+        (
+            b"2024-03-04 00:00,open,2024-03,1,15,2\n2024-03-04 00:00,open,2024-03,1,15,2\n",
+            wrong_at(2, 2),
+        ),
+        (
+            b"2024-03-04 00:00,open,2024-03,1,15,2\n2024-03-04 00:01,relief,5,E,-,HOM,2024-03-04 08:00,960,0\n",
+            wrong_at(2, 10),
         ),
     ];
     for (text, fault) in cases {

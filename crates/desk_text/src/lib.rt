@@ -75,6 +75,8 @@ mod command_tests;
 #[cfg(test)]
 mod day_tests;
 #[cfg(test)]
+mod edition_tests;
+#[cfg(test)]
 mod read_line_tests;
 #[cfg(test)]
 mod read_reply_tests;
@@ -82,6 +84,8 @@ mod read_reply_tests;
 mod refused_line_tests;
 #[cfg(test)]
 mod refused_tests;
+#[cfg(test)]
+mod relief_tests;
 #[cfg(test)]
 mod reply_tests;
 #[cfg(test)]

@@ -1,9 +1,11 @@
 //! The journal's first line.
-ghost use Rattle.std.specs.Prelude.{◌≡◌};
+ghost use Rattle.std.specs.Prelude.{◌≡◌, ◌≤◌, length};
 ghost use Rattle.desk_model.specs.Journal.{opening_line};
+ghost use Rattle.desk_model.specs.Opening.{edition_fields};
+ghost use Rattle.desk_text.specs.Marked.{marked};
 
 use crate::line_text::{LineText, put, put_number};
-use desk_model::Opening;
+use desk_model::{Edition, Opening};
 
 /// The opening's line of the journal.
 pub fn write_opening(opening: &Opening) -> LineText
@@ -18,6 +20,18 @@ pub fn write_opening(opening: &Opening) -> LineText
     put_number(&mut line, u32::from(window.months()));
     put(&mut line, b",");
     put_number(&mut line, u32::from(opening.answer()));
+    put(&mut line, edition_text(opening.edition()));
     put(&mut line, b"\n");
     line
+}
+
+// What names the edition behind the fields that both have.
+fn edition_text(edition: Edition) -> &'static [u8]
+    ensures text { result.now ≡ marked (edition_fields edition) }
+    ensures len { length result.now ≤ 2 }
+{
+    match edition {
+        Edition::One => b"",
+        Edition::Two => b",2",
+    }
 }

@@ -32,7 +32,7 @@ pub fn is_answer(text: &[u8]) -> Result<bool, Fail> {
 
 #[test]
 fn replies_that_keep_nothing(rt: HostRuntime) -> Result<(), Fail> {
-    let replies: [(&[u8], Reply); 16] = [
+    let replies: [(&[u8], Reply); 18] = [
         (b"done", Reply::Done),
         (b"outside window", Reply::OutsideWindow),
         (b"unknown person", Reply::UnknownPerson),
@@ -42,6 +42,8 @@ fn replies_that_keep_nothing(rt: HostRuntime) -> Result<(), Fail> {
         (b"not listed", Reply::NotListed),
         (b"past closed", Reply::PastClosed),
         (b"plan too long 21103(a)(2)", Reply::PlanTooLong),
+        (b"plan too long 21103(d)", Reply::ReliefTooLong),
+        (b"not in edition 1", Reply::OtherEdition),
         (b"no offer", Reply::NoOffer),
         (b"not assigned", Reply::NotAssigned),
         (b"persons full", Reply::PersonsFull),
@@ -163,7 +165,7 @@ fn denials(rt: HostRuntime) -> Result<(), Fail> {
     let late = Minute::new(68_374_080).ok_or("no minute")?;
     let month = Month::read(b"2024-03").ok_or("no month")?;
     let (run, need, total) = (11, 4_320, 16_561);
-    let bars: [(&[u8], Bar); 15] = [
+    let bars: [(&[u8], Bar); 17] = [
         (b"denied B1", Bar::MarkedOff),
         (b"denied B2 tour", Bar::InTour),
         (b"denied B2 assigned 9999999", Bar::Assigned(vac)),
@@ -172,6 +174,8 @@ fn denials(rt: HostRuntime) -> Result<(), Fail> {
         (b"denied B5 C", Bar::OtherCraft(Craft::C)),
         (b"denied B6 63", Bar::Lacks(63)),
         (b"denied B7", Bar::Answered),
+        (b"denied B8 2024-03-05 06:30", Bar::Held(ends)),
+        (b"denied B8 68374080", Bar::Held(late)),
         (b"denied 21103(a)(3) 2024-03-05 06:30", Bar::Rest(ends)),
         (b"denied 21103(c)(4) 68374080", Bar::MoreRest(late)),
         (b"denied 21103(e) 2024-03-05 06:30", Bar::Undisturbed(ends)),

@@ -12,7 +12,7 @@ pub fn record_rows() -> &'static [&'static [Form]]
     &RECORD_FORMS
 }
 
-const RECORD_FORMS: [&[Form]; 36] = [
+const RECORD_FORMS: [&[Form]; 37] = [
     &[
         Form::Minute,
         Form::Word(Word::Enrol),
@@ -173,6 +173,18 @@ const RECORD_FORMS: [&[Form]; 36] = [
     &[
         Form::Minute,
         Form::Word(Word::Vacancy),
+        Form::Number,
+        Form::Craft,
+        Form::Quals,
+        Form::Code,
+        Form::Minute,
+        Form::Duty,
+        Form::Limbo,
+        Form::Chain,
+    ],
+    &[
+        Form::Minute,
+        Form::Word(Word::Relief),
         Form::Number,
         Form::Craft,
         Form::Quals,

@@ -5,7 +5,7 @@ use std::test::Fail;
 
 #[test]
 fn texts_of_no_reply(rt: HostRuntime) -> Result<(), Fail> {
-    let texts: [&[u8]; 62] = [
+    let texts: [&[u8]; 88] = [
         b"",
         b" ",
         b"done ",
@@ -68,6 +68,32 @@ fn texts_of_no_reply(rt: HostRuntime) -> Result<(), Fail> {
         b"denied 21103(a)(4)(A) 6",
         b"denied 21103(a)(1) 2100-01 16561",
         b"denied 21103(a)(1) 2024-03 016561",
+        b"plan too long",
+        b"plan too long 21103",
+        b"plan too long 21103(a)",
+        b"plan too long 21103(d) ",
+        b"plan too long 21103(d)(2)",
+        b"plan too long 21103(a)(2)(d)",
+        b"plan too long 21103(D)",
+        b"not",
+        b"not in edition",
+        b"not in edition ",
+        b"not in edition 1 ",
+        b"not in edition 01",
+        b"not in edition 2",
+        b"not in edition 1 1",
+        b"denied B8 ",
+        b"denied B8 2024-03-04",
+        b"denied B8  2024-03-04 08:10",
+        b"denied B8 2024-03-04 08:10 ",
+        b"denied B82024-03-04 08:10",
+        b"denied B8 2100-01-01 00:00",
+        b"denied B8 28492440",
+        b"denied B8 68374079",
+        b"denied B8 268435456",
+        b"denied B8 068374080",
+        b"denied B9 2024-03-04 08:10",
+        b"B8 2024-03-04 08:10",
     ];
     for text in texts {
         assert!(rt; !is_answer(text)?);
@@ -78,7 +104,7 @@ fn texts_of_no_reply(rt: HostRuntime) -> Result<(), Fail> {
 #[test]
 fn lines_of_no_entry(rt: HostRuntime) -> Result<(), Fail> {
     assert!(rt; read_entry(b"63|2024-03-04 00:01,next,12|2024-03-04 00:02|done\n").is_some());
-    let lines: [&[u8]; 21] = [
+    let lines: [&[u8]; 25] = [
         b"",
         b"\n",
         b"0|2024-03-04 00:01,next,12|2024-03-04 00:02|done",
@@ -100,6 +126,10 @@ fn lines_of_no_entry(rt: HostRuntime) -> Result<(), Fail> {
         b"0|2024-03-04 00:01,qualify,101,+0|2024-03-04 00:02|done\n",
         b"0|2024-03-04 00:01,next,12|2100-01-01 00:00|done\n",
         b"0|2024-03-04 00:01,next,1,2,3,4,5,6,7,8,9,10,11,12|2024-03-04 00:02|done\n",
+        b"0|2024-03-04 00:01,relief,5,E,-,HOM,2024-03-04 08:00,960,0|2024-03-04 00:02|done\n",
+        b"0|2024-03-04 00:01,relief,5,E,-,HOM,2024-03-04 08:00,960,0,P1,|2024-03-04 00:02|done\n",
+        b"0|2024-03-04 00:01,relief,05,E,-,HOM,2024-03-04 08:00,960,0,P1|2024-03-04 00:02|done\n",
+        b"0|2024-03-04 00:01,reliefs,5,E,-,HOM,2024-03-04 08:00,960,0,P1|2024-03-04 00:02|done\n",
     ];
     for line in lines {
         assert!(rt; read_entry(line).is_none());
@@ -110,7 +140,7 @@ fn lines_of_no_entry(rt: HostRuntime) -> Result<(), Fail> {
 #[test]
 fn lines_of_no_opening(rt: HostRuntime) -> Result<(), Fail> {
     assert!(rt; read_opening(b"2099-12-31 23:59,open,2098-01,24,60\n").is_some());
-    let lines: [&[u8]; 19] = [
+    let lines: [&[u8]; 40] = [
         b"",
         b"\n",
         b"2024-03-01 00:00,open,2024-03,2,15",
@@ -130,6 +160,27 @@ fn lines_of_no_opening(rt: HostRuntime) -> Result<(), Fail> {
         b"2024-02-29 23:59,open,2024-03,2,15\n",
         b"2099-12-01 00:00,open,2099-12,2,15\n",
         b"0|2024-03-04 00:01,next,12|2024-03-04 00:02|done\n",
+        b"2024-03-01 00:00,open,2024-03,2,15,1\n",
+        b"2024-03-01 00:00,open,2024-03,2,15,02\n",
+        b"2024-03-01 00:00,open,2024-03,2,15, 2\n",
+        b"2024-03-01 00:00,open,2024-03,2,15,2 \n",
+        b"2024-03-01 00:00,open,2024-03,2,15,2,\n",
+        b"2024-03-01 00:00,open,2024-03,2,15,2,2\n",
+        b"2024-03-01 00:00,open,2024-03,2,15,,2\n",
+        b"2024-03-01 00:00,open,2024-03,2,15,3\n",
+        b"2024-03-01 00:00,open,2024-03,2,15,0\n",
+        b"2024-03-01 00:00,open,2024-03,2,15,22\n",
+        b"2024-03-01 00:00,open,2024-03,2,15,+2\n",
+        b"2024-03-01 00:00,open,2024-03,2,15,-\n",
+        b"2024-03-01 00:00,open,2024-03,2,15,\"2\"\n",
+        b"2024-03-01 00:00,open,2024-03,2,15,2,2,2,2,2,2,2\n",
+        b"2024-03-01 00:00,open,2024-03,2,15,2,2,2,2,2,2,2,2\n",
+        b"2024-03-01 00:00,open,2024-03,2,15,2,2,2,2,2,2,2,2,2\n",
+        b"2024-03-01 00:00,open,2024-03,2,15,2",
+        b"2024-03-01 00:00,open,2024-03,2,15,2\r\n",
+        b"2024-03-01 00:00,open,2024-03,2,61,2\n",
+        b"2024-05-01 00:00,open,2024-03,2,15,2\n",
+        b"2024-03-01 00:00,open,2024-03,2,,2\n",
     ];
     for line in lines {
         assert!(rt; read_opening(line).is_none());

@@ -28,6 +28,8 @@ pub fn put_reply(line: &mut LineText, reply: &Reply)
         Reply::MembersFull => put(line, b"members full"),
         Reply::VacanciesFull => put(line, b"vacancies full"),
         Reply::PlanTooLong => put(line, b"plan too long 21103(a)(2)"),
+        Reply::ReliefTooLong => put(line, b"plan too long 21103(d)"),
+        Reply::OtherEdition => put(line, b"not in edition 1"),
         Reply::UnknownVacancy => put(line, b"unknown vacancy"),
         Reply::NotListed => put(line, b"not listed"),
         Reply::NoOffer => put(line, b"no offer"),

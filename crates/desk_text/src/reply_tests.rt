@@ -44,6 +44,10 @@ fn lines_of_replies(rt: HostRuntime) -> Result<(), Fail> {
     assert!(rt; reply_is(lapsed, line)?);
     let line = b"0|2024-03-04 00:01,next,12|2024-03-04 00:02|plan too long 21103(a)(2)\n";
     assert!(rt; reply_is(Reply::PlanTooLong, line)?);
+    let line = b"0|2024-03-04 00:01,next,12|2024-03-04 00:02|plan too long 21103(d)\n";
+    assert!(rt; reply_is(Reply::ReliefTooLong, line)?);
+    let line = b"0|2024-03-04 00:01,next,12|2024-03-04 00:02|not in edition 1\n";
+    assert!(rt; reply_is(Reply::OtherEdition, line)?);
     Ok(())
 }
 
@@ -143,6 +147,9 @@ fn texts_of_bars(rt: HostRuntime) -> Result<(), Fail> {
     assert!(rt; denial_is(Bar::OtherCraft(Craft::C), b"|denied B5 C\n")?);
     assert!(rt; denial_is(Bar::Lacks(63), b"|denied B6 63\n")?);
     assert!(rt; denial_is(Bar::Answered, b"|denied B7\n")?);
+    let until = minute(b"2024-03-04 08:10")?;
+    assert!(rt; denial_is(Bar::Held(until), b"|denied B8 2024-03-04 08:10\n")?);
+    assert!(rt; denial_is(Bar::Held(late()?), b"|denied B8 68374080\n")?);
     let clear = Reply::Clear {
         board: place,
         position: 500,

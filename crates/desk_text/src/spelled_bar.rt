@@ -32,6 +32,7 @@ fn read_kept(head: BarHead, kept: &[u8]) -> Option<Bar>
         BarHead::Elsewhere => Some(Bar::Elsewhere(Code::read(kept)?)),
         BarHead::OtherCraft => Some(Bar::OtherCraft(Craft::read(kept)?)),
         BarHead::Lacks => Some(Bar::Lacks(read_qualification(kept)?)),
+        BarHead::Held => Some(Bar::Held(read_late(kept)?)),
         BarHead::Rest => Some(Bar::Rest(read_late(kept)?)),
         BarHead::MoreRest => Some(Bar::MoreRest(read_late(kept)?)),
         BarHead::Undisturbed => Some(Bar::Undisturbed(read_late(kept)?)),

@@ -1,8 +1,9 @@
 //! Commands about a board or a vacancy, read from the fields behind their word.
-ghost use Rattle.std.specs.Prelude.{◌≡◌, IfSome, map};
+ghost use Rattle.std.specs.Prelude.{◌≡◌, ◌∷◌, IfSome, map};
 ghost use Rattle.desk_model.specs.declared.command.Cmd.{Cmd as CmdValue};
 ghost use Rattle.desk_text.specs.declared.word.Word.TheVariants as word;
-ghost use Rattle.desk_text.specs.Spelled.{Spells};
+ghost use Rattle.desk_model.specs.StatedTexts.{job_word};
+ghost use Rattle.desk_text.specs.Spelled.{Spells, SpellsCommand};
 
 use crate::field::{read_count, read_extra, read_place, read_vac};
 use desk_base::{Code, Minute};
@@ -25,10 +26,12 @@ pub fn read_board(about: &[&[u8]]) -> Option<Cmd>
     })
 }
 
-/// Vacancy, craft, qualifications, place, report, duty, limbo and chain.
-pub fn read_vacancy(about: &[&[u8]]) -> Option<Cmd>
-    ensures some { IfSome result (Spells word.Vacancy (map (λ field. field.now) about.now)) }
-    ensures only { (cmd : CmdValue) → Spells word.Vacancy (map (λ field. field.now) about.now) cmd
+/// Vacancy, craft, qualifications, place, report, duty, limbo and chain, of a relief vacancy or of another.
+pub fn read_vacancy(about: &[&[u8]], relief: bool) -> Option<Cmd>
+    ensures some { IfSome result (SpellsCommand
+        (job_word relief ∷ map (λ field. field.now) about.now)) }
+    ensures only { (cmd : CmdValue)
+        → SpellsCommand (job_word relief ∷ map (λ field. field.now) about.now) cmd
         → result ≡ Some cmd }
 {
     let [vac, craft, quals, place, report, duty, limbo, chain] = about else {
@@ -43,6 +46,7 @@ pub fn read_vacancy(about: &[&[u8]]) -> Option<Cmd>
         read_count(duty)?,
         read_count(limbo)?,
         Chain::read(chain)?,
+        relief,
     )?;
     Some(Cmd::Vacancy(job))
 }

@@ -118,6 +118,10 @@ fn read_plain(text: &[u8]) -> Option<Reply>
         Some(Reply::PastClosed)
     } else if text == b"plan too long 21103(a)(2)".as_slice() {
         Some(Reply::PlanTooLong)
+    } else if text == b"plan too long 21103(d)".as_slice() {
+        Some(Reply::ReliefTooLong)
+    } else if text == b"not in edition 1".as_slice() {
+        Some(Reply::OtherEdition)
     } else if text == b"no offer".as_slice() {
         Some(Reply::NoOffer)
     } else if text == b"not assigned".as_slice() {

@@ -2,7 +2,7 @@
 ghost use Rattle.std.specs.Prelude.{◌≡◌, ◌≤◌, ◌+◌, [], ◌∷◌, ◌++◌, length, decimal};
 ghost use Rattle.std.specs.List.{join_with_byte};
 ghost use Rattle.arrayvec.specs.ArrayVec.{array_vec_len};
-ghost use Rattle.desk_model.specs.StatedTexts.{command_fields, stated_fields, kind_text, event_fields, job_fields};
+ghost use Rattle.desk_model.specs.StatedTexts.{command_fields, stated_fields, kind_text, event_fields, job_word, job_fields};
 ghost use Rattle.desk_text.specs.Marked.{marked};
 
 use crate::line_text::{LineText, put, put_field, put_number_field};
@@ -71,7 +71,7 @@ fn put_command(line: &mut LineText, cmd: &Cmd)
             put_event(line, event);
         }
         Cmd::Vacancy(job) => {
-            put_field(line, b"vacancy");
+            put_field(line, job_word(job.is_relief()));
             put_job(line, job);
         }
         Cmd::Next { vac } => put_about_vac(line, b"next", *vac),
@@ -184,6 +184,14 @@ pub fn kind_text(kind: &Kind) -> &'static [u8]
         Kind::P => b"P",
         Kind::O => b"O",
     }
+}
+
+// The word of a job's record.
+fn job_word(relief: bool) -> &'static [u8]
+    ensures text { result.now ≡ job_word relief }
+    ensures len { length result.now ≤ 7 }
+{
+    if relief { b"relief" } else { b"vacancy" }
 }
 
 // Adds each field of the job behind a comma.

@@ -75,19 +75,30 @@ fn lines_of_commands(rt: HostRuntime) -> Result<(), Fail> {
 
 #[test]
 fn the_line_of_a_job(rt: HostRuntime) -> Result<(), Fail> {
-    let job = Job::new(
-        VacNo::new(12).ok_or("no vacancy")?,
-        Craft::E,
-        Quals::read(b"3+40").ok_or("no set")?,
-        code(b"HOM")?,
-        minute(b"2024-03-04 08:00")?,
-        600,
-        0,
-        Chain::read(b"P1+X1").ok_or("no chain")?,
-    );
-    let line =
-        b"0|2024-03-04 00:01,vacancy,12,E,3+40,HOM,2024-03-04 08:00,600,0,P1+X1|2024-03-04 00:02|done\n";
-    assert!(rt; line_is(0, Cmd::Vacancy(job.ok_or("no job")?), Reply::Done, line)?);
+    let lines: [(bool, &[u8]); 2] = [
+        (
+            false,
+            b"0|2024-03-04 00:01,vacancy,12,E,3+40,HOM,2024-03-04 08:00,600,0,P1+X1|2024-03-04 00:02|done\n",
+        ),
+        (
+            true,
+            b"0|2024-03-04 00:01,relief,12,E,3+40,HOM,2024-03-04 08:00,600,0,P1+X1|2024-03-04 00:02|done\n",
+        ),
+    ];
+    for (relief, line) in lines {
+        let job = Job::new(
+            VacNo::new(12).ok_or("no vacancy")?,
+            Craft::E,
+            Quals::read(b"3+40").ok_or("no set")?,
+            code(b"HOM")?,
+            minute(b"2024-03-04 08:00")?,
+            600,
+            0,
+            Chain::read(b"P1+X1").ok_or("no chain")?,
+            relief,
+        );
+        assert!(rt; line_is(0, Cmd::Vacancy(job.ok_or("no job")?), Reply::Done, line)?);
+    }
     Ok(())
 }
 

@@ -15,6 +15,7 @@ pub enum Word {
     Past,
     Event,
     Vacancy,
+    Relief,
     Next,
     Offer,
     Accept,
@@ -55,6 +56,8 @@ impl Word {
             Some(Word::Event)
         } else if text == b"vacancy".as_slice() {
             Some(Word::Vacancy)
+        } else if text == b"relief".as_slice() {
+            Some(Word::Relief)
         } else if text == b"next".as_slice() {
             Some(Word::Next)
         } else if text == b"offer".as_slice() {

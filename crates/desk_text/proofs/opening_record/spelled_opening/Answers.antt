@@ -19,5 +19,5 @@ returns-clause-only c = λ opening spells.
     let start : c.in_ok-start.start ≡ opening.start = cc in
     let window : c.in_ok-window.window ≡ opening.window = cc in
     let answer : c.in_ok-answer.answer ≡ opening.answer = cc in
-    let new : SomeIff c.new.result (IsOpening opening) opening = rw (start, window, answer) at c.new.ensures in
+    let new : SomeIff c.new.result (IsOpening opening) opening = rw (start, window, answer, spells.edition_is) at c.new.ensures in
     SomeIff-yes c.new.result (IsOpening opening) opening new spells.valid

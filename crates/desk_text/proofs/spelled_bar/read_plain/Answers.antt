@@ -9,6 +9,7 @@ returns-else-eq-3-clause-only c none (bar.OnOffer v) spells = absurd (none bar_h
 returns-else-eq-3-clause-only c none (bar.Elsewhere p) spells = absurd (none bar_head.Elsewhere _ spells.text_is)
 returns-else-eq-3-clause-only c none (bar.OtherCraft k) spells = absurd (none bar_head.OtherCraft _ spells.text_is)
 returns-else-eq-3-clause-only c none (bar.Lacks n) spells = absurd (none bar_head.Lacks _ spells.text_is)
+returns-else-eq-3-clause-only c none (bar.Held t) spells = absurd (none bar_head.Held _ spells.text_is)
 returns-else-eq-3-clause-only c none (bar.Rest t) spells = absurd (none bar_head.Rest _ spells.text_is)
 returns-else-eq-3-clause-only c none (bar.MoreRest t) spells = absurd (none bar_head.MoreRest _ spells.text_is)
 returns-else-eq-3-clause-only c none (bar.Undisturbed t) spells = absurd (none bar_head.Undisturbed _ spells.text_is)

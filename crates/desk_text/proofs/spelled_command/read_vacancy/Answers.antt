@@ -7,22 +7,22 @@ use Rattle.desk_text.proofs.spelled_command.read_vacancy.Goals as goal
 
 pub returns-in_err-read_count-clause-only : goal.returns-in_err-read_count-clause-only
 returns-in_err-read_count-clause-only c = λ command spells.
-    let v = vacancy _ command spells in
+    let v = vacancy _ _ command spells in
     let none = c.in_err-read_count.ensures.only v.job.duty (omega (arith, v.job_in.plan.most)) (field_at _ _ 5 _ v.fields_are (omega (arith, c.in-len8.len_at_least))) in cc
 
 pub returns-in_err-read_count-2-clause-only : goal.returns-in_err-read_count-2-clause-only
 returns-in_err-read_count-2-clause-only c = λ command spells.
-    let v = vacancy _ command spells in
+    let v = vacancy _ _ command spells in
     let none = c.in_err-read_count-2.ensures.only v.job.limbo (omega (arith, v.job_in.plan.limbo_most)) (field_at _ _ 6 _ v.fields_are (omega (arith, c.in-len8.len_at_least))) in cc
 
 pub returns-in_err-read-5-clause-only : goal.returns-in_err-read-5-clause-only
 returns-in_err-read-5-clause-only c = λ command spells.
-    let v = vacancy _ command spells in
+    let v = vacancy _ _ command spells in
     let none = c.in_err-read-5.ensures.only v.job.chain v.job_in.chain (field_at _ _ 7 _ v.fields_are (omega (arith, c.in-len8.len_at_least))) in cc
 
 pub returns-in_err-job-clause-only : goal.returns-in_err-job-clause-only
 returns-in_err-job-clause-only c = λ command spells.
-    let v = vacancy _ command spells in
+    let v = vacancy _ _ command spells in
     let report = same _ _ (c.in_ok-read-4.ensures.only v.job.report v.job_in.plan.report_in (field_at _ _ 4 _ v.fields_are (omega (arith, c.in-len8.len_at_least)))) in
     let duty = same _ _ (c.in_ok-read_count.ensures.only v.job.duty (omega (arith, v.job_in.plan.most)) (field_at _ _ 5 _ v.fields_are (omega (arith, c.in-len8.len_at_least)))) in
     let limbo = same _ _ (c.in_ok-read_count-2.ensures.only v.job.limbo (omega (arith, v.job_in.plan.limbo_most)) (field_at _ _ 6 _ v.fields_are (omega (arith, c.in-len8.len_at_least)))) in
@@ -34,7 +34,7 @@ returns-clause-some c =
     let quals : c.in_ok-read-2.field-0 < 2 ^ 64 = search rules in
     let len : length c.args.about.now ≡ 8 = omega (arith, c.in-len8.len_at_least, c.in-len8.len_below) in
     let d : Bor (List ℕ) = record { ref_ptr = (0, 0); now = [] } in
-    let spells : SpellsJob c.args.about.now d (job_of c.in_ok-read_vac.field-0 c.in_ok-read.field-0 c.in_ok-read-2.field-0 c.in_ok-read-3.field-0 c.in_ok-read-4.field-0 c.in_ok-read_count.field-0 c.in_ok-read_count-2.field-0 c.in_ok-read-5.field-0) = record {
+    let spells : SpellsJob c.args.about.now d (job_of c.in_ok-read_vac.field-0 c.in_ok-read.field-0 c.in_ok-read-2.field-0 c.in_ok-read-3.field-0 c.in_ok-read-4.field-0 c.in_ok-read_count.field-0 c.in_ok-read_count-2.field-0 c.in_ok-read-5.field-0 c.args.relief) = record {
       valid = record { vac = c.in_ok-read_vac.ensures.some.0; quals = quals; place = subst IsCode (sym c.in_ok-read-3.ensures.1) c.in_ok-read-3.ensures.0; plan = c.in_ok-job.ensures.0; chain = c.in_ok-read-5.ensures.some.0 };
       vac_is = c.in_ok-read_vac.ensures.some.1;
       craft_is = c.in_ok-read.ensures.some;
@@ -45,11 +45,11 @@ returns-clause-some c =
       limbo_is = c.in_ok-read_count-2.ensures.some;
       chain_is = c.in_ok-read-5.ensures.some.1;
     } in
-    vacancy-spelled c.args.about.now d c.in_ok-job.job len (subst (SpellsJob c.args.about.now d) (sym c.in_ok-job.ensures.1) spells)
+    vacancy-spelled c.args.relief c.args.about.now d c.in_ok-job.job len (ap (λ job. job.relief) (sym c.in_ok-job.ensures.1)) (subst (SpellsJob c.args.about.now d) (sym c.in_ok-job.ensures.1) spells)
 
 pub returns-clause-only : goal.returns-clause-only
 returns-clause-only c = λ command spells.
-    let v = vacancy _ command spells in
+    let v = vacancy _ _ command spells in
     let vac = same _ _ (c.in_ok-read_vac.ensures.only v.job.vac v.job_in.vac (field_at _ _ 0 _ v.fields_are (omega (arith, c.in-len8.len_at_least)))) in
     let craft = same _ _ (c.in_ok-read.ensures.only v.job.craft (field_at _ _ 1 _ v.fields_are (omega (arith, c.in-len8.len_at_least)))) in
     let quals = same _ _ (c.in_ok-read-2.ensures.only v.job.quals v.job_in.quals (field_at _ _ 2 _ v.fields_are (omega (arith, c.in-len8.len_at_least)))) in
@@ -58,4 +58,4 @@ returns-clause-only c = λ command spells.
     let duty = same _ _ (c.in_ok-read_count.ensures.only v.job.duty (omega (arith, v.job_in.plan.most)) (field_at _ _ 5 _ v.fields_are (omega (arith, c.in-len8.len_at_least)))) in
     let limbo = same _ _ (c.in_ok-read_count-2.ensures.only v.job.limbo (omega (arith, v.job_in.plan.limbo_most)) (field_at _ _ 6 _ v.fields_are (omega (arith, c.in-len8.len_at_least)))) in
     let chain = same _ _ (c.in_ok-read-5.ensures.only v.job.chain v.job_in.chain (field_at _ _ 7 _ v.fields_are (omega (arith, c.in-len8.len_at_least)))) in
-    ap (λ job. Some (cmd.Vacancy job)) (c.in_ok-job.ensures.1 ∙ job-of v.job _ _ _ _ _ _ _ _ vac craft quals place report duty limbo chain) ∙ ap Some (sym v.is)
+    ap (λ job. Some (cmd.Vacancy job)) (c.in_ok-job.ensures.1 ∙ job-of v.job _ _ _ _ _ _ _ _ _ vac craft quals place report duty limbo chain v.relief_is) ∙ ap Some (sym v.is)
