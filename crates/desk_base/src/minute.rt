@@ -5,9 +5,9 @@ ghost use Rattle.desk_base.specs.Minute.{IsInYears, is_in_years, minute_text};
 ghost use Rattle.desk_base.specs.Civil.{IsMinuteAt, civil_text};
 ghost use Rattle.jiff_core.specs.declared.civil.date.Date.{Date};
 
-use crate::Month;
-use crate::civil::day_number;
+use crate::civil::date_of;
 use crate::digits::{digits_of, number_of};
+use crate::{Day, Month};
 use std::marker::Model;
 
 /// The first minute of the years 2000 to 2099: 2000-01-01 00:00.
@@ -87,22 +87,39 @@ impl Minute {
         ensures only { (minute : ℕ) → IsInYears minute → text.now ≡ minute_text minute
             → result ≡ Some minute }
     {
-        let [y1, y2, y3, y4, _, m1, m2, _, d1, d2, _, h1, h2, _, p1, p2] = text else {
+        let [
+            _,
+            _,
+            _,
+            _,
+            _,
+            _,
+            _,
+            b'-',
+            d1,
+            d2,
+            b' ',
+            h1,
+            h2,
+            b':',
+            p1,
+            p2,
+        ] = text
+        else {
             return None;
         };
-        let year = 100 * u32::from(number_of(*y1, *y2)) + u32::from(number_of(*y3, *y4));
-        let hour = number_of(*h1, *h2);
-        let past = number_of(*p1, *p2);
+        let month = Month::read(&text[..7])?;
+        let day = number_of(*d1, *d2)?;
+        let hour = number_of(*h1, *h2)?;
+        let past = number_of(*p1, *p2)?;
+        if day < 1 || day > month.days() {
+            return None;
+        }
         if hour > 23 || past > 59 {
             return None;
         }
-        let day = day_number(year, number_of(*m1, *m2), number_of(*d1, *d2))?;
-        let minute = Minute(1440 * u64::from(day) + u64::from(60 * hour + past));
-        if minute.write().as_slice() == text {
-            Some(minute)
-        } else {
-            None
-        }
+        let time = 60 * u64::from(hour) + u64::from(past);
+        Some(month.first().after(1440 * u64::from(day - 1) + time))
     }
 
     /// The text `YYYY-MM-DD HH:MM` of the minute: its civil date and time of day.
@@ -111,11 +128,10 @@ impl Minute {
         ensures civil { (date : Date) (hour past : ℕ) → IsMinuteAt self date hour past
             → result ≡ civil_text date hour past }
     {
-        let month = Month::of(self);
-        let day = self.0 / 1440 - month.first().0 / 1440 + 1;
+        let date = date_of(Day::of(self).number());
         let time = self.0 % 1440;
-        let [y1, y2, y3, y4, _, m1, m2] = month.write();
-        let [d1, d2] = digits_of(day as u8);
+        let [y1, y2, y3, y4, _, m1, m2] = Month::at(date).write();
+        let [d1, d2] = digits_of(date.day() as u8);
         let [h1, h2] = digits_of((time / 60) as u8);
         let [p1, p2] = digits_of((time % 60) as u8);
         [
