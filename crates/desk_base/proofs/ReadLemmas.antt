@@ -50,26 +50,32 @@ is_month_text text month has =
     rest_is 7 0 text has.len ∙ same_month has.century has.year has.mark has.place
 
 -- the bytes of a minute's text behind those of its month
-pub record HasMinute (text : List ℕ) (place hour past : ℕ) : Type 0 where
-  pub len : length text ≡ 16
-  pub mark : get_or text 7 0 ≡ 45
-  pub day : pair text 8 ≡ two_digits place
-  pub blank : get_or text 10 0 ≡ 32
-  pub hours : pair text 11 ≡ two_digits hour
-  pub colon : get_or text 13 0 ≡ 58
-  pub pasts : pair text 14 ≡ two_digits past
+pub record HasTime (rest : List ℕ) (place hour past : ℕ) : Type 0 where
+  pub len : length rest ≡ 9
+  pub mark : get_or rest 0 0 ≡ 45
+  pub day : pair rest 1 ≡ two_digits place
+  pub blank : get_or rest 3 0 ≡ 32
+  pub hours : pair rest 4 ≡ two_digits hour
+  pub colon : get_or rest 6 0 ≡ 58
+  pub pasts : pair rest 7 ≡ two_digits past
 
-pub has_minute : (text : List ℕ) (minute : ℕ) → text ≡ minute_text minute → HasMinute text (place_in_month (day_of minute)) (minute % 1440 / 60) (minute % 1440 % 60)
+pub has_time : (text rest : List ℕ) (minute : ℕ) → rest ≡ drop 7 text → text ≡ minute_text minute → HasTime rest (place_in_month (day_of minute)) (minute % 1440 / 60) (minute % 1440 % 60)
 unfolding minute_text day_text month_text
-has_minute text minute e = record {
-  len = ap length e;
-  mark = ap (λ t. get_or t 7 0) e;
-  day = ap (λ t. pair t 8) e;
-  blank = ap (λ t. get_or t 10 0) e;
-  hours = ap (λ t. pair t 11) e;
-  colon = ap (λ t. get_or t 13 0) e;
-  pasts = ap (λ t. pair t 14) e;
-}
+has_time text rest minute behind e =
+    let whole = behind ∙ ap (drop 7) e in
+    record {
+      len = ap length whole;
+      mark = ap (λ r. get_or r 0 0) whole;
+      day = ap (λ r. pair r 1) whole;
+      blank = ap (λ r. get_or r 3 0) whole;
+      hours = ap (λ r. pair r 4) whole;
+      colon = ap (λ r. get_or r 6 0) whole;
+      pasts = ap (λ r. pair r 7) whole;
+    }
+
+pub length-minute : (text : List ℕ) (minute : ℕ) → text ≡ minute_text minute → length text ≡ 16
+unfolding minute_text day_text month_text
+length-minute text minute e = ap length e
 
 pub month_text-in : (text : List ℕ) (minute : ℕ) → text ≡ minute_text minute → take 7 text ≡ month_text (month_of minute)
 unfolding minute_text day_text month_text
@@ -100,12 +106,13 @@ unfolding minute_text day_text month_text
 minute_text-parts minute month day hour past same place hours pasts = rw (place, same, hours, pasts) refl
 
 -- and its text has these numbers
-pub is_minute_text : (text : List ℕ) (month day hour past : ℕ) → IsTime month day hour past → take 7 text ≡ month_text month → HasMinute text day hour past → text ≡ minute_text (minute_at month day hour past)
+pub is_minute_text : (text : List ℕ) (month day hour past : ℕ) → IsTime month day hour past → take 7 text ≡ month_text month → HasTime (drop 7 text) day hour past → text ≡ minute_text (minute_at month day hour past)
 is_minute_text text month day hour past is front has =
     let minute = minute_at month day hour past in
     let same : month_of minute ≡ month = month_of_day-unique (day_of minute) month (is_month_at month day hour past is) in
     let place : place_in_month (day_of minute) ≡ day = rw same (omega (arith, is.first, is.hours, is.pasts)) in
     let parts = minute_text-parts minute month day hour past same place (omega (arith, is.hours, is.pasts)) (omega (arith, is.hours, is.pasts)) in
-    let rest : drop 7 text ≡ get_or text 7 0 ∷ pair text 8 ++ get_or text 10 0 ∷ pair text 11 ++ get_or text 13 0 ∷ pair text 14 = rest_is 9 7 text has.len in
-    sym (take-append-drop 7 text) ∙ ap (λ r. take 7 text ++ r) rest
+    let bytes : drop 7 text ≡ get_or (drop 7 text) 0 0 ∷ pair (drop 7 text) 1 ++ get_or (drop 7 text) 3 0 ∷ pair (drop 7 text) 4 ++ get_or (drop 7 text) 6 0 ∷ pair (drop 7 text) 7 =
+    rest_is 9 0 (drop 7 text) has.len in
+    sym (take-append-drop 7 text) ∙ ap (λ rest. take 7 text ++ rest) bytes
     ∙ same_minute front has.mark has.day has.blank has.hours has.colon has.pasts ∙ sym parts

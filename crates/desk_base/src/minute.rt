@@ -87,28 +87,11 @@ impl Minute {
         ensures only { (minute : ℕ) → IsInYears minute → text.now ≡ minute_text minute
             → result ≡ Some minute }
     {
-        let [
-            _,
-            _,
-            _,
-            _,
-            _,
-            _,
-            _,
-            b'-',
-            d1,
-            d2,
-            b' ',
-            h1,
-            h2,
-            b':',
-            p1,
-            p2,
-        ] = text
-        else {
+        let (month, rest) = text.split_at_checked(7)?;
+        let [b'-', d1, d2, b' ', h1, h2, b':', p1, p2] = rest else {
             return None;
         };
-        let month = Month::read(&text[..7])?;
+        let month = Month::read(month)?;
         let day = number_of(*d1, *d2)?;
         let hour = number_of(*h1, *h2)?;
         let past = number_of(*p1, *p2)?;
