@@ -1,20 +1,21 @@
 -- The numbers of a set: their bits, their text, and its parts.
-use Rattle.std.proofs.Common.{◌≡◌, ℕ, zero, suc, ◌+◌, ◌*◌, ◌%◌, ◌^◌, ◌<◌, ◌≤◌, ◌⊎◌, inl, inr, true, false, cond, ◌==◌, List, [], ◌∷◌, ◌++◌, length, get_or, map, decimal, codes, bit_or, refl, sym, ap, ◌∙◌, arith, append_assoc, append-nil, length-append, add-one}
+use Rattle.std.proofs.Common.{◌≡◌, ℕ, zero, suc, ◌+◌, ◌-◌, ◌*◌, ◌/◌, ◌%◌, ◌^◌, ◌<◌, ◌≤◌, ◌⊎◌, inl, inr, true, false, cond, ◌==◌, List, [], ◌∷◌, ◌++◌, length, get_or, map, decimal, codes, bit_or, refl, sym, ap, ◌∙◌, arith, append_assoc, append-nil, length-append, add-one, w64}
 use Rattle.std.specs.Bool.{⊤}
-use Rattle.std.specs.Int.{bit_at}
+use Rattle.std.specs.Int.{bit_at, trailing_zeros}
 use Rattle.std.specs.Int.Bits.{or_shifted_r}
 use Rattle.std.specs.List.{All}
 use Rattle.std.proofs.Math.Arith.{mod-mul}
-use Rattle.std.proofs.Math.Nat.{pow-succ', mod-lt, mod-eq_of_lt}
-use Rattle.std.proofs.Math.Pow.{pow_pos}
-use Rattle.std.proofs.lemmas.Bool.{cases_Bool, eqb-true, eqb-false, ne_eqb, cond-false}
+use Rattle.std.proofs.Math.Nat.{pow-succ', mod-lt, mod-eq_of_lt, div-div-eq-div-mul, div-eq_of_lt, div-le_self}
+use Rattle.std.proofs.lemmas.Nat.{pow-add}
+use Rattle.std.proofs.Math.Pow.{pow_pos, pow_mono}
+use Rattle.std.proofs.lemmas.Bool.{cases_Bool, cases_lt, eqb-true, eqb-false, eq-eqb, ne_eqb, cond-false}
 use Rattle.std.proofs.lemmas.List.Elements.{All-from_get_or}
-use Rattle.std.proofs.lemmas.Nat.Bits.{bit_at-lt}
+use Rattle.std.proofs.lemmas.Nat.Bits.{bit_at-lt, bit_at-zero, bit_at-trailing_zeros}
 use Rattle.std.proofs.lemmas.Fmt.{decimal_is_IsNumeral, decimal_nonempty}
 use Rattle.std.proofs.lemmas.Str.Parse.{digit_at}
 use Rattle.desk_base.specs.Parts.{parts_by}
 use Rattle.desk_base.proofs.PartsLemmas.{AreUnmarked, parts_by-join}
-use Rattle.qualifications.specs.Quals.{has, numbers_below, joined, with_number, quals_text}
+use Rattle.qualifications.specs.Quals.{has, HasNone, numbers_below, joined, with_number, quals_text}
 
 -- each of the numbers is below this bound
 abbrev pub AreBelow : ℕ → List ℕ → Type 0
@@ -33,6 +34,53 @@ numbers_below-had quals n e = rw e refl
 numbers_below-lacked : (quals n : ℕ) → has quals n ≡ false → numbers_below quals (suc n) ≡ numbers_below quals n
 unfolding numbers_below
 numbers_below-lacked quals n e = rw e (append-nil (numbers_below quals n))
+
+-- where there are none between, the numbers are the same
+numbers_below-gap : (quals from k : ℕ) → HasNone quals from (from + k) → numbers_below quals (from + k) ≡ numbers_below quals from
+numbers_below-gap quals from zero none = let same : from + 0 ≡ from = omega arith in rw same refl
+numbers_below-gap quals from (suc k) none =
+    let next : from + suc k ≡ suc (from + k) = omega arith in
+    rw next (numbers_below-lacked quals (from + k) (none (from + k) (omega arith) (omega arith))) ∙ numbers_below-gap quals from k (λ n low high. none n low (omega arith))
+
+pub numbers_below-none : (quals from to : ℕ) → from ≤ to → HasNone quals from to → numbers_below quals from ≡ numbers_below quals to
+numbers_below-none quals from to h none =
+    let same : from + (to - from) ≡ to = omega arith in
+    sym (rw same at (numbers_below-gap quals from (to - from) (λ n low high. none n low (omega arith))))
+
+-- the bits from this one on
+pub bit_at-shifted : (quals from i : ℕ) → bit_at (quals / 2 ^ from) i ≡ bit_at quals (from + i)
+bit_at-shifted quals from i =
+    ap (λ n. n % 2) (div-div-eq-div-mul quals (2 ^ from) (2 ^ i) ∙ ap (λ p. quals / p) (sym (pow-add 2 from i)))
+
+-- a set of 64 bits has none from 64 on
+pub bit_at-high : (quals i : ℕ) → quals < 2 ^ 64 → 64 ≤ i → bit_at quals i ≡ 0
+bit_at-high quals i small high =
+    ap (λ n. n % 2) (div-eq_of_lt (omega (arith, small, pow_mono high)))
+
+-- so the lowest bit from this one on is that of the lowest number that is not below it
+pub lowest_from : (quals from : ℕ) → quals < 2 ^ 64 → ¬ (quals / 2 ^ from ≡ 0)
+    → (from + trailing_zeros w64 (quals / 2 ^ from) ≤ 63) × (has quals (from + trailing_zeros w64 (quals / 2 ^ from)) ≡ true)
+    × HasNone quals from (from + trailing_zeros w64 (quals / 2 ^ from))
+lowest_from quals from small some =
+    let left = quals / 2 ^ from in
+    let zeros = bit_at-trailing_zeros w64 left (omega (arith, some)) (omega (arith, small, div-le_self quals (2 ^ from))) in
+    let bit : bit_at quals (from + trailing_zeros w64 left) ≡ 1 = sym (bit_at-shifted quals from (trailing_zeros w64 left)) ∙ zeros.1 in (
+      elim (cases_lt (from + trailing_zeros w64 left) 64) [
+        | inl below ↦ omega arith
+        | inr above ↦ absurd (omega (arith, bit, bit_at-high quals (from + trailing_zeros w64 left) small above))
+      ],
+      eq-eqb _ 1 bit,
+      λ number low high. ne_eqb _ 1 (λ e.
+          let place : from + (number - from) ≡ number = omega arith in
+          let zero = rw place at (sym (bit_at-shifted quals from (number - from)) ∙ zeros.2 (number - from) (omega arith)) in
+          omega (arith, e, zero)),
+    )
+
+pub none_from : (quals from : ℕ) → quals / 2 ^ from ≡ 0 → HasNone quals from 64
+none_from quals from none number low high = ne_eqb _ 1 (λ e.
+    let place : from + (number - from) ≡ number = omega arith in
+    let zero = rw place at (sym (bit_at-shifted quals from (number - from)) ∙ ap (λ n. bit_at n (number - from)) none ∙ bit_at-zero (number - from)) in
+    omega (arith, e, zero))
 
 numbers_below-zero : (quals : ℕ) → numbers_below quals 0 ≡ []
 unfolding numbers_below

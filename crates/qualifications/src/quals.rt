@@ -1,6 +1,6 @@
-ghost use Rattle.std.specs.Prelude.{◌≡◌, ◌↔◌, ◌≤◌, ◌<◌, ◌^◌, ◌+◌, ℕ, IfSome, IsNone};
+ghost use Rattle.std.specs.Prelude.{◌≡◌, ◌↔◌, ◌≤◌, ◌<◌, ◌^◌, ◌+◌, ℕ, true, IfSome, IfNone, IsNone};
 ghost use Rattle.arrayvec.specs.ArrayVec.{array_vec_len};
-ghost use Rattle.qualifications.specs.Quals.{has, lowest_missing, HasAll, quals_text, with_number};
+ghost use Rattle.qualifications.specs.Quals.{has, lowest_missing, HasAll, HasNone, quals_text, with_number};
 
 use arrayvec::ArrayVec;
 use desk_base::{read_decimal, split_once};
@@ -76,15 +76,33 @@ impl Quals {
         ensures { result.items ≡ quals_text self }
     {
         let mut text = ArrayVec::new();
-        for number in 0..64 {
-            if self.has(number) {
-                put_number(&mut text, number);
-            }
+        let mut from = 0;
+        while let Some(number) = self.first_from(from) {
+            put_number(&mut text, number);
+            from = number + 1;
         }
         if text.is_empty() {
             text.push(b'-');
         }
         text
+    }
+
+    // The lowest number of the set that is not below this one.
+    fn first_from(self, from: u8) -> Option<u8>
+        requires { from ≤ 64 }
+        ensures some { IfSome result (λ number. (from ≤ number) × (number ≤ 63)
+            × (has self number ≡ true) × HasNone self from number) }
+        ensures none { IfNone result (HasNone self from 64) }
+    {
+        if from > 63 {
+            return None;
+        }
+        let left = self.0 >> from;
+        if left == 0 {
+            None
+        } else {
+            Some(from + left.trailing_zeros() as u8)
+        }
     }
 }
 
