@@ -4,3 +4,4 @@ pub mod TextLemmas
 pub mod ReadLemmas
 pub mod WindowLemmas
 pub mod PartsLemmas
+pub mod DecimalLemmas

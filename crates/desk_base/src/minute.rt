@@ -18,7 +18,7 @@ pub const YEARS_END: u64 = 68_374_080;
 
 /// A minute of the desk's one civil time, counted from 1970-01-01 00:00, below 2^28 (in the year 2480).
 #[derive(Clone, Copy, Debug, PartialEq, Eq, PartialOrd, Ord, Hash)]
-pub struct Minute(u64);
+pub struct Minute(u32);
 
 impl Model for Minute {
     ghost use Rattle.std.specs.Prelude.{ℕ, ◌<◌, ◌^◌};
@@ -38,7 +38,7 @@ impl Minute {
         ensures { SomeIff result (number < 2 ^ 28) number }
     {
         if number < 1 << 28 {
-            Some(Minute(number))
+            Some(Minute(number as u32))
         } else {
             None
         }
@@ -52,7 +52,7 @@ impl Minute {
         requires { self + minutes < 2 ^ 28 }
         ensures { result ≡ self + minutes }
     {
-        Minute(self.0 + minutes)
+        Minute(self.0 + minutes as u32)
     }
 
     // The first minute of a day.
@@ -60,7 +60,7 @@ impl Minute {
         requires { day < 186_414 }
         ensures { result ≡ 1440 * day }
     {
-        Minute(1440 * u64::from(day))
+        Minute(1440 * day)
     }
 
     /// The minutes since 1970-01-01 00:00, below 2^28.
@@ -68,7 +68,7 @@ impl Minute {
         ensures value { result ≡ self }
         ensures range { result < 2 ^ 28 }
     {
-        self.0
+        u64::from(self.0)
     }
 
     /// Whether it lies in the years 2000 to 2099.
@@ -76,7 +76,7 @@ impl Minute {
         ensures value { result ≡ is_in_years self }
         ensures lies { Decides result (IsInYears self) }
     {
-        self.0 >= YEARS_BEGIN && self.0 < YEARS_END
+        self.number() >= YEARS_BEGIN && self.number() < YEARS_END
     }
 
     /// The minute of the text `YYYY-MM-DD HH:MM`, of a real date of the years 2000 to 2099, hours 00 to 23
