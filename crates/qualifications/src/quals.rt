@@ -63,12 +63,7 @@ impl Quals {
         ensures only { (quals : ℕ) → quals < 2 ^ 64 → text.now ≡ quals_text quals
             → result ≡ Some quals }
     {
-        let quals = Quals(bits_of(text)?);
-        if quals.write().as_slice() == text {
-            Some(quals)
-        } else {
-            None
-        }
+        Some(Quals(bits_of(text)?))
     }
 
     /// The text of the set.
@@ -120,9 +115,11 @@ fn put_number(text: &mut QualsText, number: u8)
         .unwrap();
 }
 
-// The bits of the numbers between the marks; where these are not rising, of some other set.
+// The bits of the numbers between the marks, each above those before it.
 fn bits_of(text: &[u8]) -> Option<u64>
-    ensures { (quals : ℕ) → quals < 2 ^ 64 → text.now ≡ quals_text quals → result ≡ Some quals }
+    ensures some { IfSome result (λ bits. text.now ≡ quals_text bits) }
+    ensures only { (quals : ℕ) → quals < 2 ^ 64 → text.now ≡ quals_text quals
+        → result ≡ Some quals }
 {
     if text == b"-".as_slice() {
         return Some(0);
@@ -133,6 +130,9 @@ fn bits_of(text: &[u8]) -> Option<u64>
         let (part, after) = split_once(parts, b'+');
         let number = read_decimal(part)?;
         if number > 63 {
+            return None;
+        }
+        if bits >> number != 0 {
             return None;
         }
         bits |= 1 << number;
