@@ -295,19 +295,24 @@ text_parts text (n ∷ ns) below e =
     inr (ap (parts_by 43) some ∙ parts_by-joined n ns below)
 
 -- the parts of a text but `-` are the set's numbers
-pub IsLeft-all : (quals : ℕ) (text : List ℕ) → text ≡ quals_text quals → (text ≡ codes "-" → ⊥) → IsLeft quals 0 (parts_by 43 text)
+pub parts-quals_text : (quals : ℕ) (text : List ℕ) → text ≡ quals_text quals → (text ≡ codes "-" → ⊥) → parts_by 43 text ≡ map decimal (numbers_below quals 64)
 unfolding quals_text
-IsLeft-all quals text e other =
+parts-quals_text quals text e other =
     elim (text_parts text (numbers_below quals 64) (AreBelow-numbers_below quals 64 (omega arith)) e) [
       | inl dash ↦ absurd (other dash.0)
-      | inr parts ↦ record {
-        from = 0;
-        count = 64;
-        all = refl;
-        bits_are = omega arith;
-        parts_are = parts ∙ ap (map decimal) (sym (numbers_from-rest quals 0 64) ∙ ap (λ ns. ns ++ numbers_from quals 0 64) (numbers_below-zero quals));
-      }
+      | inr parts ↦ parts
     ]
+
+-- all of which are left at first
+pub IsLeft-all : (quals : ℕ) (text : List ℕ) → text ≡ quals_text quals → (text ≡ codes "-" → ⊥) → IsLeft quals 0 (parts_by 43 text)
+IsLeft-all quals text e other = record {
+  from = 0;
+  count = 64;
+  all = refl;
+  bits_are = omega arith;
+  parts_are = parts-quals_text quals text e other
+      ∙ ap (map decimal) (sym (numbers_from-rest quals 0 64) ∙ ap (λ ns. ns ++ numbers_from quals 0 64) (numbers_below-zero quals));
+}
 
 -- `-` is the text of no numbers, and of no others
 pub quals_text-dash : (quals : ℕ) → quals < 2 ^ 64 → codes "-" ≡ quals_text quals → 0 ≡ quals
