@@ -9,7 +9,7 @@ ghost use Rattle.desk_model.specs.Journal.{journal};
 use crate::lines::gather;
 use desk_io::{Sink, put_all};
 use desk_model::{Entry, Opening};
-use desk_text::{write_entry, write_opening};
+use desk_text::{LineText, fill_with_entry, write_opening};
 
 /// Writes the journal of a desk that was opened so and has these entries, as many lines at once as the buffer holds.
 /// It says whether the sink took all lines, and stops at the first fault.
@@ -33,8 +33,10 @@ pub fn write_journal<K: Sink>(
     if !gather(buffer, write_opening(opening).as_slice(), sink) {
         return false;
     }
+    let mut line = LineText::new();
     for entry in entries {
-        if !gather(buffer, write_entry(entry).as_slice(), sink) {
+        fill_with_entry(&mut line, entry);
+        if !gather(buffer, line.as_slice(), sink) {
             return false;
         }
     }

@@ -1,8 +1,5 @@
 -- Civil dates from 1970 on: their day numbers, and the months in which they lie.
 use Rattle.std.proofs.Common.{◌≡◌, ℕ, ◌+◌, ◌/◌, ◌%◌, ◌^◌, ◌<◌, ◌≤◌, refl, arith, ℤ, pos, ◌≤ℤ◌}
-use Rattle.std.proofs.Common.{Result, Ok, Err, IsOk, IfOk, IfSome, IfNone, ◌↔◌}
-use Rattle.std.specs.Result.{result_ok}
-use Rattle.std.proofs.lemmas.Bool.{false≢true}
 use Rattle.std.proofs.lemmas.Int.{by_lt_z}
 use Rattle.jiff_core.specs.Calendar.{day_count}
 use Rattle.jiff_core.specs.Date.{epoch_day}
@@ -97,13 +94,3 @@ is_dated minute bound =
         ),
       ),
     )
-
--- what a constructor that answers a date or an error says of the date, where there is one
-pub IfSome-result_ok : {E : Type 0} (r : Result Date E) (P : Date → Type 0) → IfOk r P → IfSome (result_ok r) P
-IfSome-result_ok (Ok date) P h = h
-IfSome-result_ok (Err e) P h = tt
-
--- and where there is none
-pub IfNone-result_ok : {E : Type 0} (r : Result Date E) (Q : Type 0) → IsOk r ↔ Q → IfNone (result_ok r) (¬ Q)
-IfNone-result_ok (Ok date) Q h = tt
-IfNone-result_ok (Err e) Q h = λ q. false≢true (h.1 q)

@@ -1,5 +1,7 @@
 pub mod MonthLemmas
 pub mod CivilLemmas
 pub mod TextLemmas
+pub mod ReadLemmas
 pub mod WindowLemmas
 pub mod PartsLemmas
+pub mod DecimalLemmas

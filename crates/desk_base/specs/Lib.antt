@@ -7,4 +7,5 @@ pub mod Window
 pub mod Code
 pub mod CodeInside
 pub mod Number
+pub mod Decimal
 pub mod Parts

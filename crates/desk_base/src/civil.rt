@@ -1,8 +1,7 @@
 //! Civil dates by the number of their day, which is 0 for 1 January 1970.
-ghost use Rattle.std.specs.Prelude.{◌≡◌, ◌≤◌, ◌<◌, ℕ, pos, ◌≤ℤ◌, ◌+◌, IfSome, IfNone};
-ghost use Rattle.jiff_core.specs.Calendar.{IsDate};
+ghost use Rattle.std.specs.Prelude.{◌≡◌, ◌≤◌, ◌<◌, pos, ◌≤ℤ◌};
 ghost use Rattle.jiff_core.specs.Date.{epoch_day, IsYmd};
-ghost use Rattle.desk_base.specs.Month.{first_day, year_of, place_in_year, IsMonthOf, IsMonthInYears};
+ghost use Rattle.desk_base.specs.Month.{first_day, year_of, place_in_year};
 ghost use Rattle.desk_base.specs.Civil.{IsMonthAt};
 
 use jiff::ToSpan;
@@ -31,30 +30,6 @@ pub fn day_of(date: Date) -> u32
     ensures { epoch_day date ≡ pos result }
 {
     (date.duration_since(epoch()).as_hours() / 24) as u32
-}
-
-/// The number of that day, if the calendar has it and it is of the years 2000 to 2099.
-pub fn day_number(year: u32, place: u16, day: u16) -> Option<u32>
-    ensures some { IfSome result (λ number. (10_957 ≤ number) × (number < 47_482)) }
-    ensures only { (number month : ℕ) → IsMonthInYears month → IsMonthOf number month
-        → year ≡ year_of month → place ≡ place_in_year month → first_day month + day ≡ number + 1
-        → result ≡ Some number }
-{
-    if year < 2000 || year > 2099 || place > 12 || day > 31 {
-        return None;
-    }
-    Some(day_of(date_at(year as u16, place as u8, day as u8)?))
-}
-
-// The date of that year, month and day, if the calendar has it.
-fn date_at(year: u16, place: u8, day: u8) -> Option<Date>
-    requires year_in { year ≤ 2099 }
-    requires place_in { place ≤ 12 }
-    requires day_in { day ≤ 31 }
-    ensures some { IfSome result (IsYmd (pos year) (pos place) (pos day)) }
-    ensures none { IfNone result (¬ IsDate (pos year) (pos place) (pos day)) }
-{
-    Date::new(year as i16, place as i8, day as i8).ok()
 }
 
 /// The first date of that month.

@@ -5,9 +5,9 @@ ghost use Rattle.desk_base.specs.Minute.{IsInYears, is_in_years, minute_text};
 ghost use Rattle.desk_base.specs.Civil.{IsMinuteAt, civil_text};
 ghost use Rattle.jiff_core.specs.declared.civil.date.Date.{Date};
 
-use crate::Month;
-use crate::civil::day_number;
+use crate::civil::date_of;
 use crate::digits::{digits_of, number_of};
+use crate::{Day, Month};
 use std::marker::Model;
 
 /// The first minute of the years 2000 to 2099: 2000-01-01 00:00.
@@ -18,7 +18,7 @@ pub const YEARS_END: u64 = 68_374_080;
 
 /// A minute of the desk's one civil time, counted from 1970-01-01 00:00, below 2^28 (in the year 2480).
 #[derive(Clone, Copy, Debug, PartialEq, Eq, PartialOrd, Ord, Hash)]
-pub struct Minute(u64);
+pub struct Minute(u32);
 
 impl Model for Minute {
     ghost use Rattle.std.specs.Prelude.{ℕ, ◌<◌, ◌^◌};
@@ -38,7 +38,7 @@ impl Minute {
         ensures { SomeIff result (number < 2 ^ 28) number }
     {
         if number < 1 << 28 {
-            Some(Minute(number))
+            Some(Minute(number as u32))
         } else {
             None
         }
@@ -52,7 +52,7 @@ impl Minute {
         requires { self + minutes < 2 ^ 28 }
         ensures { result ≡ self + minutes }
     {
-        Minute(self.0 + minutes)
+        Minute(self.0 + minutes as u32)
     }
 
     // The first minute of a day.
@@ -60,7 +60,7 @@ impl Minute {
         requires { day < 186_414 }
         ensures { result ≡ 1440 * day }
     {
-        Minute(1440 * u64::from(day))
+        Minute(1440 * day)
     }
 
     /// The minutes since 1970-01-01 00:00, below 2^28.
@@ -68,7 +68,7 @@ impl Minute {
         ensures value { result ≡ self }
         ensures range { result < 2 ^ 28 }
     {
-        self.0
+        u64::from(self.0)
     }
 
     /// Whether it lies in the years 2000 to 2099.
@@ -76,7 +76,7 @@ impl Minute {
         ensures value { result ≡ is_in_years self }
         ensures lies { Decides result (IsInYears self) }
     {
-        self.0 >= YEARS_BEGIN && self.0 < YEARS_END
+        self.number() >= YEARS_BEGIN && self.number() < YEARS_END
     }
 
     /// The minute of the text `YYYY-MM-DD HH:MM`, of a real date of the years 2000 to 2099, hours 00 to 23
@@ -87,22 +87,22 @@ impl Minute {
         ensures only { (minute : ℕ) → IsInYears minute → text.now ≡ minute_text minute
             → result ≡ Some minute }
     {
-        let [y1, y2, y3, y4, _, m1, m2, _, d1, d2, _, h1, h2, _, p1, p2] = text else {
+        let (month, rest) = text.split_at_checked(7)?;
+        let [b'-', d1, d2, b' ', h1, h2, b':', p1, p2] = rest else {
             return None;
         };
-        let year = 100 * u32::from(number_of(*y1, *y2)) + u32::from(number_of(*y3, *y4));
-        let hour = number_of(*h1, *h2);
-        let past = number_of(*p1, *p2);
+        let month = Month::read(month)?;
+        let day = number_of(*d1, *d2)?;
+        let hour = number_of(*h1, *h2)?;
+        let past = number_of(*p1, *p2)?;
+        if day < 1 || day > month.days() {
+            return None;
+        }
         if hour > 23 || past > 59 {
             return None;
         }
-        let day = day_number(year, number_of(*m1, *m2), number_of(*d1, *d2))?;
-        let minute = Minute(1440 * u64::from(day) + u64::from(60 * hour + past));
-        if minute.write().as_slice() == text {
-            Some(minute)
-        } else {
-            None
-        }
+        let time = 60 * u64::from(hour) + u64::from(past);
+        Some(month.first().after(1440 * u64::from(day - 1) + time))
     }
 
     /// The text `YYYY-MM-DD HH:MM` of the minute: its civil date and time of day.
@@ -111,11 +111,10 @@ impl Minute {
         ensures civil { (date : Date) (hour past : ℕ) → IsMinuteAt self date hour past
             → result ≡ civil_text date hour past }
     {
-        let month = Month::of(self);
-        let day = self.0 / 1440 - month.first().0 / 1440 + 1;
+        let date = date_of(Day::of(self).number());
         let time = self.0 % 1440;
-        let [y1, y2, y3, y4, _, m1, m2] = month.write();
-        let [d1, d2] = digits_of(day as u8);
+        let [y1, y2, y3, y4, _, m1, m2] = Month::at(date).write();
+        let [d1, d2] = digits_of(date.day() as u8);
         let [h1, h2] = digits_of((time / 60) as u8);
         let [p1, p2] = digits_of((time % 60) as u8);
         [

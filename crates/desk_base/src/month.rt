@@ -1,14 +1,16 @@
-ghost use Rattle.std.specs.Prelude.{◌≡◌, ℕ, ◌+◌, ◌≤◌, ◌<◌, IfSome};
+ghost use Rattle.std.specs.Prelude.{◌≡◌, ℕ, ◌+◌, ◌≤◌, ◌<◌, IfSome, pos};
 ghost use Rattle.std.specs.Option.{SomeIff};
 ghost use Rattle.std.specs.Bool.{Decides};
-ghost use Rattle.desk_base.specs.Month.{first_minute, minutes_of, month_text, IsMonthInYears};
+ghost use Rattle.desk_base.specs.Month.{year_of, place_in_year, first_day, first_minute, minutes_of, month_text, IsMonthInYears};
 ghost use Rattle.desk_base.specs.Minute.{month_of};
-ghost use Rattle.desk_base.specs.Civil.{IsMinuteAt, IsMonthAt};
-ghost use Rattle.jiff_core.specs.declared.civil.date.Date.{Date};
+ghost use Rattle.desk_base.specs.Civil.{IsMinuteAt, IsMonthAt, IsInDays};
+ghost use Rattle.jiff_core.specs.Calendar.{days_in_month};
+ghost use Rattle.jiff_core.specs.declared.civil.date.Date.{Date as CivilDate};
 
 use crate::civil::{date_of, first_day_of, first_of, month_at};
 use crate::digits::{digits_of, number_of};
 use crate::{Day, Minute};
+use jiff::civil::Date;
 use std::marker::Model;
 
 /// January 2000, the first month of the years 2000 to 2099.
@@ -73,10 +75,18 @@ impl Month {
         ensures value { result ≡ month_of minute }
         ensures begun { first_minute result ≤ minute }
         ensures not_over { minute < first_minute (result + 1) }
-        ensures civil { (date : Date) (hour past : ℕ) → IsMinuteAt minute date hour past
+        ensures civil { (date : CivilDate) (hour past : ℕ) → IsMinuteAt minute date hour past
             → IsMonthAt result date }
     {
-        Month(month_at(date_of(Day::of(minute).number())))
+        Month::at(date_of(Day::of(minute).number()))
+    }
+
+    // The month in which a date lies, from the first minute's date to the last one's.
+    pub(crate) fn at(date: Date) -> Month
+        requires { IsInDays date }
+        ensures { IsMonthAt result date }
+    {
+        Month(month_at(date))
     }
 
     /// The month's first minute.
@@ -86,12 +96,21 @@ impl Month {
         Minute::from_day(first_day_of(self.0))
     }
 
+    // How many days the month has, 28 to 31.
+    pub(crate) fn days(self) -> u8
+        ensures value { result ≡ days_in_month (pos (year_of self)) (place_in_year self) }
+        ensures next { first_day self + result ≡ first_day (self + 1) }
+        ensures most { result ≤ 31 }
+    {
+        first_of(self.0).days_in_month() as u8
+    }
+
     /// How many minutes the month has, 40,320 to 44,640.
     pub fn minutes(self) -> u32
         ensures value { result ≡ minutes_of self }
         ensures next { first_minute self + result ≡ first_minute (self + 1) }
     {
-        1440 * first_of(self.0).days_in_month() as u32
+        1440 * u32::from(self.days())
     }
 
     /// The month of the text `YYYY-MM`, of the years 2000 to 2099; `None` for any other text.
@@ -101,20 +120,16 @@ impl Month {
         ensures only { (month : ℕ) → IsMonthInYears month → text.now ≡ month_text month
             → result ≡ Some month }
     {
-        let [y1, y2, y3, y4, _, m1, m2] = text else {
+        let [y1, y2, y3, y4, b'-', m1, m2] = text else {
             return None;
         };
-        let year = 100 * u32::from(number_of(*y1, *y2)) + u32::from(number_of(*y3, *y4));
-        let place = number_of(*m1, *m2);
-        if year < 2000 || year > 2099 || place < 1 || place > 12 {
+        let century = number_of(*y1, *y2)?;
+        let past = number_of(*y3, *y4)?;
+        let place = number_of(*m1, *m2)?;
+        if century != 20 || place < 1 || place > 12 {
             return None;
         }
-        let month = Month(12 * (year as u16 - 1970) + (place - 1));
-        if month.write().as_slice() == text {
-            Some(month)
-        } else {
-            None
-        }
+        Some(Month(12 * (30 + u16::from(past)) + u16::from(place - 1)))
     }
 
     /// The text `YYYY-MM` of the month.

@@ -19,8 +19,8 @@ use Rattle.desk_base.proofs.TextLemmas.{minute_text_spells, month_text_spells}
 use Rattle.qualifications.specs.declared.craft.Craft.{Craft}
 use Rattle.qualifications.specs.declared.craft.Craft.TheVariants as craft
 use Rattle.qualifications.specs.Craft.{craft_text}
-use Rattle.qualifications.specs.Quals.{quals_text}
-use Rattle.qualifications.proofs.NumbersLemmas.{AreBelow, AreLacked, AreLacked-other, bits_with, quals_text-dash}
+use Rattle.qualifications.specs.Quals.{quals_text, numbers_below}
+use Rattle.qualifications.proofs.NumbersLemmas.{AreBelow, AreBelow-numbers_below, bits_with, bits_with-all, parts-quals_text, quals_text-dash}
 use Rattle.desk_model.specs.declared.command.Cmd.{Cmd}
 use Rattle.desk_model.specs.declared.command.Cmd.TheVariants as cmd
 use Rattle.desk_model.specs.Chain.{IsChain, chain_text}
@@ -75,11 +75,10 @@ quals_text-one a b ha hb e =
       | inl is ↦ let none = sym (dash.0 is) in sym (quals_text-dash a ha (none ∙ sym e)) ∙ quals_text-dash b hb none
       | inr is ↦
           let some : quals_text b ≡ codes "-" → ⊥ = λ none. false≢true (sym is ∙ dash.1 none) in
-          same (AreLacked-other a (quals_text b) ha (sym e) some) (AreLacked-other b (quals_text b) hb refl some)
+          let parts = sym (parts-quals_text a (quals_text b) (sym e) some) ∙ parts-quals_text b (quals_text b) refl some in
+          let numbers = decimals-one (numbers_below a 64) (numbers_below b 64) (AreBelow-numbers_below a 64 (omega arith)) (AreBelow-numbers_below b 64 (omega arith)) parts in
+          sym (bits_with-all a ha) ∙ ap (bits_with 0) numbers ∙ bits_with-all b hb
     ]
-  where
-    same : AreLacked a 0 (parts_by 43 (quals_text b)) → AreLacked b 0 (parts_by 43 (quals_text b)) → a ≡ b
-    same (ms, em, hm, bm) (ns, en, hn, bn) = sym bm ∙ ap (bits_with 0) (decimals-one ms ns hm hn (sym em ∙ en)) ∙ bn
 
 job_fields-one : (a b : JobValue) → IsJob a → IsJob b → a.relief ≡ b.relief → job_fields a ≡ job_fields b → a ≡ b
 job_fields-one a b ha hb relief e =

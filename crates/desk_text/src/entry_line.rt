@@ -12,13 +12,21 @@ pub fn write_entry(entry: &Entry) -> LineText
     ensures { result.items ≡ entry_line entry.now }
 {
     let mut line = LineText::new();
-    put_number(&mut line, u32::from(entry.caller()));
-    put(&mut line, b"|");
-    put_stated(&mut line, entry.stated());
-    put(&mut line, b"|");
-    put(&mut line, &entry.moment().write());
-    put(&mut line, b"|");
-    put_reply(&mut line, &entry.reply());
-    put(&mut line, b"\n");
+    fill_with_entry(&mut line, entry);
     line
+}
+
+/// Makes a line that of the entry. What stood in it is gone.
+pub fn fill_with_entry(line: &mut LineText, entry: &Entry)
+    ensures { line.new.items ≡ entry_line entry.now }
+{
+    line.clear();
+    put_number(line, u32::from(entry.caller()));
+    put(line, b"|");
+    put_stated(line, entry.stated());
+    put(line, b"|");
+    put(line, &entry.moment().write());
+    put(line, b"|");
+    put_reply(line, &entry.reply());
+    put(line, b"\n");
 }

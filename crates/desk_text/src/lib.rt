@@ -55,7 +55,7 @@ pub use day_fault::DayFault;
 pub use day_file::{DayFile, bytes_are_one_day_file, read_day};
 pub use different_replies::different_replies_have_different_texts;
 pub use each_line::each_line_ends_once;
-pub use entry_line::write_entry;
+pub use entry_line::{fill_with_entry, write_entry};
 pub use journal_opening::read_opening;
 pub use limits::{RECORD_LIMIT, the_most_records_of_a_day_file};
 pub use line_text::LineText;

@@ -1,20 +1,22 @@
 -- The numbers of a set: their bits, their text, and its parts.
-use Rattle.std.proofs.Common.{◌≡◌, ℕ, zero, suc, ◌+◌, ◌*◌, ◌%◌, ◌^◌, ◌<◌, ◌≤◌, ◌⊎◌, inl, inr, true, false, cond, ◌==◌, List, [], ◌∷◌, ◌++◌, length, get_or, map, decimal, codes, bit_or, refl, sym, ap, ◌∙◌, arith, append_assoc, append-nil, length-append, add-one}
+use Rattle.std.proofs.Common.{◌≡◌, ℕ, zero, suc, ◌+◌, ◌-◌, ◌*◌, ◌/◌, ◌%◌, ◌^◌, ◌<◌, ◌≤◌, ◌⊎◌, inl, inr, true, false, cond, ◌==◌, List, [], ◌∷◌, ◌++◌, length, get_or, map, decimal, codes, bit_or, refl, sym, ap, ◌∙◌, arith, append_assoc, append-nil, length-append, add-one, w64, max}
 use Rattle.std.specs.Bool.{⊤}
-use Rattle.std.specs.Int.{bit_at}
+use Rattle.std.specs.Int.{bit_at, trailing_zeros}
 use Rattle.std.specs.Int.Bits.{or_shifted_r}
-use Rattle.std.specs.List.{All}
+use Rattle.std.specs.List.{All, join_with_byte}
+use Rattle.std.proofs.lemmas.List.Splits.{join_with_byte-slice_split, length-slice_split}
 use Rattle.std.proofs.Math.Arith.{mod-mul}
-use Rattle.std.proofs.Math.Nat.{pow-succ', mod-lt, mod-eq_of_lt}
-use Rattle.std.proofs.Math.Pow.{pow_pos}
-use Rattle.std.proofs.lemmas.Bool.{cases_Bool, eqb-true, eqb-false, ne_eqb, cond-false}
+use Rattle.std.proofs.Math.Nat.{pow-succ', mod-lt, mod-eq_of_lt, div-div-eq-div-mul, div-eq_of_lt, div-le_self}
+use Rattle.std.proofs.lemmas.Nat.{pow-add}
+use Rattle.std.proofs.Math.Pow.{pow_pos, pow_mono}
+use Rattle.std.proofs.lemmas.Bool.{cases_Bool, cases_lt, eqb-true, eqb-false, eq-eqb, ne_eqb, cond-false}
 use Rattle.std.proofs.lemmas.List.Elements.{All-from_get_or}
-use Rattle.std.proofs.lemmas.Nat.Bits.{bit_at-lt}
+use Rattle.std.proofs.lemmas.Nat.Bits.{bit_at-lt, bit_at-zero, bit_at-trailing_zeros, bit_at_or, bit_at-pow_same, bit_at-pow_other}
 use Rattle.std.proofs.lemmas.Fmt.{decimal_is_IsNumeral, decimal_nonempty}
 use Rattle.std.proofs.lemmas.Str.Parse.{digit_at}
 use Rattle.desk_base.specs.Parts.{parts_by}
 use Rattle.desk_base.proofs.PartsLemmas.{AreUnmarked, parts_by-join}
-use Rattle.qualifications.specs.Quals.{has, numbers_below, joined, with_number, quals_text}
+use Rattle.qualifications.specs.Quals.{has, HasNone, numbers_below, joined, with_number, quals_text}
 
 -- each of the numbers is below this bound
 abbrev pub AreBelow : ℕ → List ℕ → Type 0
@@ -33,6 +35,53 @@ numbers_below-had quals n e = rw e refl
 numbers_below-lacked : (quals n : ℕ) → has quals n ≡ false → numbers_below quals (suc n) ≡ numbers_below quals n
 unfolding numbers_below
 numbers_below-lacked quals n e = rw e (append-nil (numbers_below quals n))
+
+-- where there are none between, the numbers are the same
+numbers_below-gap : (quals from k : ℕ) → HasNone quals from (from + k) → numbers_below quals (from + k) ≡ numbers_below quals from
+numbers_below-gap quals from zero none = let same : from + 0 ≡ from = omega arith in rw same refl
+numbers_below-gap quals from (suc k) none =
+    let next : from + suc k ≡ suc (from + k) = omega arith in
+    rw next (numbers_below-lacked quals (from + k) (none (from + k) (omega arith) (omega arith))) ∙ numbers_below-gap quals from k (λ n low high. none n low (omega arith))
+
+pub numbers_below-none : (quals from to : ℕ) → from ≤ to → HasNone quals from to → numbers_below quals from ≡ numbers_below quals to
+numbers_below-none quals from to h none =
+    let same : from + (to - from) ≡ to = omega arith in
+    sym (rw same at (numbers_below-gap quals from (to - from) (λ n low high. none n low (omega arith))))
+
+-- the bits from this one on
+pub bit_at-shifted : (quals from i : ℕ) → bit_at (quals / 2 ^ from) i ≡ bit_at quals (from + i)
+bit_at-shifted quals from i =
+    ap (λ n. n % 2) (div-div-eq-div-mul quals (2 ^ from) (2 ^ i) ∙ ap (λ p. quals / p) (sym (pow-add 2 from i)))
+
+-- a set of 64 bits has none from 64 on
+pub bit_at-high : (quals i : ℕ) → quals < 2 ^ 64 → 64 ≤ i → bit_at quals i ≡ 0
+bit_at-high quals i small high =
+    ap (λ n. n % 2) (div-eq_of_lt (omega (arith, small, pow_mono high)))
+
+-- so the lowest bit from this one on is that of the lowest number that is not below it
+pub lowest_from : (quals from : ℕ) → quals < 2 ^ 64 → ¬ (quals / 2 ^ from ≡ 0)
+    → (from + trailing_zeros w64 (quals / 2 ^ from) ≤ 63) × (has quals (from + trailing_zeros w64 (quals / 2 ^ from)) ≡ true)
+    × HasNone quals from (from + trailing_zeros w64 (quals / 2 ^ from))
+lowest_from quals from small some =
+    let left = quals / 2 ^ from in
+    let zeros = bit_at-trailing_zeros w64 left (omega (arith, some)) (omega (arith, small, div-le_self quals (2 ^ from))) in
+    let bit : bit_at quals (from + trailing_zeros w64 left) ≡ 1 = sym (bit_at-shifted quals from (trailing_zeros w64 left)) ∙ zeros.1 in (
+      elim (cases_lt (from + trailing_zeros w64 left) 64) [
+        | inl below ↦ omega arith
+        | inr above ↦ absurd (omega (arith, bit, bit_at-high quals (from + trailing_zeros w64 left) small above))
+      ],
+      eq-eqb _ 1 bit,
+      λ number low high. ne_eqb _ 1 (λ e.
+          let place : from + (number - from) ≡ number = omega arith in
+          let zero = rw place at (sym (bit_at-shifted quals from (number - from)) ∙ zeros.2 (number - from) (omega arith)) in
+          omega (arith, e, zero)),
+    )
+
+pub none_from : (quals from : ℕ) → quals / 2 ^ from ≡ 0 → HasNone quals from 64
+none_from quals from none number low high = ne_eqb _ 1 (λ e.
+    let place : from + (number - from) ≡ number = omega arith in
+    let zero = rw place at (sym (bit_at-shifted quals from (number - from)) ∙ ap (λ n. bit_at n (number - from)) none ∙ bit_at-zero (number - from)) in
+    omega (arith, e, zero))
 
 numbers_below-zero : (quals : ℕ) → numbers_below quals 0 ≡ []
 unfolding numbers_below
@@ -151,60 +200,167 @@ bits_with-all quals h = bits_with-numbers_below quals 64 ∙ mod-eq_of_lt h
 
 -- ---- the text taken apart
 
--- the parts are numbers, and with these the bits are the set's
-abbrev pub AreLacked : ℕ → ℕ → List (List ℕ) → Type 0
-AreLacked quals bits parts = (ns : List ℕ) × (parts ≡ map decimal ns) × AreBelow 64 ns × (bits_with bits ns ≡ quals)
+-- the numbers of a set from this one on, so many tried
+abbrev pub numbers_from : ℕ → ℕ → ℕ → List ℕ
+numbers_from quals from zero = []
+numbers_from quals from (suc count) = cond (has quals from) (from ∷ numbers_from quals (from + 1) count) (numbers_from quals (from + 1) count)
 
--- the first part is a number, and with its bit the others are lacked
-abbrev pub IsNext : ℕ → ℕ → List ℕ → List (List ℕ) → Type 0
-IsNext quals bits part rest = (n : ℕ) × (part ≡ decimal n) × (n < 64) × AreLacked quals (bit_or bits (1 * 2 ^ n)) rest
+-- they are those that are not below
+numbers_from-rest : (quals from count : ℕ) → numbers_below quals from ++ numbers_from quals from count ≡ numbers_below quals (from + count)
+numbers_from-rest quals from zero = let same : from + 0 ≡ from = omega arith in append-nil (numbers_below quals from) ∙ rw same refl
+numbers_from-rest quals from (suc count) =
+    let next : from + suc count ≡ from + 1 + count = omega arith in
+    let rest = numbers_from-rest quals (from + 1) count in
+    elim (cases_Bool (has quals from)) [
+      | inl had ↦ rw (had, next) (sym (append_assoc (numbers_below quals from) (from ∷ []) (numbers_from quals (from + 1) count))
+          ∙ ap (λ ns. ns ++ numbers_from quals (from + 1) count) (sym (numbers_below-had quals from had) ∙ ap (numbers_below quals) (sym (add-one from))) ∙ rest)
+      | inr lacked ↦ rw (lacked, next) (ap (λ ns. ns ++ numbers_from quals (from + 1) count) (sym (numbers_below-lacked quals from lacked) ∙ ap (numbers_below quals) (sym (add-one from))) ∙ rest)
+    ]
 
-pub AreLacked-next : (quals bits : ℕ) (parts : List (List ℕ)) (part : List ℕ) (rest : List (List ℕ)) → parts ≡ (part ∷ rest) → AreLacked quals bits parts → IsNext quals bits part rest
-AreLacked-next quals bits parts part rest whole ([], e, below, b) = absurd (omega (arith, ap length (sym whole ∙ e)))
-AreLacked-next quals bits parts part rest whole (n ∷ ns, e, below, b) = (n, ap head (sym whole ∙ e), below.0, (ns, ap tail (sym whole ∙ e), below.1, b))
+-- what is read of a set up to a number, and what is left of it
+pub record IsLeft (quals bits : ℕ) (parts : List (List ℕ)) : Type 0 where
+  pub from : ℕ
+  pub count : ℕ
+  pub all : from + count ≡ 64
+  pub bits_are : bits ≡ quals % 2 ^ from
+  pub parts_are : parts ≡ map decimal (numbers_from quals from count)
+
+-- the next number that is left
+pub record IsNextOf (quals bits : ℕ) (part : List ℕ) (rest : List (List ℕ)) : Type 0 where
+  pub number : ℕ
+  pub part_is : part ≡ decimal number
+  pub most : number < 64
+  pub above : bits / 2 ^ number ≡ 0
+  pub left : IsLeft quals (bit_or bits (1 * 2 ^ number)) rest
+
+low_had : (quals n : ℕ) → has quals n ≡ true → bit_or (quals % 2 ^ n) (1 * 2 ^ n) ≡ quals % 2 ^ (n + 1)
+low_had quals n had =
+    let bit : bit_at quals n ≡ 1 = eqb-true _ _ had in
+    or_shifted_r 1 n (quals % 2 ^ n) (mod-lt quals (pow_pos n)) ∙ ap (λ b. b * 2 ^ n + quals % 2 ^ n) (sym bit) ∙ sym (low_bits quals n) ∙ ap (λ k. quals % 2 ^ k) (sym (add-one n))
+
+low_lacked : (quals n : ℕ) → has quals n ≡ false → quals % 2 ^ n ≡ quals % 2 ^ (n + 1)
+low_lacked quals n lacked =
+    let bit : bit_at quals n ≡ 0 = omega (arith, bit_at-lt quals n, eqb-false _ _ lacked) in
+    zero_high (quals % 2 ^ n) (2 ^ n) ∙ ap (λ b. b * 2 ^ n + quals % 2 ^ n) (sym bit) ∙ sym (low_bits quals n) ∙ ap (λ k. quals % 2 ^ k) (sym (add-one n))
   where
-    head : List (List ℕ) → List ℕ
-    head [] = []
-    head (x ∷ xs) = x
+    zero_high : (r c : ℕ) → r ≡ 0 * c + r
+    zero_high r c = omega arith
 
-    tail : List (List ℕ) → List (List ℕ)
-    tail [] = []
-    tail (x ∷ xs) = xs
+next_of : (quals from count : ℕ) (part : List ℕ) (rest : List (List ℕ)) → from + count ≡ 64 → part ∷ rest ≡ map decimal (numbers_from quals from count) → IsNextOf quals (quals % 2 ^ from) part rest
+next_of quals from zero part rest all e = absurd (omega (arith, ap length e))
+next_of quals from (suc count) part rest all e =
+    elim (cases_Bool (has quals from)) [
+      | inl had ↦ let here : part ∷ rest ≡ decimal from ∷ map decimal (numbers_from quals (from + 1) count) = rw had at e in
+          record {
+            number = from;
+            part_is = ap (λ ps. first_part ps) here;
+            most = omega (arith, all);
+            above = div-eq_of_lt (mod-lt quals (pow_pos from));
+            left = record { from = from + 1; count = count; all = omega (arith, all); bits_are = low_had quals from had; parts_are = ap other_parts here };
+          }
+      | inr lacked ↦ let there : part ∷ rest ≡ map decimal (numbers_from quals (from + 1) count) = rw lacked at e in
+          rw (low_lacked quals from lacked) (next_of quals (from + 1) count part rest (omega (arith, all)) there)
+    ]
+  where
+    first_part : List (List ℕ) → List ℕ
+    first_part [] = []
+    first_part (x ∷ xs) = x
+
+    other_parts : List (List ℕ) → List (List ℕ)
+    other_parts [] = []
+    other_parts (x ∷ xs) = xs
+
+pub IsLeft-next : (quals bits : ℕ) (parts : List (List ℕ)) (part : List ℕ) (rest : List (List ℕ)) → parts ≡ (part ∷ rest) → IsLeft quals bits parts → IsNextOf quals bits part rest
+IsLeft-next quals bits parts part rest e left =
+    rw left.bits_are (next_of quals left.from left.count part rest left.all (sym e ∙ left.parts_are))
 
 -- where no part is left the bits are the set's
-pub AreLacked-none : (quals bits : ℕ) → AreLacked quals bits [] → bits ≡ quals
-AreLacked-none quals bits ([], e, below, b) = b
-AreLacked-none quals bits (n ∷ ns, e, below, b) = absurd (omega (arith, ap length e))
+none_left : (quals from count : ℕ) → from + count ≡ 64 → [] ≡ map decimal (numbers_from quals from count) → quals % 2 ^ from ≡ quals % 2 ^ 64
+none_left quals from zero all e = let same : from ≡ 64 = omega (arith, all) in rw same refl
+none_left quals from (suc count) all e =
+    elim (cases_Bool (has quals from)) [
+      | inl had ↦ let here : [] ≡ decimal from ∷ map decimal (numbers_from quals (from + 1) count) = rw had at e in absurd (omega (arith, ap length here))
+      | inr lacked ↦ let there : [] ≡ map decimal (numbers_from quals (from + 1) count) = rw lacked at e in low_lacked quals from lacked ∙ none_left quals (from + 1) count (omega (arith, all)) there
+    ]
+
+pub IsLeft-none : (quals bits : ℕ) → quals < 2 ^ 64 → IsLeft quals bits [] → bits ≡ quals
+IsLeft-none quals bits small left =
+    left.bits_are ∙ none_left quals left.from left.count left.all left.parts_are ∙ mod-eq_of_lt small
 
 -- the numbers of a set that has none, or of one that has some
-AreLacked-numbers : (quals : ℕ) (text : List ℕ) (ns : List ℕ) → AreBelow 64 ns → bits_with 0 ns ≡ quals → text ≡ cond (length ns == 0) (codes "-") (joined ns)
-    → ((text ≡ codes "-") × (0 ≡ quals)) ⊎ AreLacked quals 0 (parts_by 43 text)
-AreLacked-numbers quals text [] below b e = inl (e, b)
-AreLacked-numbers quals text (n ∷ ns) below b e =
+text_parts : (text : List ℕ) (ns : List ℕ) → AreBelow 64 ns → text ≡ cond (length ns == 0) (codes "-") (joined ns) → (text ≡ codes "-") × (ns ≡ []) ⊎ (parts_by 43 text ≡ map decimal ns)
+text_parts text [] below e = inl (e, refl)
+text_parts text (n ∷ ns) below e =
     let some : text ≡ joined (n ∷ ns) = e ∙ cond-false _ (codes "-") _ (ne_eqb (suc (length ns)) 0 (λ e. omega (arith, e))) in
-    inr (n ∷ ns, ap (parts_by 43) some ∙ parts_by-joined n ns below, below, b)
+    inr (ap (parts_by 43) some ∙ parts_by-joined n ns below)
 
-AreLacked-quals_text : (quals : ℕ) (text : List ℕ) → quals < 2 ^ 64 → text ≡ quals_text quals
-    → ((text ≡ codes "-") × (0 ≡ quals)) ⊎ AreLacked quals 0 (parts_by 43 text)
+-- the parts of a text but `-` are the set's numbers
+pub parts-quals_text : (quals : ℕ) (text : List ℕ) → text ≡ quals_text quals → (text ≡ codes "-" → ⊥) → parts_by 43 text ≡ map decimal (numbers_below quals 64)
 unfolding quals_text
-AreLacked-quals_text quals text h e = AreLacked-numbers quals text (numbers_below quals 64) (AreBelow-numbers_below quals 64 (omega arith)) (bits_with-all quals h) e
+parts-quals_text quals text e other =
+    elim (text_parts text (numbers_below quals 64) (AreBelow-numbers_below quals 64 (omega arith)) e) [
+      | inl dash ↦ absurd (other dash.0)
+      | inr parts ↦ parts
+    ]
 
--- `-` is no number
-decimal-not_dash : (n : ℕ) → n < 64 → codes "-" ≡ decimal n → ⊥
-decimal-not_dash n h e =
-    let digit = digit_at (decimal n) 0 (decimal_is_IsNumeral n (omega arith)).0.1 (decimal_nonempty n (omega arith)) in
-    omega (arith, digit, ap (λ text. get_or text 0 0) e)
+-- all of which are left at first
+pub IsLeft-all : (quals : ℕ) (text : List ℕ) → text ≡ quals_text quals → (text ≡ codes "-" → ⊥) → IsLeft quals 0 (parts_by 43 text)
+IsLeft-all quals text e other = record {
+  from = 0;
+  count = 64;
+  all = refl;
+  bits_are = omega arith;
+  parts_are = parts-quals_text quals text e other
+      ∙ ap (map decimal) (sym (numbers_from-rest quals 0 64) ∙ ap (λ ns. ns ++ numbers_from quals 0 64) (numbers_below-zero quals));
+}
 
--- the set whose text is `-`
+-- `-` is the text of no numbers, and of no others
 pub quals_text-dash : (quals : ℕ) → quals < 2 ^ 64 → codes "-" ≡ quals_text quals → 0 ≡ quals
-quals_text-dash quals h e = elim (AreLacked-quals_text quals (codes "-") h e) [
-  | inl none ↦ none.1
-  | inr some ↦ let next = AreLacked-next quals 0 (parts_by 43 (codes "-")) (codes "-") [] refl some in absurd (decimal-not_dash next.0 next.2 next.1)
-]
+unfolding quals_text
+quals_text-dash quals small e =
+    elim (text_parts (codes "-") (numbers_below quals 64) (AreBelow-numbers_below quals 64 (omega arith)) e) [
+      | inl none ↦ sym (sym (bits_with-all quals small) ∙ ap (bits_with 0) none.1)
+      | inr parts ↦ absurd (dash_number (numbers_below quals 64) (AreBelow-numbers_below quals 64 (omega arith)) parts)
+    ]
+  where
+    dash_number : (ns : List ℕ) → AreBelow 64 ns → codes "-" ∷ [] ≡ map decimal ns → ⊥
+    dash_number [] below e = omega (arith, ap length e)
+    dash_number (n ∷ ns) below e =
+        let digit = digit_at (decimal n) 0 (decimal_is_IsNumeral n (omega (arith, below.0))).0.1 (decimal_nonempty n (omega (arith, below.0))) in
+        omega (arith, digit, ap (λ ps. get_or (get_or ps 0 []) 0 0) e)
 
--- the parts of any other text
-pub AreLacked-other : (quals : ℕ) (text : List ℕ) → quals < 2 ^ 64 → text ≡ quals_text quals → (text ≡ codes "-" → ⊥) → AreLacked quals 0 (parts_by 43 text)
-AreLacked-other quals text h e other = elim (AreLacked-quals_text quals text h e) [
-  | inl none ↦ absurd (other none.0)
-  | inr some ↦ some
-]
+pub numbers-zero : numbers_below 0 64 ≡ []
+numbers-zero = sym (numbers_below-none 0 0 64 (omega arith) (λ n low high. ap (λ b. b == 1) (bit_at-zero n))) ∙ numbers_below-zero 0
+
+pub quals_text-zero : quals_text 0 ≡ codes "-"
+unfolding quals_text
+quals_text-zero = rw numbers-zero refl
+
+-- ---- the text put together
+
+same_numbers : (a b n : ℕ) → ((i : ℕ) → i < n → has a i ≡ has b i) → numbers_below a n ≡ numbers_below b n
+unfolding numbers_below
+same_numbers a b zero same = refl
+same_numbers a b (suc n) same = rw (same n (omega arith), same_numbers a b n (λ i h. same i (omega arith))) refl
+
+-- a number above all of the set comes behind them
+pub numbers-next : (bits n : ℕ) → n < 64 → bits / 2 ^ n ≡ 0 → numbers_below (bit_or bits (1 * 2 ^ n)) 64 ≡ numbers_below bits 64 ++ n ∷ []
+numbers-next bits n small none =
+    let more = bit_or bits (1 * 2 ^ n) in
+    let unit : 1 * 2 ^ n ≡ 2 ^ n = omega arith in
+    let at : (i : ℕ) → bit_at more i ≡ max (bit_at bits i) (bit_at (2 ^ n) i) = λ i. rw unit (bit_at_or bits (2 ^ n) i) in
+    let high = none_from bits n none in
+    let had : has more n ≡ true = eq-eqb _ 1 (at n ∙ rw (bit_at-pow_same n) (omega (arith, bit_at-lt bits n))) in
+    let other : (i : ℕ) → ¬ (i ≡ n) → has more i ≡ has bits i = λ i apart. ap (λ b. b == 1) (at i ∙ rw (bit_at-pow_other n i apart) (omega arith)) in
+    let above : HasNone more (n + 1) 64 = λ i low below. other i (λ e. omega (arith, e)) ∙ high i (omega arith) below in
+    sym (numbers_below-none more (n + 1) 64 (omega arith) above) ∙ ap (numbers_below more) (add-one n) ∙ numbers_below-had more n had
+    ∙ ap (λ ns. ns ++ n ∷ []) (same_numbers more bits n (λ i h. other i (λ e. omega (arith, e))) ∙ numbers_below-none bits n 64 (omega arith) high)
+
+-- parts that are the set's numbers make its text
+pub text-of_parts : (text : List ℕ) (bits : ℕ) → parts_by 43 text ≡ map decimal (numbers_below bits 64) → text ≡ quals_text bits
+unfolding quals_text
+text-of_parts text bits e = made (numbers_below bits 64) e
+  where
+    made : (ns : List ℕ) → parts_by 43 text ≡ map decimal ns → text ≡ cond (length ns == 0) (codes "-") (joined ns)
+    made [] e = absurd (omega (arith, ap length e, length-slice_split (λ b. b == 43) text))
+    made (n ∷ ns) e = sym (join_with_byte-slice_split 43 text) ∙ ap (join_with_byte 43) e ∙ sym (cond-false _ (codes "-") _ (ne_eqb (suc (length ns)) 0 (λ e. omega (arith, e))))

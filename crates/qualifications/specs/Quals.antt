@@ -1,5 +1,5 @@
 -- Sets of qualifications, each a number from 0 to 63 and kept as a bit.
-use Rattle.std.specs.Prelude.{ℕ, ◌≤◌, IsTrue, zero, suc, Bool, not, ◌&&◌, ◌==◌, Option, None, Some, if◌then◌else◌, List, [], ◌∷◌, ◌++◌, map, length, codes, decimal}
+use Rattle.std.specs.Prelude.{◌≡◌, ℕ, ◌≤◌, ◌<◌, IsTrue, zero, suc, Bool, false, not, ◌&&◌, ◌==◌, Option, None, Some, if◌then◌else◌, List, [], ◌∷◌, ◌++◌, map, length, codes, decimal}
 use Rattle.std.specs.Option.{option_or}
 use Rattle.std.specs.List.{join_with_byte}
 use Rattle.std.specs.Int.{bit_at}
@@ -20,6 +20,10 @@ lowest_missing had asked = lowest (λ number. has asked number && not (has had n
 -- each number that is asked is had
 abbrev pub HasAll : ℕ → ℕ → Type 0
 HasAll had asked = (number : ℕ) → number ≤ 63 → IsTrue (has asked number) → IsTrue (has had number)
+
+-- no number from this one on and below that one is in the set
+abbrev pub HasNone : ℕ → ℕ → ℕ → Type 0
+HasNone quals from to = (number : ℕ) → from ≤ number → number < to → has quals number ≡ false
 
 -- the numbers below n that the set has, rising
 unfoldable pub numbers_below : ℕ → ℕ → List ℕ

@@ -1,6 +1,6 @@
-ghost use Rattle.std.specs.Prelude.{◌≡◌, ◌↔◌, ◌≤◌, ◌<◌, ◌^◌, ◌+◌, ℕ, IfSome, IsNone};
+ghost use Rattle.std.specs.Prelude.{◌≡◌, ◌↔◌, ◌≤◌, ◌<◌, ◌^◌, ◌+◌, ℕ, true, IfSome, IfNone, IsNone};
 ghost use Rattle.arrayvec.specs.ArrayVec.{array_vec_len};
-ghost use Rattle.qualifications.specs.Quals.{has, lowest_missing, HasAll, quals_text, with_number};
+ghost use Rattle.qualifications.specs.Quals.{has, lowest_missing, HasAll, HasNone, quals_text, with_number};
 
 use arrayvec::ArrayVec;
 use desk_base::{read_decimal, split_once};
@@ -63,12 +63,7 @@ impl Quals {
         ensures only { (quals : ℕ) → quals < 2 ^ 64 → text.now ≡ quals_text quals
             → result ≡ Some quals }
     {
-        let quals = Quals(bits_of(text)?);
-        if quals.write().as_slice() == text {
-            Some(quals)
-        } else {
-            None
-        }
+        Some(Quals(bits_of(text)?))
     }
 
     /// The text of the set.
@@ -76,15 +71,33 @@ impl Quals {
         ensures { result.items ≡ quals_text self }
     {
         let mut text = ArrayVec::new();
-        for number in 0..64 {
-            if self.has(number) {
-                put_number(&mut text, number);
-            }
+        let mut from = 0;
+        while let Some(number) = self.first_from(from) {
+            put_number(&mut text, number);
+            from = number + 1;
         }
         if text.is_empty() {
             text.push(b'-');
         }
         text
+    }
+
+    // The lowest number of the set that is not below this one.
+    fn first_from(self, from: u8) -> Option<u8>
+        requires { from ≤ 64 }
+        ensures some { IfSome result (λ number. (from ≤ number) × (number ≤ 63)
+            × (has self number ≡ true) × HasNone self from number) }
+        ensures none { IfNone result (HasNone self from 64) }
+    {
+        if from > 63 {
+            return None;
+        }
+        let left = self.0 >> from;
+        if left == 0 {
+            None
+        } else {
+            Some(from + left.trailing_zeros() as u8)
+        }
     }
 }
 
@@ -102,9 +115,11 @@ fn put_number(text: &mut QualsText, number: u8)
         .unwrap();
 }
 
-// The bits of the numbers between the marks; where these are not rising, of some other set.
+// The bits of the numbers between the marks, each above those before it.
 fn bits_of(text: &[u8]) -> Option<u64>
-    ensures { (quals : ℕ) → quals < 2 ^ 64 → text.now ≡ quals_text quals → result ≡ Some quals }
+    ensures some { IfSome result (λ bits. text.now ≡ quals_text bits) }
+    ensures only { (quals : ℕ) → quals < 2 ^ 64 → text.now ≡ quals_text quals
+        → result ≡ Some quals }
 {
     if text == b"-".as_slice() {
         return Some(0);
@@ -115,6 +130,9 @@ fn bits_of(text: &[u8]) -> Option<u64>
         let (part, after) = split_once(parts, b'+');
         let number = read_decimal(part)?;
         if number > 63 {
+            return None;
+        }
+        if bits >> number != 0 {
             return None;
         }
         bits |= 1 << number;

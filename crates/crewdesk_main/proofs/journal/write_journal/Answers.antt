@@ -14,7 +14,7 @@ loop-entry-preserved g c =
     let before = c.loop-entry.invariant in
     record {
       gathered = Gathers-journal _ _ _ c.args.opening.now c.args.entries.now c.loop-entry.entry-index c.entry-item.result _ _ _
-          c.loop-entry-test.true c.entry-item.is (c.as_slice-in-loop-entry.ensures.value ∙ c.write_entry.ensures) before.gathered c.if-not-gather-2.ensures.all;
+          c.loop-entry-test.true c.entry-item.is (c.as_slice-in-loop-entry.ensures.value ∙ c.fill_with_entry.ensures) before.gathered c.if-not-gather-2.ensures.all;
       room = omega (arith, before.room, c.if-not-gather-2.ensures.capacity);
       unfaulted = c.if-not-gather-2.ensures.no_fault ∙ before.unfaulted;
     }

@@ -1,21 +1,16 @@
-use Rattle.std.proofs.Common.{◌≡◌, sym, ap, ◌∙◌, decimal}
-use Rattle.std.proofs.lemmas.Bool.{false≢true}
-use Rattle.std.proofs.lemmas.Bool.Decides.{Decides-eqb}
-use Rattle.std.proofs.lemmas.Slice.Eq.{slice_eq-Decides}
+use Rattle.std.proofs.Common.{arith}
+use Rattle.desk_base.proofs.DecimalLemmas.{is_plain}
+use Rattle.desk_base.specs.Decimal.{IsPlain}
 use Rattle.desk_base.proofs.decimal.read_decimal.Goals as goal
 
-pub returns-in_err-number-clause-only : goal.returns-in_err-number-clause-only
-returns-in_err-number-clause-only c = λ number bound e.
-    let read = c.parsed.ensures number bound e in let failed = c.in_err-number.was in cc
+pub returns-in-43-clause-only : goal.returns-in-43-clause-only
+returns-in-43-clause-only c = λ number small e.
+    let plain : IsPlain c.args.text.now = rw e (is_plain number small) in absurd (omega (arith, plain.0, plain.1))
 
-pub returns-then-eq-clause-only : goal.returns-then-eq-clause-only
-returns-then-eq-clause-only c = λ number bound e.
-    let read = c.parsed.ensures number bound e in let found = c.in_ok-number.was in cc
+pub returns-in-43-2-clause-only : goal.returns-in-43-2-clause-only
+returns-in-43-2-clause-only c = λ number small e.
+    let plain : IsPlain c.args.text.now = rw e (is_plain number small) in absurd (omega (arith, plain.0, plain.1))
 
-pub returns-else-eq-clause-only : goal.returns-else-eq-clause-only
-returns-else-eq-clause-only c = λ number bound e.
-    let read = c.parsed.ensures number bound e in
-    let found = c.in_ok-number.was in
-    let number_is : c.in_ok-number.number ≡ number = cc in
-    let same = c.as_bytes.ensures.value ∙ c.format.ensures.text ∙ ap decimal number_is ∙ sym e in
-    absurd (false≢true (sym c.if-eq.false ∙ (slice_eq-Decides Decides-eqb _ _ _ c.eq.ensures).1 same))
+pub returns-in-43-3-clause-only : goal.returns-in-43-3-clause-only
+returns-in-43-3-clause-only c = λ number small e.
+    let plain : IsPlain c.args.text.now = rw e (is_plain number small) in absurd (omega (arith, plain.0, plain.1))
