@@ -20,7 +20,9 @@ pub(crate) fn on_duty_between(before: &Option<Event>, event: &Event) -> Interval
         ≡ minutes_between is_on_duty before.now event.now first many }
 {
     match before {
-        Some(before) if matches!(between(before, event), MinuteKind::OnDuty) => whole(before, event),
+        Some(before) if matches!(between(before, event), MinuteKind::OnDuty) => whole(
+            before, event,
+        ),
         _ => Interval::NONE,
     }
 }

@@ -63,9 +63,6 @@ impl MonthSums {
         ensures { result ≡ get_or self.now (month - window.now.first) 0 }
     {
         let place = month.number() - window.first().number();
-        self.sums
-            .get(usize::from(place))
-            .copied()
-            .unwrap_or(0)
+        self.sums.get(usize::from(place)).copied().unwrap_or(0)
     }
 }

@@ -1,5 +1,6 @@
 ghost use Rattle.std.specs.Prelude.{◌≡◌, ◌<◌, ◌≤◌, ◌+◌, ℕ, List, [], ◌∷◌, ◌++◌};
 ghost use Rattle.std.specs.Option.{option_map};
+ghost use Rattle.std.specs.Bool.{Decides};
 ghost use Rattle.desk_base.specs.Month.{first_minute, minutes_of};
 ghost use Rattle.duty_events.specs.declared.event.Event.{Event};
 ghost use Rattle.duty_events.specs.Allowed.{last_minute};
@@ -12,7 +13,7 @@ ghost use Rattle.tour_build.specs.Runs.{Runs};
 use crate::between::{capped_between, tour_between};
 use crate::{MonthSums, TourTotals};
 use desk_base::{Month, Window};
-use duty_events::{Event, Stage};
+use duty_events::{Event, Stage, may_follow, may_follow_in_words};
 use std::marker::Model;
 
 /// The minutes of the last tour that has begun, whether it has ended or not, summed as its events come: in all, and by the
@@ -52,6 +53,22 @@ impl RunningTour {
             used_in: MonthSums::none(),
             capped_in: MonthSums::none(),
         }
+    }
+
+    /// The window of months.
+    pub fn window(&self) -> Window
+        ensures { result ≡ self.now.window }
+    {
+        self.window
+    }
+
+    /// Whether the event may come next: it is allowed, and its minutes lie in the years 2000 to 2099.
+    pub fn may_take(&self, event: &Event) -> bool
+        ensures { Decides result (Follows self.now.totals.stage
+            (option_map last_minute self.now.totals.last) event.now) }
+    {
+        may_follow_in_words();
+        may_follow(&self.totals.stage(), &self.totals.last_minute(), event)
     }
 
     /// Takes in the next event, which is allowed and has its minutes in the years 2000 to 2099.

@@ -8,6 +8,7 @@ ghost use Rattle.tour_build.specs.Runs.{AreTotals};
 
 use crate::Interval;
 use crate::between::{capped_between, limbo_between, on_duty_between};
+use desk_base::Minute;
 use duty_events::{Event, Stage};
 use std::marker::Model;
 
@@ -82,6 +83,16 @@ impl TourTotals {
         ensures { result ≡ self.now.last }
     {
         self.last
+    }
+
+    /// The latest minute; `None` before the first event.
+    pub fn last_minute(&self) -> Option<Minute>
+        ensures { result ≡ option_map last_minute self.now.last }
+    {
+        match &self.last {
+            Some(event) => Some(event.last_minute()),
+            None => None,
+        }
     }
 
     /// The tour's minutes on duty.

@@ -27,7 +27,7 @@ loop-place-preserved c = record {
       let set = c.from-in-loop-place-2.result in
       let set_is = c.from-in-loop-place-2.ensures in
       let apart = λ (is : k ≢ place). get_or-set_other c.loop-place.self-inside.sums set k c.saturating_add.result 0 (λ e. is (e ∙ set_is))
-          ∙ c.loop-place.invariant.sums was now sums more k within ∙ passed-next c.saturating_sub-low.result place k _ _ is in
+      ∙ c.loop-place.invariant.sums was now sums more k within ∙ passed-next c.saturating_sub-low.result place k _ _ is in
       elim (cases_lt k place) [
         | inl before ↦ apart (λ e. absurd (omega (arith, e, before)))
         | inr from ↦ elim (cases_lt place k) [
@@ -66,7 +66,7 @@ returns c was now sums more k within =
         | inl to ↦ kept ∙ passed-in low end k _ _ from to
         | inr behind ↦
             let none = shared-behind c.args.interval.from c.args.interval.to c.of-2.result month c.of-2.ensures.not_over
-                (omega (arith, behind, within, c.loop-place-test.false, c.min-place-end.ensures, c.from.ensures, c.months.ensures.value, c.saturating_sub-high.ensures, c.number-2.ensures.value, c.number-first.ensures.value, c.first.ensures)) in
+            (omega (arith, behind, within, c.loop-place-test.false, c.min-place-end.ensures, c.from.ensures, c.months.ensures.value, c.saturating_sub-high.ensures, c.number-2.ensures.value, c.number-first.ensures.value, c.first.ensures)) in
             kept ∙ passed-behind low end k _ _ behind ∙ omega (arith, added, none)
       ]
     ]
