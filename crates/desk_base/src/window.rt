@@ -1,4 +1,4 @@
-ghost use Rattle.std.specs.Prelude.{◌≡◌, ℕ, ◌≤◌, ◌<◌, ◌↔◌, IsTrue};
+ghost use Rattle.std.specs.Prelude.{◌≡◌, ℕ, ◌+◌, ◌≤◌, ◌<◌, ◌↔◌, IsTrue};
 ghost use Rattle.std.specs.Option.{SomeIff};
 ghost use Rattle.desk_base.specs.Window.{IsWindow, Holds, start_of, end_of, window_of};
 
@@ -55,6 +55,15 @@ impl Window {
         ensures range { IsWindow self.now }
     {
         self.months
+    }
+
+    /// The month at this place of the window, from 0.
+    pub fn month(&self, place: u8) -> Month
+        requires { place < self.now.months }
+        ensures value { result ≡ self.now.first + place }
+        ensures range { IsWindow self.now }
+    {
+        self.first.after(place)
     }
 
     /// Whether the minute lies in the window.

@@ -1,0 +1,3 @@
+pub mod MonthSums
+pub mod LastTour
+pub mod Runs

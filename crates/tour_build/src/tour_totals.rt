@@ -1,0 +1,137 @@
+ghost use Rattle.std.specs.Prelude.{◌≡◌, ◌<◌, ◌+◌, ◌^◌, ℕ, List, [], ◌∷◌, ◌++◌, if◌then◌else◌};
+ghost use Rattle.std.specs.Option.{option_map};
+ghost use Rattle.duty_events.specs.declared.event.Event.{Event};
+ghost use Rattle.duty_events.specs.Allowed.{last_minute};
+ghost use Rattle.duty_events.specs.Lists.{Follows};
+ghost use Rattle.duty_events.specs.Minutes.{shared};
+ghost use Rattle.tour_build.specs.Runs.{AreTotals};
+
+use crate::Interval;
+use crate::between::{capped_between, limbo_between, on_duty_between};
+use desk_base::Minute;
+use duty_events::{Event, Stage};
+use std::marker::Model;
+
+/// The minutes of the last tour that has begun, whether it has ended or not, by events that come one after another: those on
+/// duty, those in limbo, and of these the capped ones. It keeps the last event and no other.
+#[derive(Clone, Copy, Debug, PartialEq, Eq)]
+pub struct TourTotals {
+    stage: Stage,
+    last: Option<Event>,
+    on_duty: u32,
+    limbo: u32,
+    capped: u32,
+}
+
+impl Model for TourTotals {
+    ghost use Rattle.tour_build.specs.Runs.{TotalsValue, totals_of};
+
+    ghost Value = { TotalsValue };
+
+    ghost view = { λ t. totals_of t.stage t.last t.on_duty t.limbo t.capped };
+
+    ghost inverse = { λ v. record {
+      stage = v.stage;
+      last = v.last;
+      on_duty = v.on_duty;
+      limbo = v.limbo;
+      capped = v.capped;
+    } };
+}
+
+impl TourTotals {
+    /// Those of nobody's tour, before the first event.
+    pub fn none() -> TourTotals
+        ensures { AreTotals result [] }
+    {
+        TourTotals {
+            stage: Stage::Off,
+            last: None,
+            on_duty: 0,
+            limbo: 0,
+            capped: 0,
+        }
+    }
+
+    /// Takes in the next event.
+    pub fn apply(&mut self, event: Event)
+        requires { Follows self.old.stage (option_map last_minute self.old.last) event }
+        ensures { (es : List Event) → AreTotals self.old es → AreTotals self.new (es ++ event ∷ []) }
+    {
+        let begins = self.stage.begins(&event);
+        let on_duty = on_duty_between(&self.last, &event);
+        let limbo = limbo_between(&self.last, &event);
+        let capped = capped_between(&self.last, &event, self.sum());
+        *self = TourTotals {
+            stage: self.stage.after(&event),
+            last: Some(event),
+            on_duty: summed(begins, self.on_duty, on_duty),
+            limbo: summed(begins, self.limbo, limbo),
+            capped: summed(begins, self.capped, capped),
+        };
+    }
+
+    /// The stage after the last event.
+    pub fn stage(&self) -> Stage
+        ensures { result ≡ self.now.stage }
+    {
+        self.stage
+    }
+
+    /// The last event; `None` before the first.
+    pub fn last(&self) -> Option<Event>
+        ensures { result ≡ self.now.last }
+    {
+        self.last
+    }
+
+    /// The latest minute; `None` before the first event.
+    pub fn last_minute(&self) -> Option<Minute>
+        ensures { result ≡ option_map last_minute self.now.last }
+    {
+        match &self.last {
+            Some(event) => Some(event.last_minute()),
+            None => None,
+        }
+    }
+
+    /// The tour's minutes on duty.
+    pub fn on_duty(&self) -> u32
+        ensures { result ≡ self.now.on_duty }
+    {
+        self.on_duty
+    }
+
+    /// Its minutes in limbo.
+    pub fn limbo(&self) -> u32
+        ensures { result ≡ self.now.limbo }
+    {
+        self.limbo
+    }
+
+    /// Its minutes in limbo that come when it has twelve hours, 49 USC 21103(c)(1).
+    pub fn capped(&self) -> u32
+        ensures { result ≡ self.now.capped }
+    {
+        self.capped
+    }
+
+    /// Its minutes on duty and in limbo together.
+    pub fn sum(&self) -> u64
+        ensures { result ≡ self.now.on_duty + self.now.limbo }
+    {
+        u64::from(self.on_duty) + u64::from(self.limbo)
+    }
+}
+
+// A sum with more minutes, or none of a tour that begins.
+fn summed(begins: bool, sum: u32, more: Interval) -> u32
+    ensures { (now : ℕ) → now ≡ (if begins then 0 else sum + shared more.from more.to 0 (2 ^ 28)) → now < 2 ^ 32
+        → result ≡ now }
+{
+    if begins {
+        0
+    } else {
+        sum.saturating_add(more.count())
+    }
+}
