@@ -27,7 +27,7 @@ pub struct Facts {
     pub quals_asked: Quals,
     /// The person declined, did not answer or dropped the vacancy.
     pub answered: bool,
-    /// Until when a decline holds the person from the vacancy.
+    /// Until when a decline holds the person from the vacancy; `None` where no hold lasts any more, and in the first edition.
     pub held: Option<Minute>,
     /// The first bar of 49 USC 21103.
     pub law: Option<Bar>,

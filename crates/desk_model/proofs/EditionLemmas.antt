@@ -1,6 +1,6 @@
 -- What the second edition of the rules adds to the first, and what it leaves.
-use Rattle.std.proofs.Common.{◌≡◌, ◌<◌, ◌≤◌, ℕ, ◌+◌, Bool, true, false, cond, not, ◌&&◌, nat_lt, nat_le, nat_eq, Option, None, Some, is_some, List, [], ◌∷◌, ◌++◌, length, refl, sym, ap, ◌∙◌, arith}
-use Rattle.std.specs.Option.{option_or, option_map}
+use Rattle.std.proofs.Common.{◌≡◌, ◌<◌, ◌≤◌, ℕ, ◌+◌, Bool, true, false, cond, not, ◌&&◌, nat_lt, nat_le, Option, None, Some, is_some, List, [], ◌∷◌, ◌++◌, length, refl, sym, ap, ◌∙◌, arith}
+use Rattle.std.specs.Option.{option_map}
 use Rattle.std.specs.List.{Contains}
 use Rattle.std.proofs.lemmas.Bool.{false≢true}
 use Rattle.std.proofs.lemmas.Bool.Decides.{nat_tests}
@@ -8,8 +8,6 @@ use Rattle.desk_base.specs.Window.{end_of}
 use Rattle.desk_model.specs.declared.limits.TheConstants.{HOLD, PLAN_LIMIT, RELIEF_LIMIT, VACANCY_LIMIT}
 use Rattle.desk_model.specs.declared.edition.Edition.{Edition}
 use Rattle.desk_model.specs.declared.edition.Edition.TheVariants as edition
-use Rattle.desk_model.specs.declared.command.Cmd.{Cmd}
-use Rattle.desk_model.specs.declared.command.Cmd.TheVariants as cmd
 use Rattle.desk_model.specs.declared.reply.Reply.{Reply}
 use Rattle.desk_model.specs.declared.reply.Reply.TheVariants as reply
 use Rattle.denial_rules.specs.declared.bar.Bar.{Bar}
@@ -17,52 +15,37 @@ use Rattle.denial_rules.specs.declared.bar.Bar.TheVariants as bar
 use Rattle.denial_rules.specs.declared.facts.Facts.{Facts}
 use Rattle.denial_rules.specs.Table.{marked_off_row, busy_row, on_offer_row, place_row, craft_row, quals_row, answered_row, law_row, first_some}
 use Rattle.desk_model.specs.declared.person.Person.{Person}
-use Rattle.desk_model.specs.Entry.{EntryValue}
+use Rattle.desk_model.specs.Opening.{OpeningValue}
 use Rattle.desk_model.specs.Job.{JobValue}
-use Rattle.desk_model.specs.History.{History, with_entry, Step, steps, is_done, said}
-use Rattle.desk_model.specs.Register.{makes, vacancy_of, vacancies}
+use Rattle.desk_model.specs.History.{History, Step, steps, is_done}
+use Rattle.desk_model.specs.Register.{vacancy_of, vacancies}
 use Rattle.desk_model.specs.Held.{hold_end, held_in, held, HasDeclined}
-use Rattle.desk_model.specs.VacancyAnswer.{unknown_in, bad_in, is_first, chain_answer, vacancy_answer}
+use Rattle.desk_model.specs.VacancyAnswer.{unknown_in, bad_in, is_edition_one, chain_answer, vacancy_answer}
 use Rattle.desk_model.specs.Bars.{facts_of, bar_of}
 use Rattle.desk_model.specs.FirstEdition.{first_bar_in_one, chain_answer_in_one, vacancy_answer_in_one}
-use Rattle.desk_model.specs.Legal.{answer_to, IsNext, IsLegal}
-use Rattle.desk_model.proofs.SaidLemmas.{first_of-snoc}
-use Rattle.desk_model.proofs.LegalLemmas.{legal-induction, said-next}
+use Rattle.desk_model.specs.Legal.{IsLegal}
+use Rattle.desk_model.proofs.PlanLemmas.{vacancy_of-keeps}
 use Rattle.desk_model.proofs.HeldLemmas.{hold_end-declined}
 
 -- ---- relief
 
--- a relief vacancy is not made in the first edition
-vacancy-ordinary : (h : History) (m : ℕ) (job : JobValue) → h.opening.edition ≡ edition.One → is_done (vacancy_answer h m job) ≡ true → job.relief ≡ false
-vacancy-ordinary h m job one done = go job.relief h.opening.edition one done
+-- a job is no relief one where the opening is of the first edition
+abbrev IsOrdinary : OpeningValue → JobValue → Type 0
+IsOrdinary o job = o.edition ≡ edition.One → job.relief ≡ false
+
+-- where it is made it is none
+vacancy-ordinary : (h : History) (m : ℕ) (job : JobValue) → is_done (vacancy_answer h m job) ≡ true → IsOrdinary h.opening job
+vacancy-ordinary h m job done one = go job.relief h.opening.edition one done
   where
     go : (relief : Bool) (e : Edition) → e ≡ edition.One
-        → is_done (cond (relief && is_first e) reply.OtherEdition (cond (is_some (vacancy_of h job.vac)) reply.Used (cond (nat_le VACANCY_LIMIT (length (vacancies h))) reply.VacanciesFull (chain_answer h.opening m job (unknown_in h job.chain) (bad_in h job.chain))))) ≡ true
+        → is_done (cond (relief && is_edition_one e) reply.OtherEdition (cond (is_some (vacancy_of h job.vac)) reply.Used (cond (nat_le VACANCY_LIMIT (length (vacancies h))) reply.VacanciesFull (chain_answer h.opening m job (unknown_in h job.chain) (bad_in h job.chain))))) ≡ true
         → relief ≡ false
     go false e one done = refl
     go true edition.One one done = absurd (false≢true done)
     go true edition.Two one done = cc
 
-makes-ordinary : (h : History) (m : ℕ) (c : Cmd) (v : ℕ) (job : JobValue) → h.opening.edition ≡ edition.One → makes v c ≡ Some job → is_done (answer_to h m c) ≡ true → job.relief ≡ false
-makes-ordinary h m (cmd.Vacancy j) v job one made done = go (nat_eq j.vac v) made
-  where
-    go : (same : Bool) → cond same (Some j) None ≡ Some job → job.relief ≡ false
-    go true is = let same : j ≡ job = cc in ap (λ k. k.relief) (sym same) ∙ vacancy-ordinary h m j one done
-    go false is = cc
-makes-ordinary h m other v job one made done = cc
-
-abbrev AreOrdinary : History → Type 0
-AreOrdinary h = h.opening.edition ≡ edition.One → (v : ℕ) (job : JobValue) → vacancy_of h v ≡ Some job → job.relief ≡ false
-
-grown : (h : History) (e : EntryValue) → IsLegal h → IsNext h e → AreOrdinary h → AreOrdinary (with_entry h e)
-grown h e legal is were one v job found = go (vacancy_of h v) refl (sym (first_of-snoc (said (makes v)) h.entries e) ∙ found)
-  where
-    go : (old : Option JobValue) → vacancy_of h v ≡ old → option_or old (said (makes v) e) ≡ Some job → job.relief ≡ false
-    go None known made = let done = said-next (makes v) h e job is made in makes-ordinary h e.moment e.stated.cmd v job one done.0 done.1
-    go (Some j) known same = were one v job (known ∙ same)
-
-pub vacancy_of-ordinary : (h : History) → IsLegal h → AreOrdinary h
-vacancy_of-ordinary h legal = legal-induction AreOrdinary (λ o valid one v job none. cc) grown h legal
+pub vacancy_of-ordinary : (h : History) → IsLegal h → h.opening.edition ≡ edition.One → (v : ℕ) (job : JobValue) → vacancy_of h v ≡ Some job → job.relief ≡ false
+vacancy_of-ordinary h legal one v job made = vacancy_of-keeps IsOrdinary vacancy-ordinary h legal v job made one
 
 -- what is answered where the plan isn't too long, and what is looked at before the chain
 abbrev late_answer : History → ℕ → JobValue → Reply
@@ -87,7 +70,7 @@ vacancy_answer-ordinary h m job ordinary = by_relief job.relief ordinary
         by_plan true ordinary = absurd (false≢true (sym ordinary))
 
     by_relief : (relief : Bool) → relief ≡ false
-        → cond (relief && is_first h.opening.edition) reply.OtherEdition (known_answer h job (chain_answer h.opening m job (unknown_in h job.chain) (bad_in h job.chain)))
+        → cond (relief && is_edition_one h.opening.edition) reply.OtherEdition (known_answer h job (chain_answer h.opening m job (unknown_in h job.chain) (bad_in h job.chain)))
         ≡ known_answer h job (chain_answer_in_one h m job (unknown_in h job.chain) (bad_in h job.chain))
     by_relief false ordinary = ap (known_answer h job) (by_chain (unknown_in h job.chain) (bad_in h job.chain))
     by_relief true ordinary = absurd (false≢true (sym ordinary))

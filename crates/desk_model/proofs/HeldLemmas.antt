@@ -15,7 +15,7 @@ use Rattle.desk_model.specs.declared.reply.Reply.TheVariants as reply
 use Rattle.desk_model.specs.Entry.{EntryValue}
 use Rattle.desk_model.specs.History.{History, opened, with_entry, Step, step_of, steps_from, steps, is_done, said}
 use Rattle.desk_model.specs.Offers.{open_offer}
-use Rattle.desk_model.specs.Held.{is_from, holds, held_by, greatest, hold_end, HasDeclined}
+use Rattle.desk_model.specs.Held.{is_from, hold_told, held_by, greatest, hold_end, HasDeclined}
 use Rattle.desk_model.specs.Fits.{Fits}
 use Rattle.desk_model.proofs.FoundLemmas.{Tells, All-filter_map}
 use Rattle.desk_model.proofs.SaidLemmas.{steps-snoc, filter_map-snoc, said-some}
@@ -30,13 +30,13 @@ greatest-append (m ∷ ms) ns = omega (arith, greatest-append ms ns)
 
 -- one entry more
 pub hold_end-comes : (h : History) (e : EntryValue) (codes : List (List ℕ)) (p : ℕ)
-    → hold_end (with_entry h e) codes p ≡ max (hold_end h codes p) (unwrap_or (said (holds codes p h e.moment) e) 0)
+    → hold_end (with_entry h e) codes p ≡ max (hold_end h codes p) (unwrap_or (said (hold_told codes p h e.moment) e) 0)
 unfolding hold_end
 hold_end-comes h e codes p =
     ap (λ all. greatest (filter_map (held_by codes p) all)) (steps-snoc h e)
     ∙ ap greatest (filter_map-snoc (held_by codes p) (steps h) (step_of h e))
-    ∙ greatest-append (filter_map (held_by codes p) (steps h)) (cons_option (said (holds codes p h e.moment) e) [])
-    ∙ ap (max (greatest (filter_map (held_by codes p) (steps h)))) (only (said (holds codes p h e.moment) e))
+    ∙ greatest-append (filter_map (held_by codes p) (steps h)) (cons_option (said (hold_told codes p h e.moment) e) [])
+    ∙ ap (max (greatest (filter_map (held_by codes p) (steps h)))) (only (said (hold_told codes p h e.moment) e))
   where
     only : (o : Option ℕ) → greatest (cons_option o []) ≡ unwrap_or o 0
     only None = refl
@@ -103,9 +103,9 @@ greatest-most f (s ∷ ss) = go (f s) refl (greatest-most f ss)
 -- ---- declines
 
 -- what a command holds, it holds by a decline
-holds-declined : (codes : List (List ℕ)) (p : ℕ) (h : History) (m : ℕ) (c : Cmd) (until : ℕ) → holds codes p h m c ≡ Some until
+hold_told-declined : (codes : List (List ℕ)) (p : ℕ) (h : History) (m : ℕ) (c : Cmd) (until : ℕ) → hold_told codes p h m c ≡ Some until
     → (until ≡ m + HOLD) × ((vac : ℕ) × ((offer : Offer) × ((c ≡ cmd.Decline vac p) × (open_offer h vac ≡ Some offer) × (list_any (bytes_eq offer.board) codes ≡ true))))
-holds-declined codes p h m (cmd.Decline vac person) until told = mine (nat_eq person p) refl told
+hold_told-declined codes p h m (cmd.Decline vac person) until told = mine (nat_eq person p) refl told
   where
     from : person ≡ p → (offer : Option Offer) → open_offer h vac ≡ offer → (here : Bool) → is_from codes offer ≡ here → cond here (Some (m + HOLD)) None ≡ Some until
         → (until ≡ m + HOLD)
@@ -119,7 +119,7 @@ holds-declined codes p h m (cmd.Decline vac person) until told = mine (nat_eq pe
         × ((v : ℕ) × ((o : Offer) × ((cmd.Decline vac person ≡ cmd.Decline v p) × (open_offer h v ≡ Some o) × (list_any (bytes_eq o.board) codes ≡ true))))
     mine true is told = from (same_number person p is) (open_offer h vac) refl (is_from codes (open_offer h vac)) refl told
     mine false is told = cc
-holds-declined codes p h m other until told = cc
+hold_told-declined codes p h m other until told = cc
 
 done-reply : (r : Reply) → is_done r ≡ true → r ≡ reply.Done
 done-reply reply.Done done = refl
@@ -127,8 +127,8 @@ done-reply other done = absurd (false≢true done)
 
 held_by-declined : (codes : List (List ℕ)) (p : ℕ) (s : Step) (until : ℕ) → held_by codes p s ≡ Some until → HasDeclined codes p s × (until ≡ s.entry.moment + HOLD)
 held_by-declined codes p s until told =
-    let parts = said-some (holds codes p s.before s.entry.moment) s.entry until told in
-    let by = holds-declined codes p s.before s.entry.moment s.entry.stated.cmd until parts.1 in (
+    let parts = said-some (hold_told codes p s.before s.entry.moment) s.entry until told in
+    let by = hold_told-declined codes p s.before s.entry.moment s.entry.stated.cmd until parts.1 in (
       record {
         vac = by.1.0;
         offer = by.1.1.0;

@@ -16,7 +16,7 @@ use Rattle.desk_model.specs.Marks.{marks, is_marked_off}
 use Rattle.desk_model.specs.Assigned.{assigned}
 use Rattle.desk_model.specs.States.{state_of}
 use Rattle.desk_model.specs.TurnedDown.{turns_down, has_turned_down}
-use Rattle.desk_model.specs.Held.{holds, hold_end}
+use Rattle.desk_model.specs.Held.{hold_told, hold_end}
 use Rattle.desk_model.specs.Comes.{takes_off, kept, left_by, order_by, assigned_by, state_by, offered_by, left_open}
 use Rattle.desk_model.specs.Parts.{Part, Stays, touches}
 use Rattle.desk_model.specs.Parts as part
@@ -122,9 +122,9 @@ turns-none h (cmd.NoAnswer vac person) v p apart = absurd (false≢true (sym apa
 turns-none h (cmd.Drop person) v p apart = absurd (false≢true (sym apart))
 turns-none h other v p apart = refl
 
-holds-none : (h : History) (c : Cmd) (codes : List (List ℕ)) (p m : ℕ) → touches part.Holds c ≡ false → holds codes p h m c ≡ None
-holds-none h (cmd.Decline vac person) codes p m apart = absurd (false≢true (sym apart))
-holds-none h other codes p m apart = refl
+hold_told-none : (h : History) (c : Cmd) (codes : List (List ℕ)) (p m : ℕ) → touches part.Holds c ≡ false → hold_told codes p h m c ≡ None
+hold_told-none h (cmd.Decline vac person) codes p m apart = absurd (false≢true (sym apart))
+hold_told-none h other codes p m apart = refl
 
 -- ---- each part
 
@@ -188,5 +188,5 @@ stays h e legal is part.Assignments apart = λ p. (comes h e).assigned p ∙ go 
 stays h e legal is part.Refusals apart = λ v p.
     (comes h e).turned_down v p ∙ ap (λ o. has_turned_down h v p || is_some o) (unsaid (turns_down v p h) e (turns-none h e.stated.cmd v p apart)) ∙ or_false (has_turned_down h v p)
 stays h e legal is part.Holds apart = λ codes p.
-    (comes h e).hold_end codes p ∙ ap (λ o. max (hold_end h codes p) (unwrap_or o 0)) (unsaid (holds codes p h e.moment) e (holds-none h e.stated.cmd codes p e.moment apart))
+    (comes h e).hold_end codes p ∙ ap (λ o. max (hold_end h codes p) (unwrap_or o 0)) (unsaid (hold_told codes p h e.moment) e (hold_told-none h e.stated.cmd codes p e.moment apart))
     ∙ max-none (hold_end h codes p)

@@ -18,7 +18,7 @@ use Rattle.desk_model.specs.Marks.{marks, is_marked_off}
 use Rattle.desk_model.specs.Assigned.{assigns, is_assigned, accepted_by, only_if, assigned, holder, begins, begun_by, begun, annuls}
 use Rattle.desk_model.specs.States.{state_of}
 use Rattle.desk_model.specs.TurnedDown.{turns_down, turned_by, has_turned_down}
-use Rattle.desk_model.specs.Held.{holds, hold_end}
+use Rattle.desk_model.specs.Held.{hold_told, hold_end}
 use Rattle.desk_model.specs.Duty.{tells, told_at, told_by, events_in, keep, told, events, closes}
 use Rattle.desk_model.specs.Bars.{bar_of, may_have, is_free}
 use Rattle.desk_model.specs.Comes.{assigned_by}
@@ -136,7 +136,7 @@ refused h e same = record {
 
     waits : (codes : List (List ℕ)) (p : ℕ) → hold_end (with_entry h e) codes p ≡ hold_end h codes p
     waits codes p =
-        hold_end-comes h e codes p ∙ ap (λ o. max (hold_end h codes p) (unwrap_or o 0)) (said-refused (holds codes p h e.moment) e same)
+        hold_end-comes h e codes p ∙ ap (λ o. max (hold_end h codes p) (unwrap_or o 0)) (said-refused (hold_told codes p h e.moment) e same)
         ∙ max-none (hold_end h codes p)
 
     held : (v : ℕ) → holder (with_entry h e) v ≡ holder h v

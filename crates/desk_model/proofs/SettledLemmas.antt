@@ -16,7 +16,7 @@ use Rattle.desk_model.specs.Marks.{is_marked_off}
 use Rattle.desk_model.specs.Assigned.{assigned}
 use Rattle.desk_model.specs.TurnedDown.{has_turned_down}
 use Rattle.desk_model.specs.Held.{is_from, hold_end}
-use Rattle.desk_model.specs.VacancyAnswer.{unknown_in, bad_in, is_first, chain_answer, vacancy_answer}
+use Rattle.desk_model.specs.VacancyAnswer.{unknown_in, bad_in, is_edition_one, chain_answer, vacancy_answer}
 use Rattle.desk_model.specs.Comes.{left_open, order_by}
 use Rattle.desk_model.specs.Accepted.{Answered, Accepted, to_bottom, Makes, Offers, Settles, Accepts, Declines, IsSilent, Withdraws, Annuls, Drops}
 use Rattle.desk_model.specs.Legal.{IsNext, IsLegal}
@@ -30,7 +30,7 @@ use Rattle.desk_model.proofs.StateStepLemmas.{state-comes}
 use Rattle.desk_model.proofs.AcceptedLemmas.{entry, put, any, new}
 
 vacancy-new : (h : History) (m v : ℕ) (job : JobValue) → is_done (vacancy_answer h m job) ≡ true → nat_eq job.vac v ≡ true → is_none (vacancy_of h v) ≡ true
-vacancy-new h m v job done same = ap (λ n. is_none (vacancy_of h n)) (sym (same_number job.vac v same)) ∙ go (job.relief && is_first h.opening.edition) (vacancy_of h job.vac) done
+vacancy-new h m v job done same = ap (λ n. is_none (vacancy_of h n)) (sym (same_number job.vac v same)) ∙ go (job.relief && is_edition_one h.opening.edition) (vacancy_of h job.vac) done
   where
     go : (elsewhere : Bool) (known : Option JobValue)
         → is_done (cond elsewhere reply.OtherEdition (cond (is_some known) reply.Used (cond (nat_le VACANCY_LIMIT (length (vacancies h))) reply.VacanciesFull (chain_answer h.opening m job (unknown_in h job.chain) (bad_in h job.chain))))) ≡ true

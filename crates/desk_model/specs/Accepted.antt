@@ -106,7 +106,7 @@ pub record Accepts (v p : ℕ) (h later : History) : Type 0 where
   pub has : (q : ℕ) → assigned later q ≡ (if nat_eq p q then Some v else assigned h q)
   pub stands : (w : ℕ) → state_of later w ≡ (if nat_eq v w then state.Taken p else state_of h w)
 
--- who declines goes to the bottom of the board that the offer was made from, and is held from the moment on
+-- who declines goes to the bottom of the board that the offer was made from; in the second edition they are held from the moment on
 pub record Declines (v p : ℕ) (h later : History) (moment : ℕ) : Type 0 where
   pub settled : Settles v h later
   pub stands : (w : ℕ) → state_of later w ≡ (if nat_eq v w then state.Vacant else state_of h w)

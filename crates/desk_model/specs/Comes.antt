@@ -19,7 +19,7 @@ use Rattle.desk_model.specs.Marks.{marks, is_marked_off}
 use Rattle.desk_model.specs.Assigned.{reports, assigns, is_assigned, assigned}
 use Rattle.desk_model.specs.States.{open_state}
 use Rattle.desk_model.specs.TurnedDown.{turns_down, has_turned_down}
-use Rattle.desk_model.specs.Held.{holds, hold_end}
+use Rattle.desk_model.specs.Held.{hold_told, hold_end}
 
 -- ---- boards
 
@@ -127,4 +127,4 @@ pub record Comes (h : History) (e : EntryValue) : Type 0 where
   pub has : (p v : ℕ) → is_assigned (with_entry h e) p v ≡ unwrap_or (said (assigns p v) e) (is_assigned h p v)
   pub assigned : (p : ℕ) → assigned (with_entry h e) p ≡ assigned_after p e (assigned h p)
   pub turned_down : (v p : ℕ) → has_turned_down (with_entry h e) v p ≡ (has_turned_down h v p || is_some (said (turns_down v p h) e))
-  pub hold_end : (codes : List (List ℕ)) (p : ℕ) → hold_end (with_entry h e) codes p ≡ max (hold_end h codes p) (unwrap_or (said (holds codes p h e.moment) e) 0)
+  pub hold_end : (codes : List (List ℕ)) (p : ℕ) → hold_end (with_entry h e) codes p ≡ max (hold_end h codes p) (unwrap_or (said (hold_told codes p h e.moment) e) 0)

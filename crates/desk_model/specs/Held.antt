@@ -17,22 +17,22 @@ abbrev pub is_from : List (List ℕ) → Option Offer → Bool
 is_from codes None = false
 is_from codes (Some offer) = list_any (bytes_eq offer.board) codes
 
--- until when a command at a moment, after this history, holds this person from vacancies of this chain: for 480 minutes, where
--- they decline an offer that was made from one of its boards
-abbrev pub holds : List (List ℕ) → ℕ → History → ℕ → Cmd → Option ℕ
-holds codes p h m (cmd.Decline vac person) = if nat_eq person p && is_from codes (open_offer h vac) then Some (m + HOLD) else None
-holds codes p h m other = None
+-- until when a command at a moment, after this history, would hold this person from vacancies of this chain: for 480 minutes,
+-- where they decline an offer that was made from one of its boards
+abbrev pub hold_told : List (List ℕ) → ℕ → History → ℕ → Cmd → Option ℕ
+hold_told codes p h m (cmd.Decline vac person) = if nat_eq person p && is_from codes (open_offer h vac) then Some (m + HOLD) else None
+hold_told codes p h m other = None
 
 abbrev pub held_by : List (List ℕ) → ℕ → Step → Option ℕ
-held_by codes p s = said (holds codes p s.before s.entry.moment) s.entry
+held_by codes p s = said (hold_told codes p s.before s.entry.moment) s.entry
 
 -- the greatest of some minutes, and 0 where there are none
 abbrev pub greatest : List ℕ → ℕ
 greatest [] = 0
 greatest (m ∷ ms) = max m (greatest ms)
 
--- the end of the latest hold that the person's declines gave, from vacancies of this chain; 0 where they declined none of its
--- boards. That they have left a board since changes nothing
+-- 480 minutes after the latest of the person's declines of an offer from a board of this chain; 0 where there is none. That they
+-- have left a board since changes nothing. It is told in either edition, and holds in the second alone, as follows
 unfoldable pub hold_end : History → List (List ℕ) → ℕ → ℕ
 hold_end h codes p = greatest (filter_map (held_by codes p) (steps h))
 

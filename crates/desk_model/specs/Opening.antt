@@ -23,7 +23,7 @@ pub record IsOpening (o : OpeningValue) : Type 0 where
 abbrev pub opening_of : ℕ → WindowValue → ℕ → Edition → OpeningValue
 opening_of start window answer edition = record { start = start; window = window; answer = answer; edition = edition }
 
--- what names the edition in the opening's record: nothing the first, a last `2` the second
+-- what names the edition in the opening's record: nothing the first, a sixth field `2` the second
 abbrev pub edition_fields : Edition → List (List ℕ)
 edition_fields edition.One = []
 edition_fields edition.Two = codes "2" ∷ []

@@ -15,7 +15,7 @@ use Rattle.desk_model.specs.Held.{hold_end}
 
 -- who is enrolled; what they can do; whether they are marked off; what they did; whether their past is closed; which boards there are;
 -- who is on them; in which order; which vacancies were made; how these stand; which are on offer; which are assigned; who has
--- turned which down; and until when declines hold whom
+-- turned which down; and until when declines would hold whom
 pub data Part : Type 0 where
   Persons : Part
   Quals : Part

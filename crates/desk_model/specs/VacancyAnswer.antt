@@ -43,14 +43,14 @@ chain_answer o m job None (Some b) = reply.BadChain b
 chain_answer o m job None None = plan_answer o m job
 
 -- the rules are of the first edition
-abbrev pub is_first : Edition → Bool
-is_first edition.One = true
-is_first edition.Two = false
+abbrev pub is_edition_one : Edition → Bool
+is_edition_one edition.One = true
+is_edition_one edition.Two = false
 
 -- it is a relief vacancy, which the first edition hasn't; the vacancy was made before; 20,000 were made; else what its chain gives
 abbrev pub vacancy_answer : History → ℕ → JobValue → Reply
 vacancy_answer h m job =
-    if job.relief && is_first h.opening.edition then reply.OtherEdition
+    if job.relief && is_edition_one h.opening.edition then reply.OtherEdition
     else if is_some (vacancy_of h job.vac) then reply.Used
     else if nat_le VACANCY_LIMIT (length (vacancies h)) then reply.VacanciesFull
     else chain_answer h.opening m job (unknown_in h job.chain) (bad_in h job.chain)

@@ -25,7 +25,7 @@ pub fn what_persons_and_boards_change()
 
 /// What the commands of vacancies and offers change where they are accepted in a legal history, and `next` and `offer`
 /// where they are answered with an offer: which vacancy and how it stands, which offer, whose assignment and mark, who
-/// turned it down, and the order of which board. It does nothing: its clauses are the laws.
+/// turned it down, until when a decline would hold whom, and the order of which board. It does nothing: its clauses are the laws.
 pub fn what_vacancies_and_offers_change()
     ensures vacancy { (job : JobValue) → Accepted (cmd.Vacancy job) (Makes job) }
     ensures next { (v p k : ℕ) (b : List ℕ) → Answered (cmd.Next v) (reply.Offered p b k) (Offers v p b) }

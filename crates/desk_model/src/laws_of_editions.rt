@@ -1,5 +1,5 @@
 //! What the second edition of the rules adds to the first, and what it leaves.
-ghost use Rattle.std.specs.Prelude.{◌≡◌, ◌≢◌, ◌≤◌, ◌<◌, ◌+◌, ℕ, false, None, Some, List};
+ghost use Rattle.std.specs.Prelude.{◌≡◌, ◌≢◌, ◌≤◌, ◌<◌, ◌+◌, ℕ, true, false, None, Some, List};
 ghost use Rattle.std.specs.List.{All, Contains};
 ghost use Rattle.desk_model.specs.declared.edition.Edition.TheVariants as edition;
 ghost use Rattle.desk_model.specs.declared.person.Person.{Person};
@@ -12,7 +12,7 @@ ghost use Rattle.desk_model.specs.VacancyAnswer.{vacancy_answer};
 ghost use Rattle.desk_model.specs.FirstEdition.{first_bar_in_one, vacancy_answer_in_one};
 ghost use Rattle.desk_model.specs.Legal.{IsLegal};
 
-/// In the first edition nobody is held, and a legal history has no relief vacancy; what bars someone is told by the table
+/// In the first edition nobody is held, and in a legal history no relief vacancy was made; what bars someone is told by the table
 /// without B8. And in either edition a vacancy that is no relief one is answered as the first edition answers it. It does
 /// nothing: its clauses are the laws.
 pub fn the_first_edition_stays_as_it_was()
@@ -27,17 +27,26 @@ pub fn the_first_edition_stays_as_it_was()
         → vacancy_answer h m job ≡ vacancy_answer_in_one h m job }
 {}
 
-/// In the second edition who declines an offer is held for 480 minutes from that moment, by every vacancy whose chain has the
-/// board that the offer was made from, whether or not they still stand on it: a hold that is not over ends 480 minutes after
-/// such a decline, none ends before that of any, and whom one holds from a vacancy is barred from it. It does nothing: its
-/// clauses are the laws.
+/// In a legal history each vacancy that was made plans at most 720 minutes on duty, 49 USC 21103(a)(2), or is a relief one and
+/// plans at most 960, 21103(d). It does nothing: its clauses are the law.
+pub fn no_vacancy_plans_too_long()
+    ensures ordinary { (h : History) → IsLegal h → (v : ℕ) (job : JobValue) → vacancy_of h v ≡ Some job
+        → job.relief ≡ false → job.duty ≤ 720 }
+    ensures relief { (h : History) → IsLegal h → (v : ℕ) (job : JobValue) → vacancy_of h v ≡ Some job
+        → job.relief ≡ true → job.duty ≤ 960 }
+{}
+
+/// In the second edition who declines an offer is held for 480 minutes from that moment, from every vacancy whose chain has the
+/// board that the offer was made from, whether or not they still stand on it: the end that is told of a hold is 480 minutes
+/// after such a decline; until 480 minutes after each such decline there is a hold, and the end that is told is not before
+/// that; and whom one holds from a vacancy is barred from it. It does nothing: its clauses are the laws.
 pub fn a_decline_holds_for_eight_hours()
     ensures ends { (h : History) (m p until : ℕ) (codes : List (List ℕ)) → held h m codes p ≡ Some until
         → (m < until) × ((s : Step) × (Contains (steps h) s
-            × (HasDeclined codes p s × (until ≡ s.entry.moment + 480)))) }
+        × (HasDeclined codes p s × (until ≡ s.entry.moment + 480)))) }
     ensures holds { (h : History) (p : ℕ) (codes : List (List ℕ)) → h.opening.edition ≡ edition.Two
         → All (λ s. HasDeclined codes p s → (m : ℕ) → m < s.entry.moment + 480
-            → (until : ℕ) × ((held h m codes p ≡ Some until) × (s.entry.moment + 480 ≤ until))) (steps h) }
+        → (until : ℕ) × ((held h m codes p ≡ Some until) × (s.entry.moment + 480 ≤ until))) (steps h) }
     ensures bars { (h : History) (m p until : ℕ) (job : JobValue) (person : Person)
         → held h m job.chain p ≡ Some until → bar_of h m job p person ≢ None }
 {}

@@ -38,7 +38,9 @@ pub use laws::{
     one_offer_to_a_person, order_is_by_rank, unfilled_where_all_are_barred,
 };
 pub use laws_of_commands::{what_persons_and_boards_change, what_vacancies_and_offers_change};
-pub use laws_of_editions::{a_decline_holds_for_eight_hours, the_first_edition_stays_as_it_was};
+pub use laws_of_editions::{
+    a_decline_holds_for_eight_hours, no_vacancy_plans_too_long, the_first_edition_stays_as_it_was,
+};
 pub use laws_of_entries::{
     a_vacancy_is_in_one_state, moments_never_fall, what_a_command_leaves,
     what_an_entry_makes_of_the_desk,

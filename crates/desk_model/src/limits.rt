@@ -25,7 +25,7 @@ pub const VACANCY_LIMIT: usize = 20_000;
 /// How many boards a vacancy may be filled from.
 pub const CHAIN_LIMIT: usize = 4;
 
-/// 49 USC 21103(a)(2): how many minutes on duty a vacancy may plan, twelve hours.
+/// 49 USC 21103(a)(2): how many minutes on duty a vacancy may plan that is no relief one, twelve hours.
 pub const PLAN_LIMIT: u16 = 720;
 
 /// 49 USC 21103(d): how many minutes on duty a relief vacancy may plan, sixteen hours.

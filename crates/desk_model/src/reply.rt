@@ -73,7 +73,7 @@ pub enum Reply {
     VacanciesFull,
     /// This board of the chain, behind its first, is no extra board.
     BadChain(Code),
-    /// 49 USC 21103(a)(2): the job has more than twelve hours of duty.
+    /// 49 USC 21103(a)(2): the job, which is no relief one, has more than twelve hours of duty.
     PlanTooLong,
     /// 49 USC 21103(d): the relief job has more than sixteen hours of duty.
     ReliefTooLong,

@@ -23,7 +23,12 @@ fn openings_keep_their_ranges(rt: HostRuntime) -> Result<(), Fail> {
         assert_eq!(rt; opening.is_some(), is_opening);
         if let Some(opening) = opening {
             assert_eq!(rt;
-                (opening.start(), opening.window(), opening.answer(), opening.edition()),
+                (
+                    opening.start(),
+                    opening.window(),
+                    opening.answer(),
+                    opening.edition()
+                ),
                 (start, window, answer, Edition::Two)
             );
         }
@@ -71,7 +76,17 @@ fn job_of(report: Minute, duty: u16, limbo: u16) -> Result<Option<Job>, Fail> {
     let quals = Quals::read(b"3").ok_or("no set")?;
     let place = Code::read(b"HOM").ok_or("no code")?;
     let chain = Chain::read(b"P1+X1").ok_or("no chain")?;
-    Ok(Job::new(vac, Craft::E, quals, place, report, duty, limbo, chain, true))
+    Ok(Job::new(
+        vac,
+        Craft::E,
+        quals,
+        place,
+        report,
+        duty,
+        limbo,
+        chain,
+        true,
+    ))
 }
 
 #[test]

@@ -8,8 +8,8 @@ use crate::line_fields::fields_of_line;
 use crate::opening_record::opening_of;
 use desk_model::Opening;
 
-/// The opening of the journal's first line, `M,open,month,months,answer` with its line feed, in the second edition with a last
-/// `2`; `None` for every other text: the line is the one spelling of its opening.
+/// The opening of the journal's first line, `M,open,month,months,answer` with its line feed, in the second edition with a sixth
+/// field, `2`; `None` for every other text: the line is the one spelling of its opening.
 pub fn read_opening(line: &[u8]) -> Option<Opening>
     ensures some { IfSome result (IsOpeningLine line.now) }
     ensures only { (o : OpeningValue) → IsOpeningLine line.now o → result ≡ Some o }

@@ -8,8 +8,8 @@ ghost use Rattle.desk_text.specs.OpeningRecord.{StatesOpening, SpellsOpening, Sp
 use desk_base::{Minute, Month, Window, read_decimal};
 use desk_model::{Edition, Opening};
 
-/// The opening of a record's fields, `M,open,month,months,answer`, in the second edition with a last `2`: 1 to 24 months
-/// within the years 2000 to 2099, a minute of them, and 1 to 60 minutes to answer. `None` where the fields are no opening's.
+/// The opening of a record's fields, `M,open,month,months,answer`, in the second edition with a sixth field, `2`: 1 to 24
+/// months within the years 2000 to 2099, a minute of them, and 1 to 60 minutes to answer. `None` where the fields are no opening's.
 pub fn opening_of(fields: &[&[u8]]) -> Option<Opening>
     ensures some { IfSome result (StatesOpening (map (λ field. field.now) fields.now)) }
     ensures only { (opening : OpeningValue)

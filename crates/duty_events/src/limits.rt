@@ -5,6 +5,6 @@ pub const OFF_DUTY_INTERIM: u64 = 240;
 /// From so many minutes on an interim can't be resumed, but for one of the kind `O`: ten hours, which are a rest.
 pub const INTERIM_LIMIT: u64 = 600;
 
-/// The minutes that a tour may have on duty: twelve hours, 49 USC 21103(a)(2). Limbo behind them counts against a month's
-/// limit, (c)(1), and what a tour has over them is so much more rest, (c)(4).
+/// The minutes on duty and in limbo of a tour that cost nothing: twelve hours, as 49 USC 21103(a)(2) has them. Limbo behind
+/// them counts against a month's limit, (c)(1), and what a tour has over them is so much more rest, (c)(4).
 pub const DUTY_LIMIT: u32 = 720;

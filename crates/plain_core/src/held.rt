@@ -1,7 +1,7 @@
 ghost use Rattle.std.specs.Prelude.{◌≡◌, ◌<◌, ◌^◌};
 ghost use Rattle.desk_model.specs.Opening.{OpeningValue};
 ghost use Rattle.desk_model.specs.History.{history_of, said};
-ghost use Rattle.desk_model.specs.Held.{is_from, holds, hold_end, held};
+ghost use Rattle.desk_model.specs.Held.{is_from, hold_told, hold_end, held};
 
 use crate::history::accepted;
 use crate::offers::open_offer;
@@ -19,9 +19,9 @@ fn is_from(boards: &[Code], offer: &Option<Offer>) -> bool
 }
 
 // The number of the minute until which the entry holds the person from vacancies of these boards, after those before it.
-fn holds(before: &[Entry], entry: &Entry, boards: &[Code], person: PersonNo) -> Option<u64>
+fn hold_told(before: &[Entry], entry: &Entry, boards: &[Code], person: PersonNo) -> Option<u64>
     ensures { (o : OpeningValue)
-        → result ≡ said (holds boards.now person (history_of o before.now) entry.now.moment) entry.now }
+        → result ≡ said (hold_told boards.now person (history_of o before.now) entry.now.moment) entry.now }
 {
     let cmd = accepted(entry)?;
     match cmd {
@@ -41,7 +41,7 @@ fn hold_end(entries: &[Entry], boards: &[Code], person: PersonNo) -> u64
 {
     let mut end = 0;
     for (i, entry) in entries.iter().enumerate() {
-        let until = holds(&entries[..i], entry, boards, person).unwrap_or(0);
+        let until = hold_told(&entries[..i], entry, boards, person).unwrap_or(0);
         if until > end {
             end = until;
         }
