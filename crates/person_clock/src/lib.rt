@@ -2,5 +2,11 @@
 //! that list do.
 #![tactic(auto)]
 
+mod bars;
+mod clock;
 mod days_clock;
+mod hours;
+mod minutes;
 mod rest_clock;
+
+pub use clock::PersonClock;

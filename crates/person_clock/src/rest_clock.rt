@@ -4,10 +4,11 @@ ghost use Rattle.duty_events.specs.declared.stage.Stage.TheVariants as stage;
 ghost use Rattle.duty_events.specs.EndedTours.{ended, last_begun};
 ghost use Rattle.duty_events.specs.Lists.{IsLawful, IsNext, stage_of, last_event, reached};
 ghost use Rattle.duty_events.specs.Tours.{sum_so_far};
-ghost use Rattle.rest_rules.specs.OffFrom.{end_after as off_after_minutes};
+ghost use Rattle.rest_rules.specs.OffFrom.{off_from, end_after as off_after_minutes};
 ghost use Rattle.rest_rules.specs.Rest.{rest_ok, rest_end};
 ghost use Rattle.person_clock.specs.Rest.{GaugesOff, IsRestOf, end_after, excess_after};
 
+use crate::minutes::minute_or;
 use desk_base::Minute;
 use duty_events::{DUTY_LIMIT, Event, Tour, kind_until};
 use rest_rules::{REST, excess_when_an_event_comes};
@@ -95,11 +96,11 @@ impl RestClock {
         }
     }
 
-    /// Since when the person is off.
-    pub fn off_from(&self) -> Minute
-        ensures { result ≡ self.now.off_from }
+    /// Ten hours after the person's last worked minute.
+    pub fn ten_hours(&self) -> Minute
+        ensures { (es : List Event) → IsRestOf self.now es → IsLawful es → result ≡ off_from es + REST }
     {
-        self.off_from
+        later(self.off_from, REST)
     }
 
     /// What their last tour had over twelve hours.
@@ -155,5 +156,12 @@ fn end_of_rest(off_from: Minute, more: u32, longest: u64) -> Minute
     }
     let many = REST + u64::from(more);
     let late = if many <= longest { REST } else { many };
-    Minute::new(off_from.number() + late).unwrap_or(off_from)
+    later(off_from, late)
+}
+
+// The minute that comes so many minutes after another, which is near.
+fn later(minute: Minute, many: u64) -> Minute
+    ensures { minute + many < 2 ^ 28 → result ≡ minute + many }
+{
+    minute_or(minute.number().saturating_add(many), minute)
 }
