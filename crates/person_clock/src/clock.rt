@@ -99,6 +99,13 @@ impl PersonClock {
         Ok(*self)
     }
 
+    /// The window of months.
+    pub fn window(&self) -> Window
+        ensures { result ≡ self.now.window }
+    {
+        self.window
+    }
+
     /// Whether the event may come next: it is allowed, and lies in the window.
     pub fn may_take(&self, event: &Event) -> bool
         ensures { Decides result (MayTake self.now event.now) }

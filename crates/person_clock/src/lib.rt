@@ -10,3 +10,8 @@ mod minutes;
 mod rest_clock;
 
 pub use clock::PersonClock;
+
+#[cfg(test)]
+mod scan_tests;
+#[cfg(test)]
+mod tests;
