@@ -18,7 +18,7 @@ use std::marker::Model;
 
 /// The minutes of the last tour that has begun, whether it has ended or not, summed as its events come: in all, and by the
 /// months of a window. It owns no memory.
-#[derive(Clone, Copy, Debug, PartialEq, Eq)]
+#[derive(Clone, Copy, Debug)]
 pub struct RunningTour {
     window: Window,
     totals: TourTotals,

@@ -2,6 +2,7 @@ ghost use Rattle.std.specs.Prelude.{◌≡◌, ◌<◌, ◌+◌, ◌^◌, ℕ, L
 ghost use Rattle.std.specs.Option.{option_map};
 ghost use Rattle.duty_events.specs.declared.event.Event.{Event};
 ghost use Rattle.duty_events.specs.Allowed.{last_minute};
+ghost use Rattle.duty_events.specs.EndedTours.{begun, ended};
 ghost use Rattle.duty_events.specs.Lists.{Follows};
 ghost use Rattle.duty_events.specs.Minutes.{shared};
 ghost use Rattle.tour_build.specs.Runs.{AreTotals};
@@ -9,15 +10,16 @@ ghost use Rattle.tour_build.specs.Runs.{AreTotals};
 use crate::Interval;
 use crate::between::{capped_between, limbo_between, on_duty_between};
 use desk_base::Minute;
-use duty_events::{Event, Stage};
+use duty_events::{Event, Stage, Tour};
 use std::marker::Model;
 
 /// The minutes of the last tour that has begun, whether it has ended or not, by events that come one after another: those on
-/// duty, those in limbo, and of these the capped ones. It keeps the last event and no other.
-#[derive(Clone, Copy, Debug, PartialEq, Eq)]
+/// duty, those in limbo, and of these the capped ones. It keeps the last event and no other, and where the tour began.
+#[derive(Clone, Copy, Debug)]
 pub struct TourTotals {
     stage: Stage,
     last: Option<Event>,
+    begun: Option<Minute>,
     on_duty: u32,
     limbo: u32,
     capped: u32,
@@ -28,11 +30,12 @@ impl Model for TourTotals {
 
     ghost Value = { TotalsValue };
 
-    ghost view = { λ t. totals_of t.stage t.last t.on_duty t.limbo t.capped };
+    ghost view = { λ t. totals_of t.stage t.last t.begun t.on_duty t.limbo t.capped };
 
     ghost inverse = { λ v. record {
       stage = v.stage;
       last = v.last;
+      begun = v.begun;
       on_duty = v.on_duty;
       limbo = v.limbo;
       capped = v.capped;
@@ -47,6 +50,7 @@ impl TourTotals {
         TourTotals {
             stage: Stage::Off,
             last: None,
+            begun: None,
             on_duty: 0,
             limbo: 0,
             capped: 0,
@@ -65,6 +69,7 @@ impl TourTotals {
         *self = TourTotals {
             stage: self.stage.after(&event),
             last: Some(event),
+            begun: self.begun_by(&event),
             on_duty: summed(begins, self.on_duty, on_duty),
             limbo: summed(begins, self.limbo, limbo),
             capped: summed(begins, self.capped, capped),
@@ -93,6 +98,36 @@ impl TourTotals {
             Some(event) => Some(event.last_minute()),
             None => None,
         }
+    }
+
+    // Where the last tour begins that has begun if the event comes next.
+    fn begun_by(&self, event: &Event) -> Option<Minute>
+        ensures { result ≡ begun self.now.stage self.now.begun event.now }
+    {
+        if self.stage.begins(event) {
+            Some(event.first_minute())
+        } else {
+            self.begun
+        }
+    }
+
+    /// The tour that the event ends if it comes next; `None` where it is no final release, or no tour has begun.
+    pub fn ended_by(&self, event: &Event) -> Option<Tour>
+        ensures { result ≡ ended self.now.stage self.now.begun event.now }
+    {
+        let start = self.begun?;
+        let Event::Final(at, place) = event else {
+            return None;
+        };
+        let end = match &self.stage {
+            Stage::Interim { since, .. } => *since,
+            _ => *at,
+        };
+        Some(Tour {
+            start,
+            end,
+            place: *place,
+        })
     }
 
     /// The tour's minutes on duty.

@@ -2,7 +2,9 @@ use Rattle.std.proofs.Common.{◌≡◌, ℕ, ◌+◌, ◌^◌, Bool, cond, [], 
 use Rattle.duty_events.specs.Lists.{IsNext, stage_after, stage_of, last_event}
 use Rattle.duty_events.specs.MinuteKind.{begins}
 use Rattle.duty_events.specs.Between.{minutes_between}
+use Rattle.duty_events.specs.EndedTours.{begun}
 use Rattle.duty_events.specs.Tours.{sum_so_far}
+use Rattle.duty_events.proofs.EndedTourLemmas.{last_begun-push}
 use Rattle.duty_events.proofs.ListLemmas.{lawful-push, stage_of-push, last_event-push}
 use Rattle.month_hours.specs.Capped.{is_limbo}
 use Rattle.month_hours.specs.Steps.{capped_between}
@@ -33,6 +35,7 @@ returns c es totals =
       lawful = lawful-push es e totals.lawful next;
       at = c.after.ensures ∙ ap (λ s. stage_after s e) old.at ∙ sym (stage_of-push es e);
       came = sym (last_event-push es e);
+      start = c.begun_by.ensures ∙ ap (λ s. begun s c.args.self.now.begun e) totals.at ∙ ap (λ b. begun (stage_of es) b e) totals.start ∙ sym (last_begun-push es e);
       worked = c.summed.ensures _ (duty ∙ added _ _ _ _ _ _ here old.worked duty_more) (omega (arith, tour_count-most is_on_duty (es ++ e ∷ []) 0 (2 ^ 28)));
       waited = c.summed-2.ensures _ (waits ∙ added _ _ _ _ _ _ here old.waited limbo_more) (omega (arith, tour_count-most is_limbo (es ++ e ∷ []) 0 (2 ^ 28)));
       over = c.summed-3.ensures _ (over ∙ added _ _ _ _ _ _ here old.over capped_more) (omega (arith, tour_capped-most (es ++ e ∷ []) 0 (2 ^ 28)));

@@ -9,6 +9,7 @@ returns c = record {
   lawful = record { each = λ place e is. cc };
   at = refl;
   came = refl;
+  start = refl;
   worked = sym (tour_count-nil is_on_duty (refl, refl) 0 (2 ^ 28));
   waited = sym (tour_count-nil is_limbo (refl, refl) 0 (2 ^ 28));
   over = sym (tour_capped-nil 0 (2 ^ 28));

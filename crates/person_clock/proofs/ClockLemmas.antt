@@ -1,0 +1,45 @@
+-- What a clock has of each month.
+use Rattle.std.proofs.Common.{◌≡◌, ℕ, ◌+◌, ◌-◌, ◌<◌, ◌≤◌, List, get_or, sym, ap, ◌∙◌, arith}
+use Rattle.desk_base.specs.Month.{first_minute as month_start, minutes_of}
+use Rattle.desk_base.specs.Window.{WindowValue}
+use Rattle.duty_events.specs.declared.asked.Asked.TheVariants as asked
+use Rattle.duty_events.specs.declared.event.Event.{Event}
+use Rattle.duty_events.specs.Asked.{asked_minutes}
+use Rattle.duty_events.proofs.AskedLemmas.{asked_minutes-most}
+use Rattle.month_hours.specs.declared.limit.Limit.TheVariants as limit
+use Rattle.month_hours.specs.Capped.{capped_minutes, capped}
+use Rattle.month_hours.specs.Used.{used}
+use Rattle.month_hours.proofs.CappedLemmas.{capped_minutes-most}
+use Rattle.tour_build.specs.MonthSums.{AreSums}
+use Rattle.person_clock.specs.Clock.{ClockValue, Stands}
+use Rattle.person_clock.specs.Hours.{AreSoFar}
+use Rattle.person_clock.proofs.HoursLemmas.{month-ends, worked-before, capped-before, used-is}
+
+-- the sum of a month of the window
+pub sum-at : (w : WindowValue) (counted : ℕ → ℕ → ℕ) (sums : List ℕ) → AreSums w counted sums → (month : ℕ) → w.first ≤ month → month < w.first + w.months
+    → get_or sums (month - w.first) 0 ≡ counted (month_start month) (minutes_of month)
+sum-at w counted sums are month from to =
+    let same : w.first + (month - w.first) ≡ month = omega (arith, from) in
+    are (month - w.first) (omega (arith, from, to)) ∙ ap (λ m. counted (month_start m) (minutes_of m)) same
+
+pub used-at : (c : ClockValue) (es : List Event) → Stands c es → (month : ℕ) → c.window.first ≤ month → month < c.window.first + c.window.months
+    → get_or c.used (month - c.window.first) 0 ≡ used es month
+used-at c es stands month from to = sum-at c.window (asked_minutes asked.Worked es) c.used stands.worked month from to ∙ used-is es month
+
+pub capped-at : (c : ClockValue) (es : List Event) → Stands c es → (month : ℕ) → c.window.first ≤ month → month < c.window.first + c.window.months
+    → get_or c.capped (month - c.window.first) 0 ≡ capped es month
+capped-at c es stands month from to = sum-at c.window (capped_minutes es) c.capped stands.waited month from to
+
+pub used-so_far : (c : ClockValue) (es : List Event) → Stands c es → AreSoFar limit.Hours c.window c.used es
+used-so_far c es stands = record {
+  at = used-at c es stands;
+  before = λ month early. sym (used-is es month) ∙ worked-before c.window es stands.totals.lawful stands.lie (month_start month) (minutes_of month) (month-ends month c.window.first early);
+  most = λ month. omega (arith, used-is es month, asked_minutes-most asked.Worked es (month_start month) (minutes_of month));
+}
+
+pub capped-so_far : (c : ClockValue) (es : List Event) → Stands c es → AreSoFar limit.Limbo c.window c.capped es
+capped-so_far c es stands = record {
+  at = capped-at c es stands;
+  before = λ month early. capped-before c.window es stands.totals.lawful stands.lie (month_start month) (minutes_of month) (month-ends month c.window.first early);
+  most = λ month. capped_minutes-most es (month_start month) (minutes_of month);
+}

@@ -1,0 +1,5 @@
+pub mod GaugeLemmas
+pub mod RestLemmas
+pub mod DaysLemmas
+pub mod HoursLemmas
+pub mod ClockLemmas

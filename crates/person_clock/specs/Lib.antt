@@ -1,0 +1,4 @@
+pub mod Rest
+pub mod Days
+pub mod Hours
+pub mod Clock
