@@ -1,6 +1,7 @@
 ghost use Rattle.std.specs.Prelude.{◌≡◌, ◌<◌, ◌≤◌, ◌+◌, ◌^◌, ℕ, List, [], ◌∷◌, ◌++◌, Ok, IsOk, IfOk};
 ghost use Rattle.std.specs.Bool.{Decides};
 ghost use Rattle.std.specs.Option.{option_map};
+ghost use Rattle.desk_base.specs.Month.{minutes_of};
 ghost use Rattle.desk_base.specs.Window.{end_of};
 ghost use Rattle.duty_events.specs.declared.event.Event.{Event};
 ghost use Rattle.duty_events.specs.declared.stage.Stage.TheVariants as stage;
@@ -9,7 +10,7 @@ ghost use Rattle.duty_events.specs.Lists.{stage_of, last_event, latest, reached}
 ghost use Rattle.duty_events.specs.Places.{place_of};
 ghost use Rattle.month_hours.specs.Capped.{capped};
 ghost use Rattle.month_hours.specs.Used.{used};
-ghost use Rattle.rest_rules.specs.Rest.{rest_end};
+ghost use Rattle.rest_rules.specs.Rest.{rest_end, EndsRest};
 ghost use Rattle.law_bars.specs.Law.{law_bar};
 ghost use Rattle.person_clock.specs.Clock.{LiesIn, Stands, MayTake};
 
@@ -179,7 +180,8 @@ impl PersonClock {
     pub fn used(&self, month: Month) -> u32
         requires from { self.now.window.first ≤ month }
         requires to { month < self.now.window.first + self.now.window.months }
-        ensures { (es : List Event) → Stands self.now es → result ≡ used es month }
+        ensures value { (es : List Event) → Stands self.now es → result ≡ used es month }
+        ensures most { (es : List Event) → Stands self.now es → result ≤ minutes_of month }
     {
         self.used.of(&self.window, month)
     }
@@ -188,7 +190,8 @@ impl PersonClock {
     pub fn capped(&self, month: Month) -> u32
         requires from { self.now.window.first ≤ month }
         requires to { month < self.now.window.first + self.now.window.months }
-        ensures { (es : List Event) → Stands self.now es → result ≡ capped es month }
+        ensures value { (es : List Event) → Stands self.now es → result ≡ capped es month }
+        ensures most { (es : List Event) → Stands self.now es → result ≤ minutes_of month }
     {
         self.capped.of(&self.window, month)
     }
@@ -217,9 +220,11 @@ impl PersonClock {
         self.tour.last_minute()
     }
 
-    /// The minute at which rest ends.
+    /// The minute at which rest ends, ten hours and the excess of the last tour; 0 where no minute is worked.
     pub fn rest_end(&self) -> Minute
-        ensures { (es : List Event) → Stands self.now es → result ≡ rest_end es }
+        ensures value { (es : List Event) → Stands self.now es → result ≡ rest_end es }
+        ensures law { (es : List Event) → Stands self.now es → stage_of es ≡ stage.Off
+            → EndsRest es result }
     {
         self.rest.end()
     }
