@@ -1,10 +1,11 @@
 -- What a person's clock stands for.
-use Rattle.std.specs.Prelude.{ℕ, List}
+use Rattle.std.specs.Prelude.{ℕ, Option, None, Some, List}
 use Rattle.std.specs.Option.{option_map}
 use Rattle.std.specs.List.{All}
 use Rattle.desk_base.specs.Window.{WindowValue, Holds}
 use Rattle.duty_events.specs.declared.asked.Asked.TheVariants as asked
 use Rattle.duty_events.specs.declared.event.Event.{Event}
+use Rattle.duty_events.specs.declared.stage.Stage.{Stage}
 use Rattle.duty_events.specs.Allowed.{first_minute, last_minute}
 use Rattle.duty_events.specs.Asked.{asked_minutes}
 use Rattle.duty_events.specs.Lists.{Follows}
@@ -30,6 +31,18 @@ pub record ClockValue : Type 0 where
 abbrev pub clock_of : WindowValue → List ℕ → TotalsValue → RestClock → DaysClock → List ℕ → List ℕ → ClockValue
 clock_of window home tour rest days used capped = record { window = window; home = home; tour = tour; rest = rest; days = days; used = used; capped = capped }
 
+-- the stage that the clock is at, and its latest minute
+abbrev pub stage_now : ClockValue → Stage
+stage_now c = c.tour.stage
+
+abbrev pub last_now : ClockValue → Option ℕ
+last_now c = option_map last_minute c.tour.last
+
+-- that minute, 0 where there is none
+abbrev pub minute_of : Option ℕ → ℕ
+minute_of None = 0
+minute_of (Some minute) = minute
+
 -- the event lies in the window
 abbrev pub LiesIn : WindowValue → Event → Type 0
 LiesIn window e = Holds window (first_minute e) × Holds window (last_minute e)
@@ -45,5 +58,5 @@ pub record Stands (c : ClockValue) (es : List Event) : Type 0 where
 
 -- the event may come next: it is allowed and lies in the window
 pub record MayTake (c : ClockValue) (e : Event) : Type 0 where
-  pub follows : Follows c.tour.stage (option_map last_minute c.tour.last) e
+  pub follows : Follows (stage_now c) (last_now c) e
   pub lies : LiesIn c.window e

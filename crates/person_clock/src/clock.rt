@@ -1,6 +1,6 @@
 ghost use Rattle.std.specs.Prelude.{◌≡◌, ◌<◌, ◌≤◌, ◌+◌, ◌^◌, ℕ, List, [], ◌∷◌, ◌++◌, Ok, IsOk, IfOk};
 ghost use Rattle.std.specs.Bool.{Decides};
-ghost use Rattle.std.specs.Option.{option_map};
+ghost use Rattle.desk_base.specs.Month.{minutes_of};
 ghost use Rattle.desk_base.specs.Window.{end_of};
 ghost use Rattle.duty_events.specs.declared.event.Event.{Event};
 ghost use Rattle.duty_events.specs.declared.stage.Stage.TheVariants as stage;
@@ -9,9 +9,9 @@ ghost use Rattle.duty_events.specs.Lists.{stage_of, last_event, latest, reached}
 ghost use Rattle.duty_events.specs.Places.{place_of};
 ghost use Rattle.month_hours.specs.Capped.{capped};
 ghost use Rattle.month_hours.specs.Used.{used};
-ghost use Rattle.rest_rules.specs.Rest.{rest_end};
+ghost use Rattle.rest_rules.specs.Rest.{rest_end, EndsRest};
 ghost use Rattle.law_bars.specs.Law.{law_bar};
-ghost use Rattle.person_clock.specs.Clock.{LiesIn, Stands, MayTake};
+ghost use Rattle.person_clock.specs.Clock.{stage_now, last_now, minute_of, LiesIn, Stands, MayTake};
 
 use crate::bars::{days_bar, rest_bar};
 use crate::days_clock::DaysClock;
@@ -154,8 +154,8 @@ impl PersonClock {
     /// duty from its report on, and so many of limbo behind them. No tour runs, the moment isn't before the latest minute, the
     /// report not before the moment, and the job ends by the window's end.
     pub fn law(&self, moment: Minute, report: Minute, duty: u16, limbo: u16) -> Option<Bar>
-        requires off { self.now.tour.stage ≡ stage.Off }
-        requires moment { reached self.now.tour.last ≤ moment }
+        requires off { stage_now self.now ≡ stage.Off }
+        requires moment { minute_of (last_now self.now) ≤ moment }
         requires report { moment ≤ report }
         requires end { report + duty + limbo ≤ end_of self.now.window }
         ensures { (es : List Event) → Stands self.now es
@@ -179,7 +179,8 @@ impl PersonClock {
     pub fn used(&self, month: Month) -> u32
         requires from { self.now.window.first ≤ month }
         requires to { month < self.now.window.first + self.now.window.months }
-        ensures { (es : List Event) → Stands self.now es → result ≡ used es month }
+        ensures value { (es : List Event) → Stands self.now es → result ≡ used es month }
+        ensures most { (es : List Event) → Stands self.now es → result ≤ minutes_of month }
     {
         self.used.of(&self.window, month)
     }
@@ -188,7 +189,8 @@ impl PersonClock {
     pub fn capped(&self, month: Month) -> u32
         requires from { self.now.window.first ≤ month }
         requires to { month < self.now.window.first + self.now.window.months }
-        ensures { (es : List Event) → Stands self.now es → result ≡ capped es month }
+        ensures value { (es : List Event) → Stands self.now es → result ≡ capped es month }
+        ensures most { (es : List Event) → Stands self.now es → result ≤ minutes_of month }
     {
         self.capped.of(&self.window, month)
     }
@@ -203,7 +205,7 @@ impl PersonClock {
 
     /// The stage after the last event.
     pub fn stage(&self) -> Stage
-        ensures value { result ≡ self.now.tour.stage }
+        ensures value { result ≡ stage_now self.now }
         ensures events { (es : List Event) → Stands self.now es → result ≡ stage_of es }
     {
         self.tour.stage()
@@ -211,15 +213,17 @@ impl PersonClock {
 
     /// The latest minute; `None` before the first event.
     pub fn last(&self) -> Option<Minute>
-        ensures value { result ≡ option_map last_minute self.now.tour.last }
+        ensures value { result ≡ last_now self.now }
         ensures events { (es : List Event) → Stands self.now es → result ≡ latest es }
     {
         self.tour.last_minute()
     }
 
-    /// The minute at which rest ends.
+    /// The minute at which rest ends, ten hours and the excess of the last tour; 0 where no minute is worked.
     pub fn rest_end(&self) -> Minute
-        ensures { (es : List Event) → Stands self.now es → result ≡ rest_end es }
+        ensures value { (es : List Event) → Stands self.now es → result ≡ rest_end es }
+        ensures law { (es : List Event) → Stands self.now es → stage_of es ≡ stage.Off
+            → EndsRest es result }
     {
         self.rest.end()
     }

@@ -1,6 +1,6 @@
 //! Clocks by cases worked by hand: what they have of the months, when rest ends, and the first section of the law.
 ghost use Rattle.std.specs.Prelude.{◌≡◌, ◌≤◌, true};
-ghost use Rattle.duty_events.specs.Lists.{reached};
+ghost use Rattle.person_clock.specs.Clock.{last_now, minute_of};
 
 use crate::PersonClock;
 use denial_rules::Bar;
@@ -50,7 +50,7 @@ fn hours(clock: &PersonClock, text: &[u8]) -> Result<(u32, u32), Fail> {
 
 // Whether the moment isn't before the latest minute.
 fn has_come(clock: &PersonClock, moment: Minute) -> bool
-    ensures { result ≡ true → reached clock.now.tour.last ≤ moment }
+    ensures { result ≡ true → minute_of (last_now clock.now) ≤ moment }
 {
     match clock.last() {
         Some(last) => last <= moment,

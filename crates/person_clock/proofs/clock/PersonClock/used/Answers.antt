@@ -1,11 +1,15 @@
-use Rattle.std.proofs.Common.{sym, ap, subst, ◌∙◌, arith}
+use Rattle.std.proofs.Common.{◌≡◌, ◌≤◌, List, sym, ap, subst, ◌∙◌, arith}
+use Rattle.desk_base.specs.Month.{minutes_of}
+use Rattle.duty_events.specs.declared.event.Event.{Event}
+use Rattle.month_hours.specs.Used.{used}
 use Rattle.person_clock.specs.Clock.{Stands}
-use Rattle.person_clock.proofs.ClockLemmas.{used-at}
+use Rattle.person_clock.proofs.ClockLemmas.{used-at, used-so_far}
 use Rattle.person_clock.proofs.clock.PersonClock.used.Goals as goal
 
 pub returns : goal.returns
-returns c es stands =
-    let kept = subst (λ v. Stands v es) (sym c.self.view_is) stands in
+returns c =
     let first = ap (λ v. v.window.first) c.self.view_is in
     let many = ap (λ v. v.window.months) c.self.view_is in
-    c.of.ensures ∙ used-at _ es kept c.args.month (omega (arith, first, c.requires.from)) (omega (arith, first, many, c.requires.to))
+    let value : (es : List Event) → Stands c.args.self.now es → c.of.result ≡ used es c.args.month = λ es stands.
+    c.of.ensures ∙ used-at _ es (subst (λ v. Stands v es) (sym c.self.view_is) stands) c.args.month (omega (arith, first, c.requires.from)) (omega (arith, first, many, c.requires.to)) in
+    record { value = value; most = λ es stands. subst (λ n. n ≤ minutes_of c.args.month) (sym (value es stands)) ((used-so_far _ es stands).most c.args.month) }
