@@ -3,6 +3,7 @@ ghost use Rattle.std.specs.Option.{SomeIff};
 ghost use Rattle.std.specs.List.{list_all};
 ghost use Rattle.desk_base.specs.Code.{IsCode, is_code_byte, padded_code};
 
+use std::hash::{Hash, Hasher};
 use std::marker::Model;
 
 /// The code of a board, a place or a home: 1 to 6 bytes of A to Z and 0 to 9. A contract sees its text.
@@ -46,6 +47,20 @@ impl Eq for Code {
     ghost use Rattle.std.proofs.lemmas.Cmp.{nat_list_eq_equiv};
 
     ghost laws = { nat_list_eq_equiv };
+}
+
+impl Hash for Code {
+    ghost use Rattle.std.specs.Prelude.{[], ◌∷◌};
+    ghost use Rattle.std.proofs.Common.{ap};
+    ghost use Rattle.std.proofs.lemmas.Slice.Eq.{bytes_eq-Decides};
+
+    ghost hash_input = { λ code. code ∷ [] };
+
+    ghost respects_eq = { λ x y same. ap (λ code. code ∷ []) ((bytes_eq-Decides x y).0 same) };
+
+    fn hash<H: Hasher>(&self, state: &mut H) {
+        state.write(self.text());
+    }
 }
 
 impl Code {

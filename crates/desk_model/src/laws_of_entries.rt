@@ -4,7 +4,7 @@ ghost use Rattle.std.specs.List.{All};
 ghost use Rattle.desk_model.specs.declared.vac_state.VacState.TheVariants as state;
 ghost use Rattle.desk_model.specs.Entry.{EntryValue};
 ghost use Rattle.desk_model.specs.History.{History, with_entry, steps};
-ghost use Rattle.desk_model.specs.Offers.{open_offer, is_to, on_offer};
+ghost use Rattle.desk_model.specs.Offers.{open_offer, is_of, is_to, on_offer};
 ghost use Rattle.desk_model.specs.Assigned.{is_assigned, assigned, begun, is_annulled};
 ghost use Rattle.desk_model.specs.States.{state_of};
 ghost use Rattle.desk_model.specs.Comes.{Comes, on_offer_after, state_after};
@@ -34,7 +34,7 @@ pub fn what_a_command_leaves()
 /// In a legal history a vacancy is in one state, which tells all of it: it is on offer to a person exactly where its open
 /// offer is to them, taken by one exactly where it is assigned to them, begun by one exactly where they reported for it,
 /// and annulled exactly where it was. So a person is assigned to at most one vacancy, which is taken, and a vacancy to at
-/// most one person. It does nothing: its clauses are the laws.
+/// most one person; and a vacancy is assigned to a person exactly where it is the one that is. It does nothing: its clauses are the laws.
 pub fn a_vacancy_is_in_one_state()
     ensures offered { (h : History) → IsLegal h → (v p : ℕ)
         → (is_to p (open_offer h v) ≡ true) ↔ (state_of h v ≡ state.OnOffer p) }
@@ -44,6 +44,7 @@ pub fn a_vacancy_is_in_one_state()
         → (begun h v ≡ Some p) ↔ (state_of h v ≡ state.Begun p) }
     ensures annulled { (h : History) → IsLegal h → (v : ℕ)
         → (is_annulled h v ≡ true) ↔ (state_of h v ≡ state.Annulled) }
+    ensures has { (h : History) → (v p : ℕ) → is_assigned h p v ≡ is_of v (assigned h p) }
     ensures idle { (h : History) → IsLegal h → (v w p : ℕ) → is_to p (open_offer h v) ≡ true
         → is_assigned h p w ≡ false }
 {}

@@ -1,3 +1,5 @@
+use Rattle.std.proofs.Common.{sym}
+use Rattle.desk_model.proofs.AssignedLemmas.{assigned-has}
 use Rattle.desk_model.proofs.OneOfferLemmas.{one-offer}
 use Rattle.desk_model.proofs.OneStateLemmas.{offered-state, state-offered, taken-state, state-taken, begun-state, state-begun, annulled-state, state-annulled}
 use Rattle.desk_model.proofs.laws_of_entries.a_vacancy_is_in_one_state.Goals as goal
@@ -16,3 +18,6 @@ returns-clause-annulled c h legal v = (annulled-state h v legal, state-annulled 
 
 pub returns-clause-idle : goal.returns-clause-idle
 returns-clause-idle c h legal v w p to = (one-offer h legal).idle v w p to
+
+pub returns-clause-has : goal.returns-clause-has
+returns-clause-has c h v p = sym (assigned-has h p v)

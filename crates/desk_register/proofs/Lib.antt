@@ -1,0 +1,12 @@
+mod PersonLemmas
+mod AgreeLemmas
+mod AnswerLemmas
+mod ChangeLemmas
+mod RosterLemmas
+mod PlaceLemmas
+mod SaidLemmas
+mod VacancyLemmas
+mod KeepLemmas
+mod BoardLemmas
+mod StayLemmas
+mod RegisterLemmas

@@ -1,0 +1,148 @@
+-- The roster keeps on what a history says.
+use Rattle.std.proofs.Common.{◌≡◌, ◌<◌, ◌↔◌, ℕ, Bool, true, false, not, nat_le, List, [], ◌++◌, length, Option, None, Some, is_some, is_none, refl, sym, ap, ◌∙◌, arith}
+use Rattle.std.proofs.lemmas.Bool.{false≢true}
+use Rattle.std.proofs.lemmas.Bool.Decides.{nat_tests}
+use Rattle.std.specs.Prelude.{if◌then◌else◌}
+use Rattle.std.specs.Option.{option_map}
+use Rattle.std.specs.List.{cons_option}
+use Rattle.desk_model.specs.declared.limits.TheConstants.{PERSON_LIMIT}
+use Rattle.desk_model.specs.declared.command.Cmd.{Cmd}
+use Rattle.desk_model.specs.declared.command.Cmd.TheVariants as cmd
+use Rattle.desk_model.specs.declared.reply.Reply.TheVariants as reply
+use Rattle.desk_model.specs.declared.vac_state.VacState.{VacState}
+use Rattle.desk_model.specs.declared.vac_state.VacState.TheVariants as state
+use Rattle.desk_model.specs.Entry.{EntryValue}
+use Rattle.desk_model.specs.History.{History, with_entry, is_done}
+use Rattle.desk_model.specs.Register.{enrols_any, person_of, persons}
+use Rattle.desk_model.specs.Offers.{is_of}
+use Rattle.desk_model.specs.Assigned.{assigned}
+use Rattle.desk_model.specs.States.{state_of}
+use Rattle.desk_model.specs.Comes.{Comes}
+use Rattle.desk_model.specs.Legal.{answer_to, IsNext}
+use Rattle.desk_register.specs.Changes.{subject, changed, freed, put_under, put_enrolled, CanEnrol, taker, loser}
+use Rattle.desk_register.specs.Done.{IsDone}
+use Rattle.desk_register.specs.Persons.{assigned_in, IsPerson, ArePersons}
+use Rattle.desk_register.specs.declared.kept_person.KeptPerson.{KeptPerson}
+use Rattle.desk_register.proofs.PersonLemmas.{same, same_number}
+use Rattle.desk_register.proofs.AgreeLemmas.{said-done, person-follows}
+use Rattle.desk_register.proofs.AnswerLemmas.{subject-known, done-answer}
+use Rattle.desk_register.proofs.ChangeLemmas.{OfNumber, IsLost, changes-follow}
+
+-- a vacancy is assigned to a person exactly where it is taken by them
+abbrev pub TakenIsAssigned : History → Type 0
+TakenIsAssigned h = (v p : ℕ) → (assigned h p ≡ Some v) ↔ (state_of h v ≡ state.Taken p)
+
+pub is-some : (o : Option ℕ) (v : ℕ) → is_of v o ≡ true → o ≡ Some v
+is-some None v is = absurd (false≢true is)
+is-some (Some w) v is = ap Some (same_number w v is)
+
+-- whom a state names as its taker is whom the vacancy is assigned to
+taker-assigned : (h : History) (v p : ℕ) → TakenIsAssigned h → is_of p (taker (state_of h v)) ≡ is_of v (assigned h p)
+taker-assigned h v p law = both (is_of p (taker (state_of h v))) (is_of v (assigned h p)) refl refl
+  where
+    taken : (how : VacState) → is_of p (taker how) ≡ true → how ≡ state.Taken p
+    taken (state.Taken x) is = ap state.Taken (same_number x p is)
+    taken (state.OnOffer x) is = absurd (false≢true is)
+    taken (state.Begun x) is = absurd (false≢true is)
+    taken state.Vacant is = absurd (false≢true is)
+    taken state.Annulled is = absurd (false≢true is)
+
+    both : (a b : Bool) → is_of p (taker (state_of h v)) ≡ a → is_of v (assigned h p) ≡ b → a ≡ b
+    both true true x y = refl
+    both false false x y = refl
+    both true false x y = absurd (false≢true (sym y ∙ ap (is_of v) ((law v p).1 (taken (state_of h v) x)) ∙ same v))
+    both false true x y = absurd (false≢true (sym x ∙ ap (λ s. is_of p (taker s)) ((law v p).0 (is-some _ v y)) ∙ same p))
+
+lost-is : (h : History) (c : Cmd) (lost : Option ℕ) (under : ℕ → Option KeptPerson) → TakenIsAssigned h → lost ≡ loser h c
+    → ((p : ℕ) → assigned_in (under p) ≡ assigned h p) → IsLost c lost under
+lost-is h (cmd.Annul v) lost under law is agrees = λ p. ap (is_of p) is ∙ taker-assigned h v p law ∙ ap (is_of v) (sym (agrees p))
+lost-is h (cmd.Enrol a b d f) lost under law is agrees = is
+lost-is h (cmd.List p a) lost under law is agrees = is
+lost-is h (cmd.MarkOff p) lost under law is agrees = is
+lost-is h (cmd.MarkOn p) lost under law is agrees = is
+lost-is h (cmd.Qualify p a) lost under law is agrees = is
+lost-is h (cmd.Happened p a) lost under law is agrees = is
+lost-is h (cmd.Accept a p) lost under law is agrees = is
+lost-is h (cmd.NoAnswer a p) lost under law is agrees = is
+lost-is h (cmd.Drop p) lost under law is agrees = is
+lost-is h (cmd.Board a b d) lost under law is agrees = is
+lost-is h (cmd.Unlist a b) lost under law is agrees = is
+lost-is h (cmd.Past a b) lost under law is agrees = is
+lost-is h (cmd.Vacancy a) lost under law is agrees = is
+lost-is h (cmd.Next a) lost under law is agrees = is
+lost-is h (cmd.Offer a b) lost under law is agrees = is
+lost-is h (cmd.Decline a b) lost under law is agrees = is
+lost-is h (cmd.Withdraw a b) lost under law is agrees = is
+lost-is h (cmd.Hours a b) lost under law is agrees = is
+lost-is h (cmd.At a b) lost under law is agrees = is
+lost-is h (cmd.Explain a b) lost under law is agrees = is
+lost-is h (cmd.Vac a) lost under law is agrees = is
+
+pub unknown-is : (k : Option KeptPerson) (h : History) (p : ℕ) → IsPerson k h p → is_none k ≡ is_none (person_of h p)
+unknown-is k h p agrees = go k ∙ ap is_none agrees.person
+  where
+    go : (k : Option KeptPerson) → is_none k ≡ is_none (option_map (λ x. x.person) k)
+    go None = refl
+    go (Some k) = refl
+
+pub none-is : {X : Type 0} (o : Option X) → is_none o ≡ true → o ≡ None
+none-is None is = refl
+none-is (Some x) is = absurd (false≢true is)
+
+-- who is enrolled by a command that is done is new, and there is room
+can-enrol : (h : History) (m : ℕ) (c : Cmd) (under : ℕ → Option KeptPerson) (numbers : List ℕ) → ArePersons under numbers h
+    → is_done (answer_to h m c) ≡ true → CanEnrol (enrols_any c) under numbers
+can-enrol h m (cmd.Enrol p a b d) under numbers are done = go (is_some (person_of h p)) (nat_le PERSON_LIMIT (length (persons h))) refl refl done
+  where
+    go : (used full : Bool) → is_some (person_of h p) ≡ used → nat_le PERSON_LIMIT (length (persons h)) ≡ full
+        → is_done (if used then reply.Used else if full then reply.PersonsFull else reply.Done) ≡ true → (under p ≡ None) × (length numbers < PERSON_LIMIT)
+    go true full x y done = absurd (false≢true done)
+    go false true x y done = absurd (false≢true done)
+    go false false x y done = (none-is (under p) (unknown-is (under p) h p (are.each p) ∙ ap not x), rw are.order grind (arith, nat_tests, y))
+can-enrol h m (cmd.Annul a) under numbers are done = tt
+can-enrol h m (cmd.List p a) under numbers are done = tt
+can-enrol h m (cmd.MarkOff p) under numbers are done = tt
+can-enrol h m (cmd.MarkOn p) under numbers are done = tt
+can-enrol h m (cmd.Qualify p a) under numbers are done = tt
+can-enrol h m (cmd.Happened p a) under numbers are done = tt
+can-enrol h m (cmd.Accept a p) under numbers are done = tt
+can-enrol h m (cmd.NoAnswer a p) under numbers are done = tt
+can-enrol h m (cmd.Drop p) under numbers are done = tt
+can-enrol h m (cmd.Board a b d) under numbers are done = tt
+can-enrol h m (cmd.Unlist a b) under numbers are done = tt
+can-enrol h m (cmd.Past a b) under numbers are done = tt
+can-enrol h m (cmd.Vacancy a) under numbers are done = tt
+can-enrol h m (cmd.Next a) under numbers are done = tt
+can-enrol h m (cmd.Offer a b) under numbers are done = tt
+can-enrol h m (cmd.Decline a b) under numbers are done = tt
+can-enrol h m (cmd.Withdraw a b) under numbers are done = tt
+can-enrol h m (cmd.Hours a b) under numbers are done = tt
+can-enrol h m (cmd.At a b) under numbers are done = tt
+can-enrol h m (cmd.Explain a b) under numbers are done = tt
+can-enrol h m (cmd.Vac a) under numbers are done = tt
+
+known-under : (h : History) (under : ℕ → Option KeptPerson) (who : Option ℕ) → ((p : ℕ) → IsPerson (under p) h p)
+    → OfNumber (λ p. is_none (person_of h p) ≡ false) who → OfNumber (λ p. is_none (under p) ≡ false) who
+known-under h under None each known = tt
+known-under h under (Some p) each known = unknown-is (under p) h p (each p) ∙ known
+
+-- after a command that was done the roster keeps what the longer history says
+pub persons-keep : (h : History) (e : EntryValue) (c : Cmd) (lost : Option ℕ) (under later : ℕ → Option KeptPerson) (numbers after : List ℕ)
+    → Comes h e → TakenIsAssigned h → IsNext h e → IsDone e c → lost ≡ loser h c → ArePersons under numbers h
+    → (CanEnrol (enrols_any c) under numbers → (q : ℕ) → later q ≡ put_under (subject c) (changed c) (put_under lost freed (put_enrolled c under)) q)
+    → (CanEnrol (enrols_any c) under numbers → after ≡ numbers ++ cons_option (enrols_any c) [])
+    → ArePersons later after (with_entry h e)
+persons-keep h e c lost under later numbers after comes law next is lost_is are later_is after_is =
+    let done = done-answer h e c next is in
+    let can = can-enrol h e.moment c under numbers are done in
+    let known = known-under h under (subject c) are.each (subject-known h e.moment c done) in
+    record {
+      each = λ q. person-follows h e c q (under q) (later q) comes is (are.each q)
+          (rw (later_is can q) (changes-follow c lost under numbers q can known (lost-is h c lost under law lost_is (λ p. (are.each p).assigned))));
+      order = after_is can ∙ ap (λ ps. ps ++ cons_option (enrols_any c) []) are.order
+          ∙ ap (λ o. persons h ++ cons_option o []) (sym (said-done enrols_any e c is)) ∙ sym comes.persons;
+    }
+
+pub put_under-agree : (who : Option ℕ) (change : KeptPerson → KeptPerson) (u v : ℕ → Option KeptPerson) → ((q : ℕ) → u q ≡ v q) → (q : ℕ) → put_under who change u q ≡ put_under who change v q
+put_under-agree None change u v agree q = agree q
+put_under-agree (Some p) change u v agree q = rw (agree q) refl

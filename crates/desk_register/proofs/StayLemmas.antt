@@ -1,0 +1,169 @@
+-- What an entry leaves that was not done, and what its offer makes of a vacancy.
+use Rattle.std.proofs.Common.{◌≡◌, ◌≤◌, length, ℕ, Bool, true, false, cond, nat_eq, List, [], ◌++◌, append-nil, Option, None, Some, is_some, is_none, refl, sym, ap, ◌∙◌, subst}
+use Rattle.std.proofs.lemmas.Bool.{false≢true}
+use Rattle.std.specs.Prelude.{if◌then◌else◌, unwrap_or}
+use Rattle.std.specs.Option.{option_map, option_map_or, option_or, option_and_then}
+use Rattle.std.specs.List.{cons_option}
+use Rattle.desk_model.specs.declared.command.Cmd.{Cmd}
+use Rattle.desk_model.specs.declared.command.Cmd.TheVariants as cmd
+use Rattle.desk_model.specs.declared.reply.Reply.TheVariants as reply
+use Rattle.desk_model.specs.declared.offer.Offer.{Offer}
+use Rattle.desk_model.specs.declared.board_setup.BoardSetup.{BoardSetup}
+use Rattle.desk_model.specs.declared.vac_state.VacState.TheVariants as state
+use Rattle.desk_model.specs.Job.{JobValue}
+use Rattle.desk_model.specs.Entry.{EntryValue}
+use Rattle.desk_model.specs.History.{History, with_entry, is_done, said}
+use Rattle.desk_model.specs.Register.{enrols, enrols_any, gives, makes, makes_any, sets_up, sets_up_any, person_of, persons, vacancy_of, vacancies, boards}
+use Rattle.desk_model.specs.Duty.{closes}
+use Rattle.desk_model.specs.Marks.{marks}
+use Rattle.desk_model.specs.Offers.{is_of, asks_for, offer_in}
+use Rattle.desk_model.specs.States.{state_of}
+use Rattle.desk_model.specs.TurnedDown.{turns_down}
+use Rattle.desk_model.specs.NextAnswer.{known_answer}
+use Rattle.desk_model.specs.OfferAnswer.{offer_made_answer}
+use Rattle.desk_model.specs.Comes.{Comes, state_after}
+use Rattle.desk_model.specs.Legal.{answer_to, is_within, moment, IsNext}
+use Rattle.desk_register.specs.Persons.{ArePersons}
+use Rattle.desk_register.specs.Boards.{AreBoards}
+use Rattle.desk_register.specs.Vacancies.{place_among, turned_in, has_in, IsVacancy, AreVacancies, offered_vac, offered_person, on_offer_to}
+use Rattle.desk_register.specs.declared.kept_person.KeptPerson.{KeptPerson}
+use Rattle.desk_register.specs.declared.kept_vacancy.KeptVacancy.{KeptVacancy}
+use Rattle.desk_register.proofs.PersonLemmas.{same, same_number, or_false, option_or-none}
+use Rattle.desk_register.proofs.KeepLemmas.{unmade-is, state-stays, state-offered}
+
+said-refused : {X : Type 0} (f : Cmd → Option X) (e : EntryValue) → is_done e.reply ≡ false → said f e ≡ None
+said-refused f e refused = rw refused refl
+
+none-more : {X : Type 0} (f : Cmd → Option X) (e : EntryValue) (xs : List X) → is_done e.reply ≡ false → xs ++ cons_option (said f e) [] ≡ xs
+none-more f e xs refused = rw (said-refused f e refused) (append-nil xs)
+
+pub persons-stay : (h : History) (e : EntryValue) (under : ℕ → Option KeptPerson) (numbers : List ℕ) → Comes h e → is_done e.reply ≡ false
+    → ArePersons under numbers h → ArePersons under numbers (with_entry h e)
+persons-stay h e under numbers comes refused are = record {
+  each = λ p. let is = are.each p in record {
+    person = is.person ∙ option_or-none (person_of h p) ∙ ap (option_or (person_of h p)) (sym (said-refused (enrols p) e refused)) ∙ sym (comes.person p);
+    quals = is.quals ∙ sym (comes.quals p ∙ rw (said-refused (gives p) e refused) refl);
+    marked_off = is.marked_off ∙ sym (comes.marked p ∙ rw (said-refused (marks p) e refused) refl);
+    closed = is.closed ∙ or_false _ ∙ sym (comes.closed p ∙ rw (said-refused (closes p) e refused) refl);
+    assigned = is.assigned ∙ sym (comes.assigned p ∙ rw refused refl);
+  };
+  order = are.order ∙ sym (comes.persons ∙ none-more enrols_any e (persons h) refused);
+}
+
+pub boards-stay : (h : History) (e : EntryValue) (under : List ℕ → Option BoardSetup) (codes : List (List ℕ)) → Comes h e → is_done e.reply ≡ false
+    → AreBoards under codes h → AreBoards under codes (with_entry h e)
+boards-stay h e under codes comes refused are = record {
+  each = λ b. are.each b ∙ option_or-none _ ∙ sym (comes.board b ∙ rw (said-refused (sets_up b) e refused) refl);
+  order = are.order ∙ sym (comes.boards ∙ none-more sets_up_any e (boards h) refused);
+}
+
+-- a vacancy whose state is kept anew, after an entry that was not done
+vacancy-stays : (h : History) (e : EntryValue) (v : ℕ) (k later : Option KeptVacancy) → Comes h e → is_done e.reply ≡ false
+    → option_map (λ x. x.job) later ≡ option_map (λ x. x.job) k → ((i : ℕ) → has_in later i ≡ has_in k i)
+    → option_map_or (λ x. x.state) later state.Vacant ≡ state_of (with_entry h e) v → IsVacancy k h v → IsVacancy later (with_entry h e) v
+vacancy-stays h e v k later comes refused same_job same_turned stands is =
+    let same_persons : persons (with_entry h e) ≡ persons h = comes.persons ∙ none-more enrols_any e (persons h) refused in
+    record {
+      job = same_job ∙ is.job ∙ option_or-none (vacancy_of h v) ∙ sym (comes.vacancy v ∙ rw (said-refused (makes v) e refused) refl);
+      state = stands;
+      turned = λ p. ap (λ ns. turned_in ns later p) same_persons ∙ turned (place_among (persons h) p) ∙ is.turned p ∙ or_false _
+          ∙ sym (comes.turned_down v p ∙ rw (said-refused (turns_down v p h) e refused) refl);
+      behind = λ i above. same_turned i ∙ is.behind i (subst (λ ns. length ns ≤ i) same_persons above);
+    }
+  where
+    turned : (place : Option ℕ) → option_map_or (has_in later) place false ≡ option_map_or (has_in k) place false
+    turned None = refl
+    turned (Some i) = same_turned i
+
+-- ---- offers
+
+some-is : (x v : ℕ) (offer : Option Offer) → option_and_then (λ o. Some x) offer ≡ Some v → x ≡ v
+some-is x v None is = absurd (false≢true (ap is_some is))
+some-is x v (Some offer) is = ap (λ o. unwrap_or o 0) is
+
+not-asked : (v : ℕ) (c : Cmd) (offer : Option Offer) → option_and_then (λ o. asks_for c) offer ≡ Some v → asks_for c ≡ None → ⊥
+not-asked v c None is none = false≢true (ap is_some is)
+not-asked v c (Some offer) is none = false≢true (ap is_some (sym none ∙ is))
+
+next-made : (h : History) (m at vac v : ℕ) (made : Option JobValue) → option_and_then (λ o. Some vac) (offer_in at (known_answer h m vac made)) ≡ Some v → is_none made ≡ false
+next-made h m at vac v None is = absurd (false≢true (ap is_some is))
+next-made h m at vac v (Some job) is = refl
+
+offer-made : (h : History) (m at vac v p : ℕ) (made : Option JobValue) → option_and_then (λ o. Some vac) (offer_in at (offer_made_answer h m vac p made)) ≡ Some v → is_none made ≡ false
+offer-made h m at vac v p None is = absurd (false≢true (ap is_some is))
+offer-made h m at vac v p (Some job) is = refl
+
+asked-made : (h : History) (m at v : ℕ) (c : Cmd) → option_and_then (λ o. asks_for c) (offer_in at (answer_to h m c)) ≡ Some v → is_none (vacancy_of h v) ≡ false
+asked-made h m at v (cmd.Next vac) is = subst (λ x. is_none (vacancy_of h x) ≡ false) (some-is vac v _ is) (next-made h m at vac v (vacancy_of h vac) is)
+asked-made h m at v (cmd.Offer vac p) is = subst (λ x. is_none (vacancy_of h x) ≡ false) (some-is vac v _ is) (offer-made h m at vac v p (vacancy_of h vac) is)
+asked-made h m at v (cmd.Accept a b) is = absurd (not-asked v (cmd.Accept a b) (offer_in at (answer_to h m (cmd.Accept a b))) is refl)
+asked-made h m at v (cmd.Decline a b) is = absurd (not-asked v (cmd.Decline a b) (offer_in at (answer_to h m (cmd.Decline a b))) is refl)
+asked-made h m at v (cmd.NoAnswer a b) is = absurd (not-asked v (cmd.NoAnswer a b) (offer_in at (answer_to h m (cmd.NoAnswer a b))) is refl)
+asked-made h m at v (cmd.Withdraw a b) is = absurd (not-asked v (cmd.Withdraw a b) (offer_in at (answer_to h m (cmd.Withdraw a b))) is refl)
+asked-made h m at v (cmd.Annul a) is = absurd (not-asked v (cmd.Annul a) (offer_in at (answer_to h m (cmd.Annul a))) is refl)
+asked-made h m at v (cmd.Drop a) is = absurd (not-asked v (cmd.Drop a) (offer_in at (answer_to h m (cmd.Drop a))) is refl)
+asked-made h m at v (cmd.Happened a b) is = absurd (not-asked v (cmd.Happened a b) (offer_in at (answer_to h m (cmd.Happened a b))) is refl)
+asked-made h m at v (cmd.Enrol a b d f) is = absurd (not-asked v (cmd.Enrol a b d f) (offer_in at (answer_to h m (cmd.Enrol a b d f))) is refl)
+asked-made h m at v (cmd.Board a b d) is = absurd (not-asked v (cmd.Board a b d) (offer_in at (answer_to h m (cmd.Board a b d))) is refl)
+asked-made h m at v (cmd.List a b) is = absurd (not-asked v (cmd.List a b) (offer_in at (answer_to h m (cmd.List a b))) is refl)
+asked-made h m at v (cmd.Unlist a b) is = absurd (not-asked v (cmd.Unlist a b) (offer_in at (answer_to h m (cmd.Unlist a b))) is refl)
+asked-made h m at v (cmd.MarkOff a) is = absurd (not-asked v (cmd.MarkOff a) (offer_in at (answer_to h m (cmd.MarkOff a))) is refl)
+asked-made h m at v (cmd.MarkOn a) is = absurd (not-asked v (cmd.MarkOn a) (offer_in at (answer_to h m (cmd.MarkOn a))) is refl)
+asked-made h m at v (cmd.Qualify a b) is = absurd (not-asked v (cmd.Qualify a b) (offer_in at (answer_to h m (cmd.Qualify a b))) is refl)
+asked-made h m at v (cmd.Past a b) is = absurd (not-asked v (cmd.Past a b) (offer_in at (answer_to h m (cmd.Past a b))) is refl)
+asked-made h m at v (cmd.Vacancy a) is = absurd (not-asked v (cmd.Vacancy a) (offer_in at (answer_to h m (cmd.Vacancy a))) is refl)
+asked-made h m at v (cmd.Hours a b) is = absurd (not-asked v (cmd.Hours a b) (offer_in at (answer_to h m (cmd.Hours a b))) is refl)
+asked-made h m at v (cmd.At a b) is = absurd (not-asked v (cmd.At a b) (offer_in at (answer_to h m (cmd.At a b))) is refl)
+asked-made h m at v (cmd.Explain a b) is = absurd (not-asked v (cmd.Explain a b) (offer_in at (answer_to h m (cmd.Explain a b))) is refl)
+asked-made h m at v (cmd.Vac a) is = absurd (not-asked v (cmd.Vac a) (offer_in at (answer_to h m (cmd.Vac a))) is refl)
+
+-- a vacancy that is offered was made
+offered-made : (h : History) (e : EntryValue) (v : ℕ) → IsNext h e → offered_vac e ≡ Some v → is_none (vacancy_of h v) ≡ false
+offered-made h e v next is = go (is_within h.opening.window e.stated.minute) (subst (λ r. option_and_then (λ o. asks_for e.stated.cmd) (offer_in e.moment r) ≡ Some v) next.reply is)
+  where
+    go : (within : Bool) → option_and_then (λ o. asks_for e.stated.cmd) (offer_in e.moment (if within then answer_to h (moment h e.stated.minute) e.stated.cmd else reply.OutsideWindow)) ≡ Some v
+        → is_none (vacancy_of h v) ≡ false
+    go true is = asked-made h (moment h e.stated.minute) e.moment v e.stated.cmd is
+    go false is = absurd (false≢true (ap is_some is))
+
+pub vacancies-stay : (h : History) (e : EntryValue) (under : ℕ → Option KeptVacancy) (numbers : List ℕ) → Comes h e
+    → ((v : ℕ) → state_of (with_entry h e) v ≡ state_after v e (state_of h v)) → is_done e.reply ≡ false → offered_vac e ≡ None
+    → AreVacancies under numbers h → AreVacancies under numbers (with_entry h e)
+vacancies-stay h e under numbers comes states refused none are = record {
+  each = λ v. vacancy-stays h e v (under v) (under v) comes refused refl (λ i. refl)
+      ((are.each v).state ∙ sym (states v ∙ state-stays e v (state_of h v) refused (ap (is_of v) none))) (are.each v);
+  order = are.order ∙ sym (comes.vacancies ∙ none-more makes_any e (vacancies h) refused);
+}
+
+pub vacancies-offered : (h : History) (e : EntryValue) (vac p : ℕ) (under later : ℕ → Option KeptVacancy) (numbers : List ℕ) → Comes h e
+    → ((v : ℕ) → state_of (with_entry h e) v ≡ state_after v e (state_of h v)) → IsNext h e → is_done e.reply ≡ false
+    → offered_vac e ≡ Some vac → offered_person e ≡ Some p
+    → ((v : ℕ) → later v ≡ (if nat_eq vac v then option_map (on_offer_to p) (under v) else under v))
+    → AreVacancies under numbers h → AreVacancies later numbers (with_entry h e)
+vacancies-offered h e vac p under later numbers comes states next refused of to later_is are = record {
+  each = λ v. each v (nat_eq vac v) refl (later_is v);
+  order = are.order ∙ sym (comes.vacancies ∙ none-more makes_any e (vacancies h) refused);
+}
+  where
+    job-stays : (k : Option KeptVacancy) → option_map (λ x. x.job) (option_map (on_offer_to p) k) ≡ option_map (λ x. x.job) k
+    job-stays None = refl
+    job-stays (Some k) = refl
+
+    turned-stays : (k : Option KeptVacancy) (i : ℕ) → has_in (option_map (on_offer_to p) k) i ≡ has_in k i
+    turned-stays None i = refl
+    turned-stays (Some k) i = refl
+
+    stands : (k : Option KeptVacancy) → is_none k ≡ false → option_map_or (λ x. x.state) (option_map (on_offer_to p) k) state.Vacant ≡ state.OnOffer p
+    stands None known = absurd (false≢true (sym known))
+    stands (Some k) known = refl
+
+    each : (v : ℕ) (here : Bool) → nat_eq vac v ≡ here → later v ≡ cond here (option_map (on_offer_to p) (under v)) (under v) → IsVacancy (later v) (with_entry h e) v
+    each v true here is = vacancy-stays h e v (under v) (later v) comes refused (ap (option_map (λ x. x.job)) is ∙ job-stays (under v)) (λ i. ap (λ k. has_in k i) is ∙ turned-stays (under v) i)
+        (ap (λ k. option_map_or (λ x. x.state) k state.Vacant) is
+        ∙ stands (under v) (unmade-is (under v) h v (are.each v) ∙ offered-made h e v next (of ∙ ap Some (same_number vac v here)))
+        ∙ sym (states v ∙ state-offered e v p (state_of h v) refused (ap (is_of v) of ∙ here) (ap (is_of p) to ∙ same p)))
+        (are.each v)
+    each v false here is = vacancy-stays h e v (under v) (later v) comes refused (ap (option_map (λ x. x.job)) is) (λ i. ap (λ k. has_in k i) is)
+        (ap (λ k. option_map_or (λ x. x.state) k state.Vacant) is ∙ (are.each v).state
+        ∙ sym (states v ∙ state-stays e v (state_of h v) refused (ap (is_of v) of ∙ here)))
+        (are.each v)

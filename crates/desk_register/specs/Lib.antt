@@ -1,0 +1,7 @@
+pub mod Persons
+pub mod Changes
+pub mod Done
+pub mod Places
+pub mod Vacancies
+pub mod Boards
+pub mod Register

@@ -1,0 +1,102 @@
+ghost use Rattle.desk_model.specs.Offers.{is_of};
+ghost use Rattle.desk_register.specs.Places.{has_place};
+ghost use Rattle.desk_register.specs.Vacancies.{target, state_then, turner, giver, IsChanged};
+ghost use Rattle.std.specs.Prelude.{◌≡◌, ◌<◌, ◌||◌, ℕ, IfSome};
+
+use crate::PlaceSet;
+use crate::kept_person::reports;
+use desk_base::{PersonNo, VacNo};
+use desk_model::{Cmd, Job, VacState};
+
+/// What is kept of a vacancy.
+#[derive(Clone, Copy, Debug)]
+pub struct KeptVacancy {
+    /// The job that it was made as.
+    pub job: Job,
+    /// How it stands.
+    pub state: VacState,
+    /// The places of the persons who have turned it down, among all persons in the order in which they were enrolled.
+    pub turned_down: PlaceSet,
+}
+
+// The vacancy whose state a command changes; `had` is what is assigned to the person whom the command names.
+pub(crate) fn target(cmd: &Cmd, had: Option<VacNo>) -> Option<VacNo>
+    ensures { result ≡ target cmd.now had }
+{
+    match cmd {
+        Cmd::Accept { vac, .. }
+        | Cmd::Decline { vac, .. }
+        | Cmd::NoAnswer { vac, .. }
+        | Cmd::Withdraw { vac, .. }
+        | Cmd::Annul { vac } => Some(*vac),
+        Cmd::Drop { .. } => had,
+        Cmd::Happened { event, .. } if reports(event) => had,
+        _ => None,
+    }
+}
+
+// The state that the command leaves it in.
+fn state_then(cmd: &Cmd, state: VacState) -> VacState
+    ensures { result ≡ state_then cmd.now state }
+{
+    match cmd {
+        Cmd::Accept { person, .. } => VacState::Taken(*person),
+        Cmd::Decline { .. } | Cmd::NoAnswer { .. } | Cmd::Withdraw { .. } | Cmd::Drop { .. } => {
+            VacState::Vacant
+        }
+        Cmd::Annul { .. } => VacState::Annulled,
+        Cmd::Happened { person, .. } => VacState::Begun(*person),
+        _ => state,
+    }
+}
+
+// Who turns it down by the command.
+pub(crate) fn turner(cmd: &Cmd) -> Option<PersonNo>
+    ensures { result ≡ turner cmd.now }
+{
+    match cmd {
+        Cmd::Decline { person, .. } | Cmd::NoAnswer { person, .. } | Cmd::Drop { person } => {
+            Some(*person)
+        }
+        _ => None,
+    }
+}
+
+// From whom the command may take what is assigned to them.
+pub(crate) fn giver(cmd: &Cmd) -> Option<PersonNo>
+    ensures { result ≡ giver cmd.now }
+{
+    match cmd {
+        Cmd::Drop { person } | Cmd::Happened { person, .. } => Some(*person),
+        _ => None,
+    }
+}
+
+// The places, with this one too.
+fn with(places: &PlaceSet, place: Option<usize>) -> PlaceSet
+    requires { IfSome place (λ i. i < 1_024) }
+    ensures { (i : ℕ) → has_place result.words i ≡ (has_place places.now.words i || is_of i place) }
+{
+    let mut places = *places;
+    match place {
+        Some(place) => {
+            places.insert(place);
+            places
+        }
+        None => places,
+    }
+}
+
+impl KeptVacancy {
+    // What a command makes of the vacancy whose state it changes; `place` is that of who turns it down by the command.
+    pub(crate) fn changed(&self, cmd: &Cmd, place: Option<usize>) -> KeptVacancy
+        requires { IfSome place (λ i. i < 1_024) }
+        ensures { IsChanged cmd.now place self.now result }
+    {
+        KeptVacancy {
+            job: self.job,
+            state: state_then(cmd, self.state),
+            turned_down: with(&self.turned_down, place),
+        }
+    }
+}

@@ -1,0 +1,23 @@
+//! What a desk keeps of persons, boards and vacancies, each found by its number or code.
+#![tactic(auto)]
+
+mod add_last;
+mod board_changes;
+mod boards;
+mod kept_person;
+mod kept_vacancy;
+mod place_set;
+mod register;
+mod register_keeps;
+mod roster;
+mod roster_changes;
+mod vacancies;
+mod vacancy_changes;
+
+pub use boards::Boards;
+pub use kept_person::KeptPerson;
+pub use kept_vacancy::KeptVacancy;
+pub use place_set::PlaceSet;
+pub use register::Register;
+pub use roster::Roster;
+pub use vacancies::Vacancies;

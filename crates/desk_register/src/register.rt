@@ -1,0 +1,11 @@
+use crate::boards::Boards;
+use crate::roster::Roster;
+use crate::vacancies::Vacancies;
+
+/// What a desk keeps of persons, boards and vacancies, each found by its number or code.
+#[derive(Drop)]
+pub struct Register {
+    pub(crate) persons: Roster,
+    pub(crate) boards: Boards,
+    pub(crate) vacancies: Vacancies,
+}

@@ -1,0 +1,147 @@
+ghost use Rattle.std.specs.Prelude.{◌≡◌, ◌<◌, ℕ, None, Some, IfSome, IfOk, nat_eq, is_none, option_and_then};
+ghost use Rattle.indexmap.specs.IndexMap.{get};
+ghost use Rattle.desk_model.specs.Opening.{OpeningValue};
+ghost use Rattle.desk_model.specs.Entry.{EntryValue};
+ghost use Rattle.desk_model.specs.History.{History, opened, with_entry, is_done};
+ghost use Rattle.desk_model.specs.Register.{persons};
+ghost use Rattle.desk_model.specs.TurnedDown.{has_turned_down};
+ghost use Rattle.desk_model.specs.Legal.{IsLegal, IsNext};
+ghost use Rattle.desk_register.specs.Changes.{loser};
+ghost use Rattle.desk_register.specs.Done.{IsDone};
+ghost use Rattle.desk_register.specs.Vacancies.{had_by, turner, turner_place, HasPlace, offered_vac, offered_person};
+ghost use Rattle.desk_register.specs.Register.{Keeps};
+
+use crate::boards::Boards;
+use crate::kept_vacancy::{giver, turner};
+use crate::register::Register;
+use crate::roster::Roster;
+use crate::vacancies::Vacancies;
+use desk_base::{NoMemory, PersonNo, VacNo};
+use desk_model::{
+    Cmd, Entry, Reply, VacState, a_vacancy_is_in_one_state, what_an_entry_makes_of_the_desk,
+};
+use std::alloc::Global;
+
+// Whether the reply says that the command was done.
+fn is_done(reply: Reply) -> bool
+    ensures { result ≡ is_done reply }
+{
+    match reply {
+        Reply::Done => true,
+        _ => false,
+    }
+}
+
+// The vacancy that the entry offers, and to whom.
+fn offered(entry: &Entry) -> Option<(VacNo, PersonNo)>
+    ensures some { IfSome result (λ x. (offered_vac entry.now ≡ Some x.0) × (offered_person entry.now ≡ Some x.1)) }
+    ensures none { result ≡ None → offered_vac entry.now ≡ None }
+{
+    let Reply::Offered { person, .. } = entry.reply() else {
+        return None;
+    };
+    match entry.stated().cmd() {
+        Cmd::Next { vac } | Cmd::Offer { vac, .. } => Some((*vac, person)),
+        _ => None,
+    }
+}
+
+impl Register {
+    /// That of a desk that has answered nothing yet, with memory for all that it may come to keep.
+    pub fn new(alloc: Global) -> Result<Register, NoMemory>
+        ensures { IfOk result (λ r. (o : OpeningValue) → Keeps r (opened o)) }
+    {
+        let persons = Roster::new(alloc)?;
+        let boards = Boards::new(alloc)?;
+        let vacancies = Vacancies::new(alloc)?;
+        Ok(Register {
+            persons,
+            boards,
+            vacancies,
+        })
+    }
+
+    /// The persons.
+    pub fn persons(&self) -> &Roster
+        ensures { result.now ≡ self.now.persons }
+    {
+        &self.persons
+    }
+
+    /// The boards.
+    pub fn boards(&self) -> &Boards
+        ensures { result.now ≡ self.now.boards }
+    {
+        &self.boards
+    }
+
+    /// The vacancies.
+    pub fn vacancies(&self) -> &Vacancies
+        ensures { result.now ≡ self.now.vacancies }
+    {
+        &self.vacancies
+    }
+
+    // To whom the vacancy is assigned that the command annuls.
+    fn loser(&self, cmd: &Cmd) -> Option<PersonNo>
+        ensures { (h : History) → Keeps self.now h → result ≡ loser h cmd.now }
+    {
+        let Cmd::Annul { vac } = cmd else {
+            return None;
+        };
+        match self.vacancies.get(*vac)?.state {
+            VacState::Taken(person) => Some(person),
+            _ => None,
+        }
+    }
+
+    // What is assigned to the person whom the command names that may take it from them.
+    fn had_by(&self, cmd: &Cmd) -> Option<VacNo>
+        ensures { (h : History) → Keeps self.now h → result ≡ had_by h cmd.now }
+    {
+        self.persons.get(giver(cmd)?)?.assigned
+    }
+
+    // The place of who turns a vacancy down by the command.
+    fn turner_place(&self, cmd: &Cmd) -> Option<usize>
+        ensures place { (h : History) → Keeps self.now h → result ≡ turner_place (persons h) cmd.now }
+        ensures found { (p : ℕ) → turner cmd.now ≡ Some p → is_none result ≡ is_none (get nat_eq self.now.persons.kept p) }
+        ensures range { IfSome result (λ i. i < 1_024) }
+    {
+        self.persons.place(turner(cmd)?)
+    }
+
+    // Keeps what a command changes that was done.
+    fn change(&mut self, cmd: &Cmd)
+        ensures { (h : History) (e : EntryValue) → IsLegal h → IsNext h e → IsDone e cmd.now → Keeps self.old h → Keeps self.new (with_entry h e) }
+    {
+        let lost = self.loser(cmd);
+        let had = self.had_by(cmd);
+        let place = self.turner_place(cmd);
+        self.persons.change(cmd, lost);
+        self.boards.change(cmd);
+        self.vacancies.change(cmd, had, place);
+    }
+
+    /// Keeps what an entry changes.
+    pub fn keep(&mut self, entry: &Entry)
+        ensures { (h : History) → IsLegal h → IsNext h entry.now → Keeps self.old h → Keeps self.new (with_entry h entry.now) }
+    {
+        what_an_entry_makes_of_the_desk();
+        if is_done(entry.reply()) {
+            self.change(entry.stated().cmd());
+        } else if let Some((vac, person)) = offered(entry) {
+            self.vacancies.offer(vac, person);
+        }
+    }
+
+    /// Whether the person has turned the vacancy down.
+    pub fn has_turned_down(&self, vac: VacNo, person: PersonNo) -> bool
+        ensures { (h : History) → Keeps self.now h → result ≡ has_turned_down h vac person }
+    {
+        match (self.vacancies.get(vac), self.persons.place(person)) {
+            (Some(kept), Some(place)) => kept.turned_down.has(place),
+            _ => false,
+        }
+    }
+}
