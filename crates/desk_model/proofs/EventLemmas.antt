@@ -90,7 +90,7 @@ may_follow-allowed s last e is allowed =
     (may_follow-decides s last e).1 (record { allowed = allowed; first_in = years.0; last_in = years.1.0; whole = years.1.1 })
 
 -- what is told and done was allowed
-told-done : (o : OpeningValue) (es : List Event) (m : ℕ) (e : Event) → is_done (told_answer o es m e) ≡ true → is_ok (judge (stage_of es) e (latest es)) ≡ true
+pub told-done : (o : OpeningValue) (es : List Event) (m : ℕ) (e : Event) → is_done (told_answer o es m e) ≡ true → is_ok (judge (stage_of es) e (latest es)) ≡ true
 told-done o es m e done = go (nat_lt (first_minute e) (start_of o.window)) (nat_lt m (last_minute e)) (judge (stage_of es) e (latest es)) done
   where
     go : (early ahead : Bool) (r : Result Stage EventFault) → is_done (cond early reply.OutsideWindow (cond ahead (reply.EventAhead m) (judged_answer r))) ≡ true → is_ok r ≡ true
@@ -99,7 +99,7 @@ told-done o es m e done = go (nat_lt (first_minute e) (start_of o.window)) (nat_
     go false false (Ok s) done = refl
     go false false (Err f) done = absurd (false≢true done)
 
-past-done : (h : History) (m p : ℕ) (e : Event) → is_done (past_answer h m p e) ≡ true → is_done (told_answer h.opening (events h p) m e) ≡ true
+pub past-done : (h : History) (m p : ℕ) (e : Event) → is_done (past_answer h m p e) ≡ true → is_done (told_answer h.opening (events h p) m e) ≡ true
 past-done h m p e done = go (is_none (person_of h p)) (is_closed h p) done
   where
     go : (unknown closed : Bool) → is_done (cond unknown reply.UnknownPerson (cond closed reply.PastClosed (told_answer h.opening (events h p) m e))) ≡ true
@@ -108,7 +108,7 @@ past-done h m p e done = go (is_none (person_of h p)) (is_closed h p) done
     go false true done = absurd (false≢true done)
     go false false done = done
 
-event-done : (h : History) (m p : ℕ) (e : Event) → is_done (event_answer h m p e) ≡ true → is_done (told_answer h.opening (events h p) m e) ≡ true
+pub event-done : (h : History) (m p : ℕ) (e : Event) → is_done (event_answer h m p e) ≡ true → is_done (told_answer h.opening (events h p) m e) ≡ true
 event-done h m p e done = go (is_none (person_of h p)) (on_offer h p) done
   where
     go : (unknown : Bool) (offer : Option ℕ) → is_done (cond unknown reply.UnknownPerson (unless_frozen offer (told_answer h.opening (events h p) m e))) ≡ true
@@ -129,7 +129,7 @@ event-comes h m q p e t is tells done = go (nat_eq q p) refl tells
         let allowed = subst (λ n. is_ok (judge (stage_of (events h n)) e (latest (events h n))) ≡ true) (same_number q p same) (told-done h.opening (events h q) m e done) in
         subst (λ x. may_come (events h p) x ≡ true) self (may_follow-allowed (stage_of (events h p)) (latest (events h p)) e is allowed)
 
-command-comes : (h : History) (m : ℕ) (c : Cmd) (p : ℕ) (t : Event) → IsCommand c → tells p c ≡ Some t
+pub command-comes : (h : History) (m : ℕ) (c : Cmd) (p : ℕ) (t : Event) → IsCommand c → tells p c ≡ Some t
     → is_done (answer_to h m c) ≡ true → may_come (events h p) t ≡ true
 command-comes h m (cmd.Past q e) p t is told done = event-comes h m q p e t is.1 told (past-done h m q e done)
 command-comes h m (cmd.Happened q e) p t is told done = event-comes h m q p e t is.1 told (event-done h m q e done)

@@ -38,3 +38,4 @@ pub mod VerdictLemmas
 pub mod AcceptedLemmas
 pub mod SettledLemmas
 pub mod EditionLemmas
+mod ToldLemmas

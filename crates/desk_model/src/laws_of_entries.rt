@@ -3,7 +3,11 @@ ghost use Rattle.std.specs.Prelude.{◌≡◌, ◌≤◌, ◌↔◌, ℕ, Some, 
 ghost use Rattle.std.specs.List.{All};
 ghost use Rattle.desk_model.specs.declared.vac_state.VacState.TheVariants as state;
 ghost use Rattle.desk_model.specs.Entry.{EntryValue};
-ghost use Rattle.desk_model.specs.History.{History, with_entry, steps};
+ghost use Rattle.desk_model.specs.History.{History, with_entry, steps, said};
+ghost use Rattle.desk_model.specs.Duty.{tells, may_come, events};
+ghost use Rattle.desk_base.specs.Window.{Holds};
+ghost use Rattle.duty_events.specs.declared.event.Event.{Event};
+ghost use Rattle.duty_events.specs.Allowed.{first_minute, last_minute};
 ghost use Rattle.desk_model.specs.Offers.{open_offer, is_of, is_to, on_offer};
 ghost use Rattle.desk_model.specs.Assigned.{is_assigned, assigned, begun, is_annulled};
 ghost use Rattle.desk_model.specs.States.{state_of};
@@ -53,4 +57,20 @@ pub fn a_vacancy_is_in_one_state()
 /// nothing: its clause is the law.
 pub fn moments_never_fall()
     ensures { (h : History) → IsLegal h → All (λ s. last_moment s.before ≤ s.entry.moment) (steps h) }
+{}
+
+/// In a legal history each entry is taken in the desk's window. It does nothing: its clause is the law.
+pub fn each_moment_lies_in_the_window()
+    ensures { (h : History) (e : EntryValue) → IsLegal h → IsNext h e → Holds h.opening.window e.moment }
+{}
+
+/// An event of a person that is told and accepted in a legal history may follow those that were told of them before, and
+/// lies in the desk's window. It does nothing: its clauses are the laws.
+pub fn what_is_told_may_follow()
+    ensures follows { (h : History) (e : EntryValue) (p : ℕ) (t : Event) → IsNext h e
+        → said (tells p) e ≡ Some t → may_come (events h p) t ≡ true }
+    ensures first { (h : History) (e : EntryValue) (p : ℕ) (t : Event) → IsLegal h → IsNext h e
+        → said (tells p) e ≡ Some t → Holds h.opening.window (first_minute t) }
+    ensures last { (h : History) (e : EntryValue) (p : ℕ) (t : Event) → IsLegal h → IsNext h e
+        → said (tells p) e ≡ Some t → Holds h.opening.window (last_minute t) }
 {}
