@@ -1,23 +1,9 @@
 //! Time off after days in a row, by lists of events that are worked by hand, on the clock's calls.
-use crate::tests::told::{Does, Step, Wanted, hours, march, new_clock, tell, wrong_at};
+use crate::tests::told::{Does, FIVE_DAYS, Step, Wanted, hours, march, told_after, wrong_at};
 use desk_base::Code;
 use duty_events::{Kind, Stage};
 
-// Four days with a tour from 08:00 to 16:00 that ends at home, and a fifth.
-pub(crate) const FOUR: [Step; 8] = [
-    (4, 8_00, Does::Duty),
-    (4, 16_00, Does::Final(b"HOM")),
-    (5, 8_00, Does::Duty),
-    (5, 16_00, Does::Final(b"HOM")),
-    (6, 8_00, Does::Duty),
-    (6, 16_00, Does::Final(b"HOM")),
-    (7, 8_00, Does::Duty),
-    (7, 16_00, Does::Final(b"HOM")),
-];
-
-const FIFTH: [Step; 2] = [(8, 8_00, Does::Duty), (8, 16_00, Does::Final(b"HOM"))];
-
-// What someone of HOM did after such days, the used minutes of March, where they are, when rest ends, and what bars whom it is
+// What someone of HOM did after five days, the used minutes of March, where they are, when rest ends, and what bars whom it is
 // asked of at a report.
 type Case = (
     &'static [Step],
@@ -27,19 +13,14 @@ type Case = (
     &'static [(u8, u16, Wanted)],
 );
 
-// The place of the first case after these days that is answered otherwise.
-fn wrong_case(fifth: &[Step], cases: &[Case]) -> Option<usize> {
-    cases
-        .iter()
-        .position(|case| is_right(fifth, case) != Some(true))
+// The place of the first case after five days that is answered otherwise.
+fn wrong_case(cases: &[Case]) -> Option<usize> {
+    cases.iter().position(|case| is_right(case) != Some(true))
 }
 
-fn is_right(fifth: &[Step], case: &Case) -> Option<bool> {
+fn is_right(case: &Case) -> Option<bool> {
     let (steps, used, place, ends, reports) = case;
-    let mut clock = new_clock(b"2024-03", 1)?;
-    tell(&mut clock, &FOUR)?;
-    tell(&mut clock, fifth)?;
-    tell(&mut clock, steps)?;
+    let clock = told_after(&FIVE_DAYS, steps)?;
     let told = clock.stage() == Stage::Off
         && clock.place() == Code::read(place)?
         && Some(clock.rest_end()) == march(ends.0, ends.1);
@@ -191,17 +172,17 @@ const SERVED: [Case; 4] = [
     ),
 ];
 
-// A final release during an interim ends the tour, and moves the person, to where that began. The fifth tour ended elsewhere.
-const NEAR: [Step; 2] = [(8, 8_00, Does::Duty), (8, 16_00, Does::Final(b"NEAR"))];
+// A final release during an interim ends the tour, and moves the person, to where that began. Service has ended elsewhere.
 
 const RELEASED: [Case; 2] = [
     (
         &[
+            (8, 20_00, Does::Other(8, 21_00, b"NEAR")),
             (9, 8_00, Does::Duty),
             (9, 12_00, Does::Interim(Kind::O, b"HOM")),
             (9, 16_00, Does::Final(b"HOM")),
         ],
-        2_640,
+        2_700,
         b"HOM",
         (9, 22_00),
         &[
@@ -212,11 +193,12 @@ const RELEASED: [Case; 2] = [
     ),
     (
         &[
+            (8, 20_00, Does::Other(8, 21_00, b"NEAR")),
             (9, 8_00, Does::Duty),
             (9, 12_00, Does::Interim(Kind::O, b"ALT")),
             (9, 16_00, Does::Final(b"ALT")),
         ],
-        2_640,
+        2_700,
         b"ALT",
         (9, 22_00),
         &[
@@ -229,7 +211,7 @@ const RELEASED: [Case; 2] = [
 
 #[test]
 fn time_off_after_days_in_a_row(rt: HostRuntime) {
-    assert_eq!(rt; wrong_case(&FIFTH, &SIX), None);
-    assert_eq!(rt; wrong_case(&FIFTH, &SERVED), None);
-    assert_eq!(rt; wrong_case(&NEAR, &RELEASED), None);
+    assert_eq!(rt; wrong_case(&SIX), None);
+    assert_eq!(rt; wrong_case(&SERVED), None);
+    assert_eq!(rt; wrong_case(&RELEASED), None);
 }

@@ -1,5 +1,5 @@
 //! The sections of the law by lists of events that are worked by hand: which one is the first, on the clock's calls.
-use crate::tests::told::{Asked, Does, Step, Wanted, told, wrong};
+use crate::tests::told::{Asked, Does, FIVE_DAYS, Step, Wanted, told_after, wrong};
 
 // Twelve hours on duty and 90 minutes in limbo: rest ends on 5 March at 07:30, and with the excess at 09:00.
 const LONG: [Step; 3] = [
@@ -19,18 +19,8 @@ const WAITED: [Step; 4] = [
     (5, 0_00, Does::Other(15, 6_00, b"HOM")),
 ];
 
-// A tour from 08:00 to 16:00 on each of seven days, the sixth of which ends away.
-const SEVEN: [Step; 14] = [
-    (4, 8_00, Does::Duty),
-    (4, 16_00, Does::Final(b"HOM")),
-    (5, 8_00, Does::Duty),
-    (5, 16_00, Does::Final(b"HOM")),
-    (6, 8_00, Does::Duty),
-    (6, 16_00, Does::Final(b"HOM")),
-    (7, 8_00, Does::Duty),
-    (7, 16_00, Does::Final(b"HOM")),
-    (8, 8_00, Does::Duty),
-    (8, 16_00, Does::Final(b"HOM")),
+// A sixth tour that ends away, and a seventh.
+const AWAY: [Step; 4] = [
     (9, 8_00, Does::Duty),
     (9, 16_00, Does::Final(b"ALT")),
     (10, 8_00, Does::Duty),
@@ -38,8 +28,8 @@ const SEVEN: [Step; 14] = [
 ];
 
 // The report of the first that is answered otherwise.
-fn wrong_after(steps: &[Step], asked: &[Asked]) -> Option<(u8, u16)> {
-    match told(b"2024-03", 1, steps) {
+fn wrong_after(days: &[Step], steps: &[Step], asked: &[Asked]) -> Option<(u8, u16)> {
+    match told_after(days, steps) {
         Some(clock) => wrong(&clock, asked),
         None => Some((0, 0)),
     }
@@ -48,7 +38,7 @@ fn wrong_after(steps: &[Step], asked: &[Asked]) -> Option<(u8, u16)> {
 #[test]
 fn sections_of_rest(rt: HostRuntime) {
     let none = [((4, 22_00), (4, 22_00), 720, 999, Wanted::Free)];
-    assert_eq!(rt; wrong_after(&[], &none), None);
+    assert_eq!(rt; wrong_after(&[], &[], &none), None);
     let late = Wanted::MoreRest(5, 9_00);
     let early = Wanted::Undisturbed(5, 9_00);
     let table = [
@@ -59,7 +49,7 @@ fn sections_of_rest(rt: HostRuntime) {
         ((5, 8_59), (6, 9_00), 600, 0, early),
         ((5, 9_00), (5, 9_00), 600, 0, Wanted::Free),
     ];
-    assert_eq!(rt; wrong_after(&LONG, &table), None);
+    assert_eq!(rt; wrong_after(&[], &LONG, &table), None);
 }
 
 #[test]
@@ -79,17 +69,17 @@ fn sections_of_a_month(rt: HostRuntime) {
             Wanted::Undisturbed(12, 12_00),
         ),
     ];
-    assert_eq!(rt; wrong_after(&SERVICE, &table), None);
+    assert_eq!(rt; wrong_after(&[], &SERVICE, &table), None);
     let over = Wanted::LimboHours(b"2024-03", 1_801);
     let table = [
         ((4, 12_00), (5, 8_00), 600, 120, Wanted::Free),
         ((4, 12_00), (5, 8_00), 600, 121, over),
     ];
-    assert_eq!(rt; wrong_after(&WAITED[..3], &table), None);
+    assert_eq!(rt; wrong_after(&[], &WAITED[..3], &table), None);
     // and the hours before the limbo
     let over = Wanted::MonthHours(b"2024-03", 18_001);
     let table = [((16, 0_00), (16, 8_00), 600, 121, over)];
-    assert_eq!(rt; wrong_after(&WAITED, &table), None);
+    assert_eq!(rt; wrong_after(&[], &WAITED, &table), None);
 }
 
 #[test]
@@ -100,15 +90,12 @@ fn sections_of_days(rt: HostRuntime) {
         // the rest comes before the days
         ((10, 17_00), (11, 1_59), 600, 0, Wanted::Rest(11, 2_00)),
     ];
-    assert_eq!(rt; wrong_after(&SEVEN, &table), None);
+    assert_eq!(rt; wrong_after(&FIVE_DAYS, &AWAY, &table), None);
     let home = [(9, 8_00, Does::Duty), (9, 16_00, Does::Final(b"HOM"))];
-    let mut six = SEVEN;
-    six[10] = home[0];
-    six[11] = home[1];
     let table = [
         ((10, 12_00), (10, 13_00), 600, 0, Wanted::SixDays),
         ((10, 12_00), (11, 15_59), 600, 0, Wanted::SixDays),
         ((10, 12_00), (11, 16_00), 600, 0, Wanted::Free),
     ];
-    assert_eq!(rt; wrong_after(&six[..12], &table), None);
+    assert_eq!(rt; wrong_after(&FIVE_DAYS, &home, &table), None);
 }

@@ -1,5 +1,6 @@
 //! Worked days on the clock's calls: what they have of the months, when rest ends, and the first section of the law.
-use crate::tests::told::{Does, Step, Wanted, hours, march, tell, told, wrong};
+use crate::PersonClock;
+use crate::tests::told::{Does, FIVE_DAYS, Wanted, hours, march, tell, told, told_after, wrong};
 use desk_base::{Code, Minute};
 use duty_events::{Kind, Stage};
 use std::test::Fail;
@@ -134,33 +135,23 @@ fn month_hours_and_limbo_at_the_limit(rt: HostRuntime) -> Result<(), Fail> {
     Ok(())
 }
 
-// A tour from 08:00 to 16:00 on each of six days, the last of which ends at the place.
-fn six_days(sixth: &'static [u8]) -> [Step; 12] {
-    [
-        (4, 8_00, Does::Duty),
-        (4, 16_00, Does::Final(b"HOM")),
-        (5, 8_00, Does::Duty),
-        (5, 16_00, Does::Final(b"HOM")),
-        (6, 8_00, Does::Duty),
-        (6, 16_00, Does::Final(b"HOM")),
-        (7, 8_00, Does::Duty),
-        (7, 16_00, Does::Final(b"HOM")),
-        (8, 8_00, Does::Duty),
-        (8, 16_00, Does::Final(b"HOM")),
-        (9, 8_00, Does::Duty),
-        (9, 16_00, Does::Final(sixth)),
-    ]
+// After five days, a sixth tour that ends at the place.
+fn six_days(sixth: &'static [u8]) -> Option<PersonClock> {
+    told_after(
+        &FIVE_DAYS,
+        &[(9, 8_00, Does::Duty), (9, 16_00, Does::Final(sixth))],
+    )
 }
 
 #[test]
 fn six_days_at_home_and_a_seventh_from_away(rt: HostRuntime) -> Result<(), Fail> {
-    let home = told(b"2024-03", 1, &six_days(b"HOM")).ok_or("no clock")?;
+    let home = six_days(b"HOM").ok_or("no clock")?;
     let asked = [
         ((10, 12_00), (11, 15_59), 600, 0, Wanted::SixDays),
         ((10, 12_00), (11, 16_00), 600, 0, Wanted::Free),
     ];
     assert_eq!(rt; wrong(&home, &asked), None);
-    let mut away = told(b"2024-03", 1, &six_days(b"ALT")).ok_or("no clock")?;
+    let mut away = six_days(b"ALT").ok_or("no clock")?;
     assert_eq!(rt; Some(away.place()), Code::read(b"ALT"));
     let asked = [((10, 3_00), (10, 8_00), 600, 0, Wanted::Free)];
     assert_eq!(rt; wrong(&away, &asked), None);
@@ -177,7 +168,7 @@ fn six_days_at_home_and_a_seventh_from_away(rt: HostRuntime) -> Result<(), Fail>
 // A clock that is used again has nothing of the person before; and a copy goes on by itself.
 #[test]
 fn a_clock_again(rt: HostRuntime) -> Result<(), Fail> {
-    let mut clock = told(b"2024-03", 1, &six_days(b"ALT")).ok_or("no clock")?;
+    let mut clock = six_days(b"ALT").ok_or("no clock")?;
     let kept = clock.copy()?;
     clock.restart(Code::read(b"NEW").ok_or("no code")?);
     assert_eq!(rt; Some(clock.place()), Code::read(b"NEW"));

@@ -1,6 +1,5 @@
 //! How many days in a row there are, by lists of events that are worked by hand, on the clock's calls.
-use crate::tests::days::FOUR;
-use crate::tests::told::{Does, Step, Wanted, law, march, new_clock, tell, wrong_at};
+use crate::tests::told::{Does, FIVE_DAYS, Step, Wanted, law, march, new_clock, tell, wrong_at};
 use denial_rules::Bar;
 use duty_events::Stage;
 use std::test::Fail;
@@ -25,7 +24,7 @@ fn more_to_six(steps: &[Step], from: u8) -> Option<u8> {
 // over midnight; one of no minutes; and only the days to the last start.
 const RUNS: [(&[Step], u8, u8); 9] = [
     (&[], 4, 6),
-    (&FOUR, 8, 2),
+    (&FIVE_DAYS, 9, 1),
     (
         &[(4, 8_00, Does::Duty), (4, 16_00, Does::Final(b"HOM"))],
         6,
@@ -112,16 +111,16 @@ fn days_in_a_row(rt: HostRuntime) {
 #[test]
 fn starts_of_tours(rt: HostRuntime) -> Result<(), Fail> {
     let mut clock = new_clock(b"2024-03", 1).ok_or("no clock")?;
-    tell(&mut clock, &FOUR).ok_or("not told")?;
+    tell(&mut clock, &FIVE_DAYS).ok_or("not told")?;
     let more = [
-        (8, 8_00, Does::Other(8, 16_00, b"HOM")),
-        (9, 23_00, Does::Ride),
-        (10, 1_00, Does::Duty),
+        (9, 8_00, Does::Other(9, 16_00, b"HOM")),
+        (10, 23_00, Does::Ride),
+        (11, 1_00, Does::Duty),
     ];
     tell(&mut clock, &more).ok_or("not told")?;
     assert_eq!(rt; clock.stage(), Stage::Duty);
-    assert_eq!(rt; clock.last(), march(10, 1_00));
-    tell(&mut clock, &[(10, 8_00, Does::Final(b"HOM"))]).ok_or("not told")?;
-    assert_eq!(rt; wrong_at(&clock, &[(10, 18_00, Wanted::Free)]), None);
+    assert_eq!(rt; clock.last(), march(11, 1_00));
+    tell(&mut clock, &[(11, 8_00, Does::Final(b"HOM"))]).ok_or("not told")?;
+    assert_eq!(rt; wrong_at(&clock, &[(11, 18_00, Wanted::Free)]), None);
     Ok(())
 }

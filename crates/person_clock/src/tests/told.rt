@@ -91,6 +91,27 @@ pub(crate) fn told(first: &[u8], months: u8, steps: &[Step]) -> Option<PersonClo
     Some(clock)
 }
 
+/// Five days with a tour from 08:00 to 16:00 that ends at home.
+pub(crate) const FIVE_DAYS: [Step; 10] = [
+    (4, 8_00, Does::Duty),
+    (4, 16_00, Does::Final(b"HOM")),
+    (5, 8_00, Does::Duty),
+    (5, 16_00, Does::Final(b"HOM")),
+    (6, 8_00, Does::Duty),
+    (6, 16_00, Does::Final(b"HOM")),
+    (7, 8_00, Does::Duty),
+    (7, 16_00, Does::Final(b"HOM")),
+    (8, 8_00, Does::Duty),
+    (8, 16_00, Does::Final(b"HOM")),
+];
+
+/// The clock of someone of HOM who was told of the days and then this, by the month of March.
+pub(crate) fn told_after(days: &[Step], steps: &[Step]) -> Option<PersonClock> {
+    let mut clock = told(b"2024-03", 1, days)?;
+    tell(&mut clock, steps)?;
+    Some(clock)
+}
+
 /// The used and the capped minutes of a month of the window.
 pub(crate) fn hours(clock: &PersonClock, text: &[u8]) -> Option<(u32, u32)> {
     let month = Month::read(text)?;
