@@ -36,8 +36,8 @@ pub(crate) fn longest_at_home(events: &[Event], home: Code, from: u64, to: Minut
     gauge.pass(to, is_at_home(&kind, place, home)).longest()
 }
 
-// Whether minutes of that kind at a place are off and at home.
-fn is_at_home(kind: &MinuteKind, place: Code, home: Code) -> bool
+/// Whether minutes of that kind at a place are off and at home.
+pub fn is_at_home(kind: &MinuteKind, place: Code, home: Code) -> bool
     ensures { result ≡ (is_off_duty kind.now && bytes_eq place home) }
 {
     kind.is_off_duty() && is_home(place, home)

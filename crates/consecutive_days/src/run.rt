@@ -1,4 +1,4 @@
-ghost use Rattle.std.specs.Prelude.{◌≡◌, ◌+◌, ◌<◌, ◌≤◌};
+ghost use Rattle.std.specs.Prelude.{◌≡◌, ◌+◌, ◌<◌, ◌^◌};
 ghost use Rattle.duty_events.specs.Lists.{IsLawful};
 ghost use Rattle.consecutive_days.specs.Run.{run_days, starts_on, last_start, IsRun, need};
 ghost use Rattle.consecutive_days.specs.Steps.{last_day, next_run};
@@ -55,17 +55,14 @@ pub fn last_run(events: &[Event]) -> Run
     Run { days, last }
 }
 
-/// How many days in a row there are where a tour begins on a day, after so many up to a last day.
+/// How many days in a row there are where a tour begins on a day, after so many up to a last day, which are few.
 pub fn next_run(days: u32, last: u32, day: u32) -> u32
-    requires days { days ≤ last + 1 }
-    requires day { day < 186_414 }
-    requires order { last ≤ day }
-    ensures { result ≡ next_run days last day }
+    ensures { days + 1 < 2 ^ 32 → result ≡ next_run days last day }
 {
     if days > 0 && day == last {
         days
-    } else if days > 0 && day == last + 1 {
-        days + 1
+    } else if days > 0 && u64::from(day) == u64::from(last) + 1 {
+        days.saturating_add(1)
     } else {
         1
     }

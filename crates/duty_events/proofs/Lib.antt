@@ -1,5 +1,6 @@
 pub mod AskedLemmas
 pub mod CountLemmas
+pub mod DuringLemmas
 pub mod EndedTourLemmas
 pub mod EventLemmas
 pub mod FollowLemmas

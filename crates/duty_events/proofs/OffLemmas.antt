@@ -73,13 +73,13 @@ off_behind : (s : Stage) (e : Event) (last : Option ℕ) → IsOk (judge s e las
 off_behind s (event.Interim t k place) last ok off = absurd (not_interim s t k place last ok off)
 off_behind s e last ok off = refl
 
-off-behind : (es : List Event) → IsLawful es → stage_of es ≡ stage.Off → kind_behind (last_event es) ≡ minute.Off
+pub off-behind : (es : List Event) → IsLawful es → stage_of es ≡ stage.Off → kind_behind (last_event es) ≡ minute.Off
 off-behind es lawful =
     lawful-induction (λ xs. stage_of xs ≡ stage.Off → kind_behind (last_event xs) ≡ minute.Off) (λ off. refl)
     (λ old e before next was off. ap kind_behind (last_event-push old e) ∙ off_behind (stage_of old) e (latest old) next.allowed (sym (stage_of-push old e) ∙ off))
     es lawful
 
-settled : (k : MinuteKind) → IsKnown k → is_worked k ≡ false → is_off_duty k ≡ true
+pub settled : (k : MinuteKind) → IsKnown k → is_worked k ≡ false → is_off_duty k ≡ true
 settled minute.Off known not = refl
 settled minute.Open known not = absurd (known refl)
 settled k known not = absurd (false≢true (sym not))

@@ -1,6 +1,7 @@
 pub mod Allowed
 pub mod Asked
 pub mod Between
+pub mod During
 pub mod EndedTours
 pub mod Lists
 pub mod MinuteKind

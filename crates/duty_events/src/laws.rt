@@ -4,13 +4,14 @@ ghost use Rattle.std.specs.Option.{option_or};
 ghost use Rattle.duty_events.specs.declared.asked.Asked.{Asked};
 ghost use Rattle.duty_events.specs.declared.asked.Asked.TheVariants as asked;
 ghost use Rattle.duty_events.specs.declared.event.Event.{Event};
-ghost use Rattle.duty_events.specs.declared.minute_kind.MinuteKind.TheVariants.{Open, Other};
+ghost use Rattle.duty_events.specs.declared.minute_kind.MinuteKind.TheVariants.{Off, Open, Other};
 ghost use Rattle.duty_events.specs.declared.stage.Stage.{Stage};
 ghost use Rattle.duty_events.specs.declared.stage.Stage.TheVariants as stage;
 ghost use Rattle.duty_events.specs.declared.tour.Tour.{Tour};
 ghost use Rattle.duty_events.specs.Allowed.{first_minute, last_minute};
 ghost use Rattle.duty_events.specs.Asked.{asked_minutes, asked_between, asked_own};
 ghost use Rattle.duty_events.specs.Between.{kind_until, kind_behind};
+ghost use Rattle.duty_events.specs.During.{kind_during};
 ghost use Rattle.duty_events.specs.EndedTours.{begun, ended, last_begun, last_tour};
 ghost use Rattle.duty_events.specs.Lists.{Follows, may_follow, IsNext, IsLawful, stage_of, stage_after, last_event, reached};
 ghost use Rattle.duty_events.specs.MinuteKind.{begins, kind_of, is_worked, is_off_duty};
@@ -63,6 +64,16 @@ pub fn kinds_about_the_latest_minute()
         → (t : ℕ) → t < reached (last_event es) → kind_of es t ≢ Open }
     ensures behind { (es : List Event) → IsLawful es
         → (t : ℕ) → reached (last_event es) ≤ t → kind_of es t ≡ kind_behind (last_event es) }
+{}
+
+/// What the minutes about the latest of a lawful list count as, by the stage alone: those up to an event that comes next, as
+/// by the list's last event and it; and those behind the list where no tour runs, which are off. So whoever keeps a stage
+/// and a latest minute needs no event. It does nothing: its clauses are the law.
+pub fn kinds_by_the_stage()
+    ensures until { (es : List Event) → IsLawful es
+        → (e : Event) → kind_during (stage_of es) e ≡ kind_until (last_event es) e }
+    ensures off { (es : List Event) → IsLawful es → stage_of es ≡ stage.Off
+        → kind_behind (last_event es) ≡ Off }
 {}
 
 /// Where no tour runs, a minute that isn't worked is off. It does nothing: its clause is the law.

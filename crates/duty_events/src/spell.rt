@@ -2,8 +2,9 @@ ghost use Rattle.std.specs.Prelude.{◌≡◌, ◌-◌};
 ghost use Rattle.duty_events.specs.Allowed.{first_minute};
 ghost use Rattle.duty_events.specs.MinuteKind.{resumed, interim, first_leads};
 ghost use Rattle.duty_events.specs.Between.{between, kind_until, kind_behind};
+ghost use Rattle.duty_events.specs.During.{kind_during};
 
-use crate::{Event, Kind, MinuteKind, OFF_DUTY_INTERIM};
+use crate::{Event, Kind, MinuteKind, OFF_DUTY_INTERIM, Stage};
 use desk_base::Minute;
 
 /// What the minutes from an event to the next count as, by 49 USC 21103(b).
@@ -36,6 +37,18 @@ pub fn kind_behind(last: &Option<Event>) -> MinuteKind
     match last {
         Some(Event::Interim(_, _, _)) => MinuteKind::Open,
         _ => MinuteKind::Off,
+    }
+}
+
+/// What the minutes up to an event count as that comes at a stage, behind the latest minute.
+pub fn kind_during(stage: &Stage, next: &Event) -> MinuteKind
+    ensures { result ≡ kind_during stage.now next.now }
+{
+    match stage {
+        Stage::Off => MinuteKind::Off,
+        Stage::Riding | Stage::Duty => MinuteKind::OnDuty,
+        Stage::Interim { kind, since, .. } => interim(*since, kind, next),
+        Stage::Waiting | Stage::RidingHome => MinuteKind::Limbo,
     }
 }
 

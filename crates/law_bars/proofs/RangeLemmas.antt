@@ -1,23 +1,21 @@
 -- Each value that a bar of the law keeps is in its range.
-use Rattle.std.proofs.Common.{◌≡◌, ℕ, ◌+◌, ◌-◌, ◌<◌, ◌≤◌, ◌^◌, ◌⊎◌, inl, inr, ◌==◌, ◌&&◌, Bool, true, false, cond, not, nat_lt, Option, None, Some, IfSome, List, [], ◌∷◌, ◌++◌, refl, sym, subst, arith}
+use Rattle.std.proofs.Common.{◌≡◌, ℕ, ◌+◌, ◌-◌, ◌<◌, ◌≤◌, ◌^◌, ◌⊎◌, inl, inr, ◌==◌, ◌&&◌, Bool, true, false, cond, not, nat_lt, Option, None, Some, IfSome, List, [], ◌∷◌, ◌++◌, refl, arith}
 use Rattle.std.proofs.lemmas.Bool.{cases_lt}
 use Rattle.desk_base.specs.declared.minute.TheConstants.{YEARS_BEGIN, YEARS_END}
 use Rattle.desk_base.specs.Minute.{IsInYears}
 use Rattle.desk_base.specs.Month.{IsMonthInYears, first_minute as month_start, minutes_of}
 use Rattle.desk_base.proofs.MonthLemmas.{first_day_mono, first_day-2000, first_day-2100, length_of_bounds}
 use Rattle.duty_events.specs.declared.event.Event.{Event}
-use Rattle.duty_events.specs.declared.tour.Tour.{Tour}
 use Rattle.duty_events.specs.Allowed.{first_minute, last_minute}
 use Rattle.duty_events.specs.Between.{kind_until}
-use Rattle.duty_events.specs.EndedTours.{last_tour}
 use Rattle.duty_events.specs.Lists.{IsNext, IsLawful, stage_of, last_event, reached}
 use Rattle.duty_events.specs.MinuteKind.{begins, is_worked, kind_of}
-use Rattle.duty_events.specs.Tours.{is_in_tour}
 use Rattle.duty_events.proofs.CountLemmas.{minutes_where-most}
-use Rattle.duty_events.proofs.ListLemmas.{lawful-induction, last_event-push}
+use Rattle.duty_events.proofs.ListLemmas.{lawful-induction}
 use Rattle.rest_rules.specs.declared.rest.TheConstants.{REST}
 use Rattle.rest_rules.specs.OffFrom.{off_from}
-use Rattle.rest_rules.specs.Excess.{over_limit, excess}
+use Rattle.rest_rules.specs.Excess.{excess}
+use Rattle.rest_rules.proofs.ExcessLemmas.{excess-range}
 use Rattle.rest_rules.specs.Rest.{was_off, rest_ok, rest_end}
 use Rattle.rest_rules.proofs.OffFromLemmas.{end_after-range, off_from-nil, off_from-push}
 use Rattle.rest_rules.proofs.RestLemmas.{off_from-some, end-taken, end-owed}
@@ -42,10 +40,6 @@ use Rattle.law_bars.specs.Law.{rest_row, more_rest_row, undisturbed_row, six_day
 
 -- ---- rest
 
--- the last tour that has ended did so by the latest minute
-abbrev pub EndsTours : Type 0
-EndsTours = (es : List Event) (tour : Tour) → IsLawful es → last_tour es ≡ Some tour → tour.end ≤ reached (last_event es)
-
 off_from-range : (es : List Event) → IsLawful es → (off_from es ≡ 0) ⊎ IsInYears (off_from es)
 off_from-range es lawful = lawful-induction (λ past. (off_from past ≡ 0) ⊎ IsInYears (off_from past)) (inl off_from-nil) more es lawful
   where
@@ -56,21 +50,6 @@ off_from-range es lawful = lawful-induction (λ past. (off_from past ≡ 0) ⊎ 
         (end_after-range _ true (first_minute e) (last_minute e) next.last_in
         (end_after-range (off_from past) (is_worked (kind_until (last_event past) e)) (reached (last_event past)) (first_minute e) next.first_in was))
 
-reached-range : (es : List Event) → IsLawful es → reached (last_event es) < YEARS_END
-reached-range es lawful = lawful-induction (λ past. reached (last_event past) < YEARS_END) (omega arith) more es lawful
-  where
-    more : (past : List Event) (e : Event) → IsLawful past → IsNext past e → reached (last_event past) < YEARS_END → reached (last_event (past ++ e ∷ [])) < YEARS_END
-    more past e fine next was = subst (λ last. reached last < YEARS_END) (sym (last_event-push past e)) next.last_in.1
-
-excess-range : EndsTours → (es : List Event) → IsLawful es → excess es < YEARS_END
-unfolding excess
-excess-range ends es lawful = go (last_tour es) refl
-  where
-    go : (tour : Option Tour) → last_tour es ≡ tour → over_limit es tour < YEARS_END
-    go None is = omega arith
-    go (Some tour) is =
-        omega (arith, minutes_where-most (λ t. is_in_tour (kind_of es t)) tour.start (tour.end - tour.start), ends es tour lawful is, reached-range es lawful)
-
 -- who has not rested, and when their rest ends
 rest-owed : (es : List Event) (at more : ℕ) → IsLawful es → rest_ok es at more ≡ false → IsInYears (off_from es)
 rest-owed es at more lawful not = elim (off_from-range es lawful) [
@@ -78,8 +57,8 @@ rest-owed es at more lawful not = elim (off_from-range es lawful) [
   | inr in_years ↦ in_years
 ]
 
-rest_end-range : EndsTours → (es : List Event) → IsLawful es → IsInYears (off_from es) → (YEARS_BEGIN ≤ rest_end es) × (rest_end es < 2 ^ 28)
-rest_end-range ends es lawful in_years = go (was_off es (REST + excess es) (off_from es)) refl
+rest_end-range : (es : List Event) → IsLawful es → IsInYears (off_from es) → (YEARS_BEGIN ≤ rest_end es) × (rest_end es < 2 ^ 28)
+rest_end-range es lawful in_years = go (was_off es (REST + excess es) (off_from es)) refl
   where
     some : 0 < off_from es
     some = omega (arith, in_years.0)
@@ -88,7 +67,7 @@ rest_end-range ends es lawful in_years = go (was_off es (REST + excess es) (off_
     go true is = let same = end-taken es some is in (omega (arith, same, in_years.0), omega (arith, same, in_years.1))
     go false is =
         let same = end-owed es some is in
-        let few = excess-range ends es lawful in
+        let few = excess-range es lawful in
         (omega (arith, same, in_years.0), omega (arith, same, in_years.1, few))
 
 rest_row-fits : (es : List Event) (report : ℕ) → IsLawful es → IfSome (rest_row es report) FitsBar
@@ -97,8 +76,8 @@ rest_row-fits es report lawful =
     (λ not. let owed = rest-owed es report 0 lawful not in (omega (arith, owed.0), omega (arith, owed.1)))
 
 -- who has not rested with the excess, at the report or at the moment
-excess-fits : EndsTours → (es : List Event) (at : ℕ) → IsLawful es → rest_ok es at (excess es) ≡ false → (YEARS_BEGIN ≤ rest_end es) × (rest_end es < 2 ^ 28)
-excess-fits ends es at lawful not = rest_end-range ends es lawful (rest-owed es at (excess es) lawful not)
+excess-fits : (es : List Event) (at : ℕ) → IsLawful es → rest_ok es at (excess es) ≡ false → (YEARS_BEGIN ≤ rest_end es) × (rest_end es < 2 ^ 28)
+excess-fits es at lawful not = rest_end-range es lawful (rest-owed es at (excess es) lawful not)
 
 -- ---- days
 
@@ -160,15 +139,15 @@ first_over-fits l es p in_years ends = over-fits l es p (first_over l es p) in_y
 
 -- ---- the first row
 
-pub law_bar-fits : EndsTours → (es : List Event) (home : List ℕ) (moment report duty limbo : ℕ) → IsLawful es → IsInYears report → report + duty + limbo ≤ YEARS_END
+pub law_bar-fits : (es : List Event) (home : List ℕ) (moment report duty limbo : ℕ) → IsLawful es → IsInYears report → report + duty + limbo ≤ YEARS_END
     → IfSome (law_bar es home moment report duty limbo) FitsBar
 unfolding law_bar
-law_bar-fits ends es home moment report duty limbo lawful in_years by =
+law_bar-fits es home moment report duty limbo lawful in_years by =
     let plan = plan_of report duty limbo in
     let days = days-fit es lawful in
     row-fits (rest_row es report) _ (rest_row-fits es report lawful)
-    (row-fits (more_rest_row es report) _ (unless-fits (rest_ok es report (excess es)) (bar.MoreRest (rest_end es)) (excess-fits ends es report lawful))
-    (row-fits (undisturbed_row es moment) _ (unless-fits (rest_ok es moment (excess es)) (bar.Undisturbed (rest_end es)) (excess-fits ends es moment lawful))
+    (row-fits (more_rest_row es report) _ (unless-fits (rest_ok es report (excess es)) (bar.MoreRest (rest_end es)) (excess-fits es report lawful))
+    (row-fits (undisturbed_row es moment) _ (unless-fits (rest_ok es moment (excess es)) (bar.Undisturbed (rest_end es)) (excess-fits es moment lawful))
     (row-fits (six_days_row es home report) _
     (where-fits (not (days_ok es home report) && (need (run_days es) == OFF_AFTER_SIX_DAYS)) (bar.SixDays (run_days es) (need (run_days es))) days)
     (row-fits (seven_days_row es home report) _

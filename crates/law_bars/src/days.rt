@@ -19,11 +19,11 @@ pub(crate) fn days_bar(events: &[Event], home: Code, report: Minute) -> Option<B
         return None;
     }
     let run = run_days(events);
-    bar_of(run, need(run))
+    bar_of_days(run, need(run))
 }
 
-// The bar of so many days in a row that need so many minutes off.
-fn bar_of(run: u32, need: u32) -> Option<Bar>
+/// The bar of so many days in a row that need so many minutes off, and these were not had; `None` where they need none.
+pub fn bar_of_days(run: u32, need: u32) -> Option<Bar>
     ensures { result ≡ first_some (
         (if need == OFF_AFTER_SIX_DAYS then Some (bar.SixDays run need) else None)
         ∷ (if need == OFF_AFTER_SEVEN_DAYS then Some (bar.SevenDays run need) else None) ∷ []) }

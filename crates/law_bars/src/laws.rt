@@ -9,7 +9,7 @@ ghost use Rattle.duty_events.specs.Lists.{IsLawful, stage_of};
 ghost use Rattle.law_bars.specs.Law.{law_bar, LawInWords, WasOffTenHours};
 
 use consecutive_days::days_in_words;
-use duty_events::{a_minute_that_is_not_worked_is_off, the_last_tour_ends_by_the_latest_minute};
+use duty_events::a_minute_that_is_not_worked_is_off;
 use month_hours::hours_in_words;
 use rest_rules::rest_in_words;
 
@@ -35,10 +35,8 @@ pub fn who_is_rested_was_off_ten_hours()
 }
 
 /// Each value that a bar of the law keeps is in its range, by any lawful list of events, for a job of the years 2000 to 2099.
-/// It only names the law that it rests on: its clause is the law.
+/// It does nothing: its clause is the law.
 pub fn what_a_bar_of_the_law_keeps()
     ensures { (es : List Event) (home : List ℕ) (moment report duty limbo : ℕ) → IsLawful es → IsInYears report
         → report + duty + limbo ≤ YEARS_END → IfSome (law_bar es home moment report duty limbo) FitsBar }
-{
-    the_last_tour_ends_by_the_latest_minute();
-}
+{}

@@ -1,7 +1,6 @@
 -- What a clock has of each month.
-use Rattle.std.proofs.Common.{◌≡◌, ℕ, ◌+◌, ◌-◌, ◌<◌, ◌≤◌, List, get_or, sym, ap, ◌∙◌, arith}
+use Rattle.std.proofs.Common.{◌≡◌, ℕ, ◌+◌, ◌-◌, ◌<◌, ◌≤◌, List, get_or, sym, ◌∙◌, arith}
 use Rattle.desk_base.specs.Month.{first_minute as month_start, minutes_of}
-use Rattle.desk_base.specs.Window.{WindowValue}
 use Rattle.duty_events.specs.declared.asked.Asked.TheVariants as asked
 use Rattle.duty_events.specs.declared.event.Event.{Event}
 use Rattle.duty_events.specs.Asked.{asked_minutes}
@@ -10,17 +9,10 @@ use Rattle.month_hours.specs.declared.limit.Limit.TheVariants as limit
 use Rattle.month_hours.specs.Capped.{capped_minutes, capped}
 use Rattle.month_hours.specs.Used.{used}
 use Rattle.month_hours.proofs.CappedLemmas.{capped_minutes-most}
-use Rattle.tour_build.specs.MonthSums.{AreSums}
+use Rattle.tour_build.proofs.SumLemmas.{sum-at}
 use Rattle.person_clock.specs.Clock.{ClockValue, Stands}
 use Rattle.person_clock.specs.Hours.{AreSoFar}
 use Rattle.person_clock.proofs.HoursLemmas.{month-ends, worked-before, capped-before, used-is}
-
--- the sum of a month of the window
-pub sum-at : (w : WindowValue) (counted : ℕ → ℕ → ℕ) (sums : List ℕ) → AreSums w counted sums → (month : ℕ) → w.first ≤ month → month < w.first + w.months
-    → get_or sums (month - w.first) 0 ≡ counted (month_start month) (minutes_of month)
-sum-at w counted sums are month from to =
-    let same : w.first + (month - w.first) ≡ month = omega (arith, from) in
-    are (month - w.first) (omega (arith, from, to)) ∙ ap (λ m. counted (month_start m) (minutes_of m)) same
 
 pub used-at : (c : ClockValue) (es : List Event) → Stands c es → (month : ℕ) → c.window.first ≤ month → month < c.window.first + c.window.months
     → get_or c.used (month - c.window.first) 0 ≡ used es month

@@ -1,4 +1,3 @@
-pub mod GaugeLemmas
 pub mod RestLemmas
 pub mod DaysLemmas
 pub mod HoursLemmas

@@ -1,7 +1,9 @@
 -- What one event more makes of since when someone is off, of the minutes off, and of the last tour.
-use Rattle.std.proofs.Common.{◌≡◌, ℕ, ◌-◌, ◌<◌, ◌≤◌, Bool, true, false, cond, ◌&&◌, nat_lt, inl, inr, Option, None, Some, IfSome, List, [], ◌∷◌, ◌++◌, refl, sym, subst, ap, ◌∙◌, arith}
-use Rattle.std.specs.Option.{option_or}
-use Rattle.std.proofs.lemmas.Bool.{false≢true, cases_lt, lt-ltb, le-ltb}
+use Rattle.std.proofs.Common.{◌≡◌, ℕ, ◌-◌, ◌<◌, ◌≤◌, Bool, true, false, cond, ◌&&◌, nat_lt, max, inl, inr, Option, None, Some, IfSome, List, [], ◌∷◌, ◌++◌, refl, sym, subst, ap, ◌∙◌, arith}
+use Rattle.std.specs.Option.{option_map, option_or}
+use Rattle.std.proofs.lemmas.Bool.{cases_lt, lt-ltb, le-ltb}
+use Rattle.stretches.specs.Stretch.{has_stretch}
+use Rattle.stretches.proofs.StretchLemmas.{has_stretch-none}
 use Rattle.duty_events.specs.declared.event.Event.{Event}
 use Rattle.duty_events.specs.declared.event.Event.TheVariants as event
 use Rattle.duty_events.specs.declared.stage.Stage.{Stage}
@@ -9,31 +11,25 @@ use Rattle.duty_events.specs.declared.stage.Stage.TheVariants as stage
 use Rattle.duty_events.specs.declared.minute_kind.MinuteKind.{MinuteKind}
 use Rattle.duty_events.specs.declared.minute_kind.MinuteKind.TheVariants as minute
 use Rattle.duty_events.specs.declared.tour.Tour.{Tour}
-use Rattle.duty_events.specs.Allowed.{first_minute}
+use Rattle.duty_events.specs.Allowed.{first_minute, last_minute}
 use Rattle.duty_events.specs.Between.{kind_until}
 use Rattle.duty_events.specs.EndedTours.{ended, last_begun, last_tour, end_of}
 use Rattle.duty_events.specs.Lists.{IsNext, IsLawful, stage_of, last_event, reached}
 use Rattle.duty_events.specs.MinuteKind.{kind_of, is_worked, is_off_duty}
 use Rattle.duty_events.specs.Places.{tour_end}
-use Rattle.duty_events.specs.Tours.{is_in_tour}
-use Rattle.duty_events.proofs.CountLemmas.{minutes_where-most}
 use Rattle.duty_events.proofs.EndedTourLemmas.{last_tour-nil, last_tour-push}
-use Rattle.duty_events.proofs.EventLemmas.{follows-reached, kind_of-stays, kind_of-until, reached-years}
+use Rattle.duty_events.proofs.EventLemmas.{follows-reached, kind_of-stays, kind_of-until}
 use Rattle.duty_events.proofs.LastTourLemmas.{last_tour-ends}
-use Rattle.duty_events.proofs.OffLemmas.{IsKnown, kind_of-known}
+use Rattle.duty_events.proofs.OffLemmas.{kind_of-known, settled}
 use Rattle.duty_events.proofs.PlaceLemmas.{IsSince, BeganLast, began_last, since_of}
 use Rattle.rest_rules.specs.Excess.{over_limit, excess}
 use Rattle.rest_rules.specs.OffFrom.{works, off_from, end_after}
 use Rattle.rest_rules.specs.Rest.{is_off}
 use Rattle.rest_rules.proofs.OffFromLemmas.{off_from-is, off_from-most, off_from-push}
+use Rattle.person_clock.specs.Clock.{minute_of}
 use Rattle.person_clock.specs.Rest.{end_after as tour_end_after, excess_after}
 
 -- ---- minutes
-
-settled : (k : MinuteKind) → IsKnown k → is_worked k ≡ false → is_off_duty k ≡ true
-settled minute.Off known not = refl
-settled minute.Open known not = absurd (known refl)
-settled k known not = absurd (false≢true (sym not))
 
 -- a minute before the latest that isn't worked is off, and a worked one isn't
 pub off-known : (es : List Event) → IsLawful es → (t : ℕ) → t < reached (last_event es) → works es t ≡ false → is_off es t ≡ true
@@ -119,16 +115,21 @@ pub excess-nil : excess [] ≡ 0
 unfolding excess
 excess-nil = ap (over_limit []) last_tour-nil
 
-pub excess-range : (es : List Event) → IsLawful es → excess es < 68_374_080
-unfolding excess
-excess-range es lawful = go (last_tour es) (last_tour-ends es (last_tour es) lawful refl)
-  where
-    go : (o : Option Tour) → IfSome o (λ tour. tour.end ≤ reached (last_event es)) → over_limit es o < 68_374_080
-    go None by = omega arith
-    go (Some tour) by = omega (arith, minutes_where-most (λ t. is_in_tour (kind_of es t)) tour.start (tour.end - tour.start), by, reached-years es lawful)
-
 pub excess-push : (es : List Event) (e : Event) (o : Option Tour) (sum : ℕ) → o ≡ ended (stage_of es) (last_begun es) e
     → (ended (stage_of es) (last_begun es) e ≡ None → excess (es ++ e ∷ []) ≡ excess es)
     → ((tour : Tour) → ended (stage_of es) (last_begun es) e ≡ Some tour → excess (es ++ e ∷ []) ≡ sum - 720) → excess_after (excess es) o sum ≡ excess (es ++ e ∷ [])
 excess-push es e None sum is stays ends = sym (stays (sym is))
 excess-push es e (Some tour) sum is stays ends = sym (ends tour (sym is))
+
+-- ---- a gauge, and the latest minute
+
+-- a stretch has room only behind the first minute
+pub stretch-behind : (asked : ℕ → Bool) (many from to : ℕ) → 0 < many → has_stretch asked many from (max from to) ≡ has_stretch asked many from to
+stretch-behind asked many from to some = elim (cases_lt from to) [
+  | inl room ↦ ap (has_stretch asked many from) (omega (arith, room))
+  | inr none ↦ has_stretch-none asked many from (max from to) some (omega (arith, none, some)) ∙ sym (has_stretch-none asked many from to some (omega (arith, none, some)))
+]
+
+pub minute_of-latest : (o : Option Event) → minute_of (option_map last_minute o) ≡ reached o
+minute_of-latest None = refl
+minute_of-latest (Some e) = refl

@@ -1,6 +1,5 @@
 -- What a person's clock stands for.
-use Rattle.std.specs.Prelude.{ℕ, Option, None, Some, List}
-use Rattle.std.specs.Option.{option_map}
+use Rattle.std.specs.Prelude.{ℕ, Option, unwrap_or, List}
 use Rattle.std.specs.List.{All}
 use Rattle.desk_base.specs.Window.{WindowValue, Holds}
 use Rattle.duty_events.specs.declared.asked.Asked.TheVariants as asked
@@ -36,12 +35,11 @@ abbrev pub stage_now : ClockValue → Stage
 stage_now c = c.tour.stage
 
 abbrev pub last_now : ClockValue → Option ℕ
-last_now c = option_map last_minute c.tour.last
+last_now c = c.tour.last
 
 -- that minute, 0 where there is none
 abbrev pub minute_of : Option ℕ → ℕ
-minute_of None = 0
-minute_of (Some minute) = minute
+minute_of last = unwrap_or last 0
 
 -- the event lies in the window
 abbrev pub LiesIn : WindowValue → Event → Type 0

@@ -24,8 +24,8 @@ use month_hours::Plan;
 use std::marker::Model;
 use tour_build::{Interval, MonthSums, TourTotals, capped_between, worked_between};
 
-/// What someone of a home did, as numbers: it answers for a list of events as the scans of that list do, and keeps no event
-/// but the last. It owns no memory.
+/// What someone of a home did, as numbers: it answers for a list of events as the scans of that list do, and keeps none. It
+/// owns no memory.
 #[derive(Clone, Copy, Debug)]
 pub struct PersonClock {
     window: Window,
@@ -129,22 +129,25 @@ impl PersonClock {
         ensures home { self.new.home ≡ self.old.home }
         ensures stands { (es : List Event) → Stands self.old es → Stands self.new (es ++ event ∷ []) }
     {
-        let last = self.tour.last();
         let stage = self.tour.stage();
+        let last = self.tour.last_minute();
         let ended = self.tour.ended_by(&event);
         let mut used = self.used;
-        used.add(&self.window, worked_between(&last, &event));
+        used.add(&self.window, worked_between(&stage, &last, &event));
         used.add(&self.window, own_minutes(&event));
         let mut capped = self.capped;
-        capped.add(&self.window, capped_between(&last, &event, self.tour.sum()));
+        let sum = self.tour.sum();
+        capped.add(&self.window, capped_between(&stage, &last, &event, sum));
         let mut tour = self.tour;
         tour.apply(event);
         *self = PersonClock {
             window: self.window,
             home: self.home,
             tour,
-            rest: self.rest.after(&last, &event, &ended, sum_of(&tour)),
-            days: self.days.after(self.home, &stage, &last, &event, &ended),
+            rest: self
+                .rest
+                .after(&stage, &last, &event, &ended, sum_of(&tour)),
+            days: self.days.after(self.home, &stage, &event, &ended),
             used,
             capped,
         };
@@ -164,7 +167,7 @@ impl PersonClock {
         if let Some(bar) = rest_bar(&self.rest, moment, report) {
             return Some(bar);
         }
-        if let Some(bar) = days_bar(&self.days, self.home, &self.tour.last(), report) {
+        if let Some(bar) = days_bar(&self.days, self.home, report) {
             return Some(bar);
         }
         let plan = Plan {

@@ -1,22 +1,19 @@
-ghost use Rattle.std.specs.Prelude.{◌≡◌, ◌<◌, ◌≤◌, ◌+◌, ◌^◌, ℕ, Bool, true, false, List, Option, [], ◌∷◌, ◌++◌, ◌&&◌};
+ghost use Rattle.std.specs.Prelude.{◌≡◌, ◌<◌, ◌≤◌, ◌+◌, ◌^◌, ℕ, Bool, true, false, List, Option, [], ◌∷◌, ◌++◌};
 ghost use Rattle.std.specs.Option.{option_or};
-ghost use Rattle.std.specs.Str.{bytes_eq};
 ghost use Rattle.stretches.specs.Gauge.{Tells};
 ghost use Rattle.duty_events.specs.declared.event.Event.{Event};
 ghost use Rattle.duty_events.specs.declared.tour.Tour.{Tour};
 ghost use Rattle.duty_events.specs.EndedTours.{ended, last_begun};
 ghost use Rattle.duty_events.specs.Lists.{IsLawful, IsNext, stage_of, last_event, reached};
-ghost use Rattle.duty_events.specs.MinuteKind.{is_off_duty};
+ghost use Rattle.duty_events.specs.declared.stage.Stage.TheVariants as stage;
 ghost use Rattle.consecutive_days.specs.Days.{days_ok, is_away};
 ghost use Rattle.consecutive_days.specs.Steps.{next_run};
 ghost use Rattle.person_clock.specs.Days.{IsDaysOf};
 ghost use Rattle.person_clock.specs.Rest.{end_after};
 
-use consecutive_days::{Run, are_days_ok, days_when_an_event_comes};
+use consecutive_days::{Run, are_days_ok, days_when_an_event_comes, is_at_home, next_run};
 use desk_base::{Code, Day, Minute};
-use duty_events::{
-    Event, MinuteKind, Stage, Tour, kind_behind, kind_until, place_behind, place_until,
-};
+use duty_events::{Event, MinuteKind, Stage, Tour, kind_during, place_behind, place_until};
 use stretches::Gauge;
 
 /// The days in a row on which someone's tours began, whether the last tour ended away from home, how long they have been off
@@ -42,24 +39,17 @@ impl DaysClock {
         }
     }
 
-    /// After the next event, which comes at a stage and behind another. It may end a tour.
-    pub fn after(
-        self,
-        home: Code,
-        stage: &Stage,
-        before: &Option<Event>,
-        event: &Event,
-        tour: &Option<Tour>,
-    ) -> DaysClock
+    /// After the next event, which comes at a stage. It may end a tour.
+    pub fn after(self, home: Code, stage: &Stage, event: &Event, tour: &Option<Tour>) -> DaysClock
         ensures { (es : List Event) → IsLawful es → IsNext es event.now → stage.now ≡ stage_of es
-            → before.now ≡ last_event es → tour.now ≡ ended (stage_of es) (last_begun es) event.now
+            → tour.now ≡ ended (stage_of es) (last_begun es) event.now
             → IsDaysOf home self es → IsDaysOf home result (es ++ event.now ∷ []) }
     {
         days_when_an_event_comes();
         let first = event.first_minute();
         let last = event.last_minute();
         let here = place_until(stage, event, self.place);
-        let is_home = is_at_home(&kind_until(before, event), here, home);
+        let is_home = is_at_home(&kind_during(stage, event), here, home);
         DaysClock {
             run: run_after(self.run, stage.begins(event), Day::of(first).number()),
             is_away: is_away_after(self.is_away, tour, home),
@@ -84,23 +74,16 @@ impl DaysClock {
         self.place
     }
 
-    /// Whether they may report at a minute that isn't before the latest, that of this last event.
-    pub fn is_ok(&self, home: Code, last: &Option<Event>, report: Minute) -> bool
-        ensures { (es : List Event) → IsLawful es → last.now ≡ last_event es
+    /// Whether they may report at a minute that isn't before the latest. No tour runs.
+    pub fn is_ok(&self, home: Code, report: Minute) -> bool
+        ensures { (es : List Event) → IsLawful es → stage_of es ≡ stage.Off
             → reached (last_event es) ≤ report → IsDaysOf home self.now es
             → result ≡ days_ok es home report }
     {
-        let is_home = is_at_home(&kind_behind(last), self.place, home);
+        let is_home = is_at_home(&MinuteKind::Off, self.place, home);
         let longest = self.at_home.pass(report.number(), is_home).longest();
         are_days_ok(&self.run, self.is_away, longest, report)
     }
-}
-
-// Whether minutes of that kind at a place are off and at home.
-fn is_at_home(kind: &MinuteKind, place: Code, home: Code) -> bool
-    ensures { result ≡ (is_off_duty kind.now && bytes_eq place home) }
-{
-    kind.is_off_duty() && place == home
 }
 
 // The days in a row after an event on a day, at which a tour may begin.
@@ -112,24 +95,11 @@ fn run_after(run: Run, begins: bool, day: u32) -> Run
 {
     if begins {
         Run {
-            days: next_days(&run, day),
+            days: next_run(run.days, run.last, day),
             last: day,
         }
     } else {
         run
-    }
-}
-
-// How many days in a row there are where a tour begins on a day.
-fn next_days(run: &Run, day: u32) -> u32
-    ensures { run.now.days + 1 < 2 ^ 32 → result ≡ next_run run.now.days run.now.last day }
-{
-    if run.days > 0 && day == run.last {
-        run.days
-    } else if run.days > 0 && u64::from(day) == u64::from(run.last) + 1 {
-        run.days.saturating_add(1)
-    } else {
-        1
     }
 }
 

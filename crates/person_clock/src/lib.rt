@@ -12,6 +12,4 @@ mod rest_clock;
 pub use clock::PersonClock;
 
 #[cfg(test)]
-mod scan_tests;
-#[cfg(test)]
 mod tests;

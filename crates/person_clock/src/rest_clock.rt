@@ -2,7 +2,7 @@ ghost use Rattle.std.specs.Prelude.{◌≡◌, ◌<◌, ◌≤◌, ◌+◌, ◌^
 ghost use Rattle.duty_events.specs.declared.event.Event.{Event};
 ghost use Rattle.duty_events.specs.declared.stage.Stage.TheVariants as stage;
 ghost use Rattle.duty_events.specs.EndedTours.{ended, last_begun};
-ghost use Rattle.duty_events.specs.Lists.{IsLawful, IsNext, stage_of, last_event, reached};
+ghost use Rattle.duty_events.specs.Lists.{IsLawful, IsNext, stage_of, last_event, latest, reached};
 ghost use Rattle.duty_events.specs.Tours.{sum_so_far};
 ghost use Rattle.rest_rules.specs.OffFrom.{off_from, end_after as off_after_minutes};
 ghost use Rattle.rest_rules.specs.Rest.{rest_ok, rest_end};
@@ -10,7 +10,7 @@ ghost use Rattle.person_clock.specs.Rest.{GaugesOff, IsRestOf, end_after, excess
 
 use crate::minutes::minute_or;
 use desk_base::Minute;
-use duty_events::{DUTY_LIMIT, Event, Tour, kind_until};
+use duty_events::{DUTY_LIMIT, Event, Stage, Tour, kind_during};
 use rest_rules::{REST, excess_when_an_event_comes};
 use stretches::Gauge;
 
@@ -35,23 +35,25 @@ impl RestClock {
         }
     }
 
-    /// After the next event, which comes behind another, and after which the last tour sums up so much. It may end that tour.
+    /// After the next event, which comes at a stage and behind a latest minute, and after which the last tour sums up so much. It
+    /// may end that tour.
     pub fn after(
         self,
-        before: &Option<Event>,
+        stage: &Stage,
+        last: &Option<Minute>,
         event: &Event,
         tour: &Option<Tour>,
         sum: u32,
     ) -> RestClock
         ensures { (es : List Event) → IsLawful es → IsNext es event.now
-            → before.now ≡ last_event es → tour.now ≡ ended (stage_of es) (last_begun es) event.now
+            → stage.now ≡ stage_of es → last.now ≡ latest es → tour.now ≡ ended (stage_of es) (last_begun es) event.now
             → sum ≡ sum_so_far (es ++ event.now ∷ [])
             → IsRestOf self es → IsRestOf result (es ++ event.now ∷ []) }
     {
         excess_when_an_event_comes();
         let first = event.first_minute();
-        let is_worked = kind_until(before, event).is_worked();
-        self.with_minutes(is_worked, latest(before), first)
+        let is_worked = kind_during(stage, event).is_worked();
+        self.with_minutes(is_worked, last.unwrap_or(Minute::FIRST), first)
             .with_minutes(true, first, event.last_minute())
             .with_end(tour, sum)
     }
@@ -124,16 +126,6 @@ impl RestClock {
         ensures { (es : List Event) → IsLawful es → IsRestOf self.now es → result ≡ rest_end es }
     {
         end_of_rest(self.off_from, self.excess, self.off.longest())
-    }
-}
-
-// The latest minute of events with this last one, 0 where there is none.
-fn latest(last: &Option<Event>) -> Minute
-    ensures { result ≡ reached last.now }
-{
-    match last {
-        Some(event) => event.last_minute(),
-        None => Minute::FIRST,
     }
 }
 

@@ -1,13 +1,16 @@
--- The excess, one event more.
-use Rattle.std.proofs.Common.{refl, ◌≡◌, ℕ, ◌-◌, ◌<◌, ◌≤◌, Option, None, Some, List, [], ◌∷◌, ◌++◌, ap, ◌∙◌, arith}
+-- The excess, one event more, and its range.
+use Rattle.std.proofs.Common.{refl, ◌≡◌, ℕ, ◌-◌, ◌<◌, ◌≤◌, Option, None, Some, IfSome, List, [], ◌∷◌, ◌++◌, ap, ◌∙◌, arith}
+use Rattle.desk_base.specs.declared.minute.TheConstants.{YEARS_END}
 use Rattle.duty_events.specs.declared.event.Event.{Event}
 use Rattle.duty_events.specs.declared.limits.TheConstants.{DUTY_LIMIT}
 use Rattle.duty_events.specs.declared.tour.Tour.{Tour}
 use Rattle.duty_events.specs.EndedTours.{last_tour}
-use Rattle.duty_events.specs.Lists.{last_event, reached}
+use Rattle.duty_events.specs.Lists.{IsLawful, last_event, reached}
 use Rattle.duty_events.specs.MinuteKind.{kind_of}
 use Rattle.duty_events.specs.Tours.{is_in_tour}
-use Rattle.duty_events.proofs.CountLemmas.{minutes_where-same}
+use Rattle.duty_events.proofs.CountLemmas.{minutes_where-same, minutes_where-most}
+use Rattle.duty_events.proofs.EventLemmas.{reached-years}
+use Rattle.duty_events.proofs.LastTourLemmas.{last_tour-ends}
 use Rattle.rest_rules.specs.Excess.{tour_sum, over_limit, excess}
 
 -- of a tour whose minutes stay as they were
@@ -27,3 +30,12 @@ excess-stays es e same by stays = ap (over_limit (es ++ e ∷ [])) same ∙ go (
 pub excess-is : (es : List Event) (tour : Tour) → last_tour es ≡ Some tour → excess es ≡ tour_sum es tour - DUTY_LIMIT
 unfolding excess
 excess-is es tour is = ap (over_limit es) is
+
+-- a tour has no more minutes than come before the end of the years
+pub excess-range : (es : List Event) → IsLawful es → excess es < YEARS_END
+unfolding excess
+excess-range es lawful = go (last_tour es) (last_tour-ends es (last_tour es) lawful refl)
+  where
+    go : (o : Option Tour) → IfSome o (λ tour. tour.end ≤ reached (last_event es)) → over_limit es o < YEARS_END
+    go None by = omega arith
+    go (Some tour) by = omega (arith, minutes_where-most (λ t. is_in_tour (kind_of es t)) tour.start (tour.end - tour.start), by, reached-years es lawful)

@@ -1,10 +1,12 @@
 -- Sums by months, as the minutes of an interval are added month by month.
-use Rattle.std.proofs.Common.{◌≡◌, ◌≢◌, ℕ, ◌+◌, ◌≤◌, ◌<◌, inl, inr, Bool, true, false, cond, ◌&&◌, nat_le, nat_lt, refl, sym, ap, ◌∙◌, arith}
+use Rattle.std.proofs.Common.{◌≡◌, ◌≢◌, ℕ, ◌+◌, ◌-◌, ◌≤◌, ◌<◌, inl, inr, Bool, true, false, cond, ◌&&◌, nat_le, nat_lt, List, get_or, refl, sym, ap, ◌∙◌, arith}
 use Rattle.std.proofs.lemmas.Bool.{cases_lt, lt-ltb, le-ltb}
 use Rattle.std.proofs.lemmas.Bool.Decides.{nat_tests}
 use Rattle.desk_base.specs.Month.{first_minute, minutes_of}
+use Rattle.desk_base.specs.Window.{WindowValue}
 use Rattle.desk_base.proofs.MonthLemmas.{first_day-next, first_day_mono}
 use Rattle.duty_events.specs.Minutes.{shared}
+use Rattle.tour_build.specs.MonthSums.{AreSums}
 
 -- a month before that in which the interval begins has none of it
 pub shared-before : (from to begin month : ℕ) → first_minute begin ≤ from → month < begin → shared from to (first_minute month) (minutes_of month) ≡ 0
@@ -51,3 +53,10 @@ passed-next low place k was now other = ap (λ b. cond (nat_le low k && b) now w
           | inl past ↦ is ∙ sym (le-ltb k (place + 1) (omega (arith, past)))
           | inr here ↦ absurd (other (omega (arith, behind, here)))
         ]
+
+-- the sum of a month of the window
+pub sum-at : (w : WindowValue) (counted : ℕ → ℕ → ℕ) (sums : List ℕ) → AreSums w counted sums → (month : ℕ) → w.first ≤ month → month < w.first + w.months
+    → get_or sums (month - w.first) 0 ≡ counted (first_minute month) (minutes_of month)
+sum-at w counted sums are month from to =
+    let same : w.first + (month - w.first) ≡ month = omega (arith, from) in
+    are (month - w.first) (omega (arith, from, to)) ∙ ap (λ m. counted (first_minute m) (minutes_of m)) same

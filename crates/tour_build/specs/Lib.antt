@@ -1,3 +1,4 @@
 pub mod MonthSums
 pub mod LastTour
+pub mod During
 pub mod Runs

@@ -4,29 +4,29 @@ use Rattle.desk_base.specs.Window.{WindowValue}
 use Rattle.duty_events.specs.declared.event.Event.{Event}
 use Rattle.duty_events.specs.declared.stage.Stage.{Stage}
 use Rattle.duty_events.specs.EndedTours.{last_begun}
-use Rattle.duty_events.specs.Lists.{IsLawful, stage_of, last_event}
+use Rattle.duty_events.specs.Lists.{IsLawful, stage_of, latest}
 use Rattle.duty_events.specs.Tours.{is_in_tour}
 use Rattle.month_hours.specs.Capped.{is_limbo}
 use Rattle.tour_build.specs.LastTour.{is_on_duty, tour_count, tour_capped, in_all}
 use Rattle.tour_build.specs.MonthSums.{AreSums}
 
--- the stage, the last event, where the last tour began, and its minutes on duty, in limbo and capped
+-- the stage, the latest minute, where the last tour began, and its minutes on duty, in limbo and capped
 pub record TotalsValue : Type 0 where
   pub stage : Stage
-  pub last : Option Event
+  pub last : Option ℕ
   pub begun : Option ℕ
   pub on_duty : ℕ
   pub limbo : ℕ
   pub capped : ℕ
 
-abbrev pub totals_of : Stage → Option Event → Option ℕ → ℕ → ℕ → ℕ → TotalsValue
+abbrev pub totals_of : Stage → Option ℕ → Option ℕ → ℕ → ℕ → ℕ → TotalsValue
 totals_of stage last begun on_duty limbo capped = record { stage = stage; last = last; begun = begun; on_duty = on_duty; limbo = limbo; capped = capped }
 
 -- they are those of the last tour by a lawful list of events
 pub record AreTotals (t : TotalsValue) (es : List Event) : Type 0 where
   pub lawful : IsLawful es
   pub at : t.stage ≡ stage_of es
-  pub came : t.last ≡ last_event es
+  pub came : t.last ≡ latest es
   pub start : t.begun ≡ last_begun es
   pub worked : t.on_duty ≡ in_all (tour_count is_on_duty es)
   pub waited : t.limbo ≡ in_all (tour_count is_limbo es)

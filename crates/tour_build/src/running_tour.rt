@@ -1,9 +1,7 @@
 ghost use Rattle.std.specs.Prelude.{◌≡◌, ◌<◌, ◌≤◌, ◌+◌, ℕ, List, [], ◌∷◌, ◌++◌};
-ghost use Rattle.std.specs.Option.{option_map};
 ghost use Rattle.std.specs.Bool.{Decides};
 ghost use Rattle.desk_base.specs.Month.{first_minute, minutes_of};
 ghost use Rattle.duty_events.specs.declared.event.Event.{Event};
-ghost use Rattle.duty_events.specs.Allowed.{last_minute};
 ghost use Rattle.duty_events.specs.Lists.{Follows, stage_of};
 ghost use Rattle.duty_events.specs.Tours.{is_in_tour};
 ghost use Rattle.month_hours.specs.Capped.{is_limbo};
@@ -64,8 +62,7 @@ impl RunningTour {
 
     /// Whether the event may come next: it is allowed, and its minutes lie in the years 2000 to 2099.
     pub fn may_take(&self, event: &Event) -> bool
-        ensures { Decides result (Follows self.now.totals.stage
-            (option_map last_minute self.now.totals.last) event.now) }
+        ensures { Decides result (Follows self.now.totals.stage self.now.totals.last event.now) }
     {
         may_follow_in_words();
         may_follow(&self.totals.stage(), &self.totals.last_minute(), event)
@@ -73,17 +70,19 @@ impl RunningTour {
 
     /// Takes in the next event, which is allowed and has its minutes in the years 2000 to 2099.
     pub fn apply(&mut self, event: Event)
-        requires { Follows self.old.totals.stage (option_map last_minute self.old.totals.last) event }
+        requires { Follows self.old.totals.stage self.old.totals.last event }
         ensures window { self.new.window ≡ self.old.window }
         ensures runs { (es : List Event) → Runs self.old es → Runs self.new (es ++ event ∷ []) }
     {
-        let last = self.totals.last();
-        if self.totals.stage().begins(&event) {
+        let stage = self.totals.stage();
+        let last = self.totals.last_minute();
+        if stage.begins(&event) {
             self.used_in = MonthSums::none();
             self.capped_in = MonthSums::none();
         } else {
-            let capped = capped_between(&last, &event, self.totals.sum());
-            self.used_in.add(&self.window, tour_between(&last, &event));
+            let capped = capped_between(&stage, &last, &event, self.totals.sum());
+            let worked = tour_between(&stage, &last, &event);
+            self.used_in.add(&self.window, worked);
             self.capped_in.add(&self.window, capped);
         }
         self.totals.apply(event);

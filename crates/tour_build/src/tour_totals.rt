@@ -1,7 +1,5 @@
 ghost use Rattle.std.specs.Prelude.{◌≡◌, ◌<◌, ◌+◌, ◌^◌, ℕ, List, [], ◌∷◌, ◌++◌, if◌then◌else◌};
-ghost use Rattle.std.specs.Option.{option_map};
 ghost use Rattle.duty_events.specs.declared.event.Event.{Event};
-ghost use Rattle.duty_events.specs.Allowed.{last_minute};
 ghost use Rattle.duty_events.specs.EndedTours.{begun, ended};
 ghost use Rattle.duty_events.specs.Lists.{Follows};
 ghost use Rattle.duty_events.specs.Minutes.{shared};
@@ -14,11 +12,12 @@ use duty_events::{Event, Stage, Tour};
 use std::marker::Model;
 
 /// The minutes of the last tour that has begun, whether it has ended or not, by events that come one after another: those on
-/// duty, those in limbo, and of these the capped ones. It keeps the last event and no other, and where the tour began.
+/// duty, those in limbo, and of these the capped ones. It keeps no event, but the stage, the latest minute and where the tour
+/// began.
 #[derive(Clone, Copy, Debug)]
 pub struct TourTotals {
     stage: Stage,
-    last: Option<Event>,
+    last: Option<Minute>,
     begun: Option<Minute>,
     on_duty: u32,
     limbo: u32,
@@ -59,16 +58,17 @@ impl TourTotals {
 
     /// Takes in the next event.
     pub fn apply(&mut self, event: Event)
-        requires { Follows self.old.stage (option_map last_minute self.old.last) event }
+        requires { Follows self.old.stage self.old.last event }
         ensures { (es : List Event) → AreTotals self.old es → AreTotals self.new (es ++ event ∷ []) }
     {
         let begins = self.stage.begins(&event);
-        let on_duty = on_duty_between(&self.last, &event);
-        let limbo = limbo_between(&self.last, &event);
-        let capped = capped_between(&self.last, &event, self.sum());
+        let on_duty = on_duty_between(&self.stage, &self.last, &event);
+        let limbo = limbo_between(&self.stage, &self.last, &event);
+        let sum = self.sum();
+        let capped = capped_between(&self.stage, &self.last, &event, sum);
         *self = TourTotals {
             stage: self.stage.after(&event),
-            last: Some(event),
+            last: Some(event.last_minute()),
             begun: self.begun_by(&event),
             on_duty: summed(begins, self.on_duty, on_duty),
             limbo: summed(begins, self.limbo, limbo),
@@ -83,21 +83,11 @@ impl TourTotals {
         self.stage
     }
 
-    /// The last event; `None` before the first.
-    pub fn last(&self) -> Option<Event>
+    /// The latest minute; `None` before the first event.
+    pub fn last_minute(&self) -> Option<Minute>
         ensures { result ≡ self.now.last }
     {
         self.last
-    }
-
-    /// The latest minute; `None` before the first event.
-    pub fn last_minute(&self) -> Option<Minute>
-        ensures { result ≡ option_map last_minute self.now.last }
-    {
-        match &self.last {
-            Some(event) => Some(event.last_minute()),
-            None => None,
-        }
     }
 
     // Where the last tour begins that has begun if the event comes next.

@@ -1,4 +1,4 @@
-use Rattle.std.proofs.Common.{◌≡◌, true, false, [], ◌∷◌, ◌++◌, refl, sym, ap, ◌∙◌, take, arith}
+use Rattle.std.proofs.Common.{◌≡◌, ◌+◌, ◌<◌, ◌^◌, true, false, [], ◌∷◌, ◌++◌, refl, sym, ap, ◌∙◌, take, arith}
 use Rattle.duty_events.proofs.ListLemmas.{comes, stage_of-push}
 use Rattle.desk_base.specs.Day.{day_of}
 use Rattle.duty_events.specs.Allowed.{first_minute}
@@ -14,17 +14,6 @@ use Rattle.consecutive_days.proofs.run.last_run.Goals.{then-begins, else-begins}
 pub loop-event-init : goal.loop-event-init
 loop-event-init c = record { days = sym run_days-nil; last = rw last_start-nil refl; stage = refl }
 
-pub next_run-days-requires : goal.next_run-days-requires
-next_run-days-requires c =
-    let kept = c.loop-event.invariant in
-    let old = take c.loop-event.event-index c.args.events.now in
-    let e = c.event-item.result in
-    let h = comes c.args.events.now c.loop-event.event-index e c.requires c.loop-event-test.true c.event-item.is in record {
-      days = omega (arith, kept.days, kept.last, run_days-most old h.lawful);
-      day = c.number-day.ensures.range;
-      order = rw (kept.last, c.number-day.ensures.value, c.of.ensures.value, c.first_minute.ensures) (last_day-order old e h.lawful h.next);
-    }
-
 pub loop-event-preserved : goal.loop-event-preserved
 loop-event-preserved c =
     let kept = c.loop-event.invariant in
@@ -36,8 +25,10 @@ loop-event-preserved c =
     elim c.if-begins.branch [
       | then-begins w ↦
           let is : begins (stage_of old) e ≡ true = sym begun ∙ w.if-begins.true in
-          let day : w.number-day.result ≡ day_of (first_minute e) = w.number-day.ensures.value ∙ w.of.ensures.value ∙ ap day_of w.first_minute.ensures in (
-            rw (w.days-is, w.next_run-days.ensures, kept.days, kept.last, day) (sym (rw is at (run_days-push old e h.lawful h.next))),
+          let day : w.number-day.result ≡ day_of (first_minute e) = w.number-day.ensures.value ∙ w.of.ensures.value ∙ ap day_of w.first_minute.ensures in
+          let few : c.loop-event.days + 1 < 2 ^ 32 =
+          omega (arith, kept.days, run_days-most old h.lawful, last_day-order old e h.lawful h.next, day, w.number-day.ensures.range) in (
+            rw (w.days-is, w.next_run-days.ensures few, kept.days, kept.last, day) (sym (rw is at (run_days-push old e h.lawful h.next))),
             w.last-is ∙ day ∙ ap last_day (sym (rw is at (last_start-push old e))),
           )
       | else-begins w ↦ let is : begins (stage_of old) e ≡ false = sym begun ∙ w.if-begins.false in (

@@ -2,4 +2,4 @@ use Rattle.law_bars.proofs.RangeLemmas.{law_bar-fits}
 use Rattle.law_bars.proofs.laws.what_a_bar_of_the_law_keeps.Goals as goal
 
 pub returns : goal.returns
-returns c = law_bar-fits c.the_last_tour_ends_by_the_latest_minute.ensures
+returns c = law_bar-fits

@@ -7,6 +7,7 @@ use Rattle.duty_events.specs.EndedTours.{last_tour, end_of}
 use Rattle.duty_events.specs.Lists.{stage_of, last_event, reached}
 use Rattle.duty_events.specs.MinuteKind.{begins}
 use Rattle.duty_events.specs.Places.{place_behind}
+use Rattle.duty_events.proofs.DuringLemmas.{kind_during-is}
 use Rattle.duty_events.proofs.EndedTourLemmas.{last_tour-push}
 use Rattle.duty_events.proofs.EventLemmas.{follows-reached}
 use Rattle.duty_events.proofs.ListLemmas.{last_event-push}
@@ -14,13 +15,13 @@ use Rattle.duty_events.proofs.PlaceLemmas.{place_of-behind}
 use Rattle.consecutive_days.specs.Days.{is_away, is_off_at_home}
 use Rattle.consecutive_days.proofs.HomeLemmas.{at_home-stays, at_home-until, at_home-own}
 use Rattle.person_clock.specs.Rest.{end_after}
-use Rattle.person_clock.proofs.GaugeLemmas.{tells-same}
+use Rattle.stretches.proofs.GaugeLemmas.{tells-same}
 use Rattle.person_clock.proofs.RestLemmas.{last_end-push}
 use Rattle.person_clock.proofs.DaysLemmas.{counts-push, end-within}
 use Rattle.person_clock.proofs.days_clock.DaysClock.after.Goals as goal
 
 pub returns : goal.returns
-returns c es lawful next at came tour days =
+returns c es lawful next at tour days =
     let e = c.args.event.now in
     let home = c.args.home in
     let now = es ++ e ∷ [] in
@@ -44,7 +45,7 @@ returns c es lawful next at came tour days =
     let passed : Tells asked (end_after start c.args.tour.now) c.pass.result =
     c.pass.ensures.tells asked asked (end_after start c.args.tour.now) begun (λ t early. refl)
     (λ t from to. at_home-until es e lawful next home c.args.self.place days.there t (omega (arith, from, until, within.0)) (omega (arith, to, first))
-    ∙ rw (c.is_at_home-is_home.ensures, c.kind_until.ensures, c.place_until-here.ensures, at, came) refl) in
+    ∙ rw (c.is_at_home-is_home.ensures, c.kind_during.ensures, c.place_until-here.ensures, at, kind_during-is es lawful e) refl) in
     let own : Tells asked (end_after start c.args.tour.now) c.pass-2.result =
     c.pass-2.ensures.tells asked asked (end_after start c.args.tour.now) passed (λ t early. refl)
     (λ t from to. at_home-own es e lawful next home t (omega (arith, from, c.pass.ensures.until, first)) (omega (arith, to, last))) in

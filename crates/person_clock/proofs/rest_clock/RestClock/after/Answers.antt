@@ -1,21 +1,24 @@
 use Rattle.std.proofs.Common.{◌≡◌, ◌-◌, ◌≤◌, ◌<◌, [], ◌∷◌, ◌++◌, sym, subst, ap, ◌∙◌, arith}
 use Rattle.duty_events.specs.Allowed.{first_minute, last_minute}
 use Rattle.duty_events.specs.Between.{kind_until}
+use Rattle.duty_events.specs.During.{kind_during}
 use Rattle.duty_events.specs.EndedTours.{last_tour, end_of}
 use Rattle.duty_events.specs.Lists.{stage_of, last_event, reached}
 use Rattle.duty_events.specs.MinuteKind.{is_worked, is_off_duty}
+use Rattle.duty_events.proofs.DuringLemmas.{kind_during-is}
 use Rattle.duty_events.proofs.EventLemmas.{follows-reached, kind_of-stays, kind_of-until, kind_of-within}
 use Rattle.duty_events.proofs.ListLemmas.{lawful-push, last_event-push}
 use Rattle.rest_rules.specs.OffFrom.{off_from, end_after}
 use Rattle.rest_rules.specs.Rest.{is_off}
 use Rattle.rest_rules.proofs.OffFromLemmas.{off_from-is, off_from-most, off_from-push}
 use Rattle.person_clock.specs.Rest.{GaugesOff, excess_after}
-use Rattle.person_clock.proofs.GaugeLemmas.{tells-same}
-use Rattle.person_clock.proofs.RestLemmas.{off-known, worked-not_off, after-least, idle-until, last_end-most, last_end-push, ended-late, excess-push}
+use Rattle.stretches.proofs.GaugeLemmas.{tells-same}
+use Rattle.person_clock.specs.Clock.{minute_of}
+use Rattle.person_clock.proofs.RestLemmas.{minute_of-latest, off-known, worked-not_off, after-least, idle-until, last_end-most, last_end-push, ended-late, excess-push}
 use Rattle.person_clock.proofs.rest_clock.RestClock.after.Goals as goal
 
 pub returns : goal.returns
-returns c es lawful next came tour sum rest =
+returns c es lawful next at came tour sum rest =
     let e = c.args.event.now in
     let o = last_event es in
     let now = es ++ e ∷ [] in
@@ -24,8 +27,8 @@ returns c es lawful next came tour sum rest =
     let ends = last_end-most es lawful in
     let first : c.first_minute-first.result ≡ first_minute e = c.first_minute-first.ensures in
     let last : c.last_minute.result ≡ last_minute e = c.last_minute.ensures.value in
-    let latest : c.latest.result ≡ reached o = c.latest.ensures ∙ ap reached came in
-    let work : c.is_worked-is_worked.result ≡ is_worked (kind_until o e) = c.is_worked-is_worked.ensures ∙ ap is_worked (c.kind_until.ensures ∙ ap (λ p. kind_until p e) came) in
+    let latest : c.unwrap_or.result ≡ reached o = c.unwrap_or.ensures ∙ ap minute_of came ∙ minute_of-latest o in
+    let work : c.is_worked-is_worked.result ≡ is_worked (kind_until o e) = c.is_worked-is_worked.ensures ∙ ap is_worked (c.kind_during.ensures ∙ ap (λ s. kind_during s e) at ∙ kind_during-is es lawful e) in
     let one : c.with_minutes.result.off_from ≡ end_after (off_from es) (is_worked (kind_until o e)) (reached o) (first_minute e) = rw (work, latest, first, rest.since) at c.with_minutes.ensures.since in
     let most = after-least (off_from es) (is_worked (kind_until o e)) (reached o) (first_minute e) (off_from-most es) order in
     let two : c.with_minutes-2.result.off_from ≡ off_from now = rw (first, last, one) at c.with_minutes-2.ensures.since ∙ sym (off_from-push es e lawful next) in

@@ -6,9 +6,9 @@ use Rattle.rest_rules.specs.declared.rest.TheConstants.{REST}
 use Rattle.rest_rules.specs.Excess.{excess}
 use Rattle.rest_rules.specs.OffFrom.{off_from}
 use Rattle.rest_rules.specs.Rest.{is_off, was_off}
+use Rattle.rest_rules.proofs.ExcessLemmas.{excess-range}
 use Rattle.rest_rules.proofs.OffFromLemmas.{off_from-most}
-use Rattle.person_clock.proofs.GaugeLemmas.{stretch-behind}
-use Rattle.person_clock.proofs.RestLemmas.{excess-range}
+use Rattle.person_clock.proofs.RestLemmas.{stretch-behind}
 use Rattle.person_clock.proofs.rest_clock.RestClock.end.Goals as goal
 
 pub returns : goal.returns

@@ -7,6 +7,7 @@ use Rattle.month_hours.specs.Steps.{capped_between}
 use Rattle.tour_build.specs.LastTour.{is_on_duty, tour_count, tour_capped, in_all}
 use Rattle.tour_build.specs.Runs.{AreTotals, running_of, Runs}
 use Rattle.tour_build.proofs.CountLemmas.{tour_count-push, tour_count-most, tour_capped-push, tour_capped-most, sum-is}
+use Rattle.tour_build.proofs.DuringLemmas.{minutes_during-is, capped_during-is}
 use Rattle.tour_build.proofs.running_tour.RunningTour.apply.Goals as goal
 use Rattle.tour_build.proofs.running_tour.RunningTour.apply.Goals.{then-begins, else-begins}
 
@@ -16,8 +17,9 @@ returns-clause-runs c es runs =
     let old = subst (λ v. Runs v es) (sym c.self.view_is) runs in
     let lawful = old.all.lawful in
     let next : IsNext es e = rw (runs.all.at, runs.all.came) at c.requires in
-    let here : c.begins.result ≡ begins (stage_of es) e = c.begins.ensures ∙ ap (λ s. begins s e) (c.stage.ensures ∙ old.all.at) in
-    let last = c.last-last.ensures ∙ old.all.came in
+    let at = c.stage-stage.ensures ∙ old.all.at in
+    let came = c.last_minute-last.ensures ∙ old.all.came in
+    let here : c.begins.result ≡ begins (stage_of es) e = c.begins.ensures ∙ ap (λ s. begins s e) at in
     let count = tour_count-push is_in_tour ((refl, refl), refl) es e lawful next in
     let over = tour_capped-push es e lawful next in
     elim c.if-begins.branch [
@@ -34,8 +36,8 @@ returns-clause-runs c es runs =
           let goes_on : begins (stage_of es) e ≡ false = sym here ∙ w.if-begins.false in
           let sum : w.sum.result ≡ sum_so_far es =
           w.sum.ensures ∙ ap (λ n. n + c.self.inside.totals.limbo) old.all.worked ∙ ap (λ n. in_all (tour_count is_on_duty es) + n) old.all.waited ∙ sum-is es lawful in
-          let tour = λ (x n : ℕ). w.tour_between.ensures x n ∙ ap (λ o. minutes_between is_in_tour o e x n) last in
-          let capped = λ (x n : ℕ). w.capped_between-capped.ensures x n ∙ ap (λ o. capped_between o e w.sum.result x n) last ∙ ap (λ m. capped_between (last_event es) e m x n) sum in
+          let tour = λ (x n : ℕ). w.tour_between-worked.ensures x n ∙ minutes_during-is is_in_tour _ _ es e lawful at came x n in
+          let capped = λ (x n : ℕ). w.capped_between-capped.ensures x n ∙ capped_during-is _ _ es e _ _ lawful at came sum x n in
           subst (λ i. Runs (running_of i.window c.apply.new.self i.used_in i.capped_in) (es ++ e ∷ [])) (sym w.self-inside-is) record {
             all = c.apply.ensures es (subst (λ i. AreTotals i.totals es) (sym w.self-inside-is) old.all);
             months = w.add.ensures (tour_count is_in_tour es) (tour_count is_in_tour (es ++ e ∷ [])) old.months record {

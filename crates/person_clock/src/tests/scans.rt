@@ -2,7 +2,7 @@
 ghost use Rattle.std.specs.Prelude.{◌<◌};
 
 use crate::PersonClock;
-use crate::tests::law;
+use crate::tests::told::law;
 use denial_rules::Bar;
 use desk_base::{Code, Minute, Month, Span, Window};
 use duty_events::{Event, Kind, Stage, is_lawful, may_follow, place, stage_of};

@@ -1,0 +1,12 @@
+//! The offers that are open: which one a vacancy has, and which one a person.
+#![tactic(auto)]
+
+mod flight;
+mod in_flight;
+mod places;
+
+pub use flight::{Flight, OFFERS};
+pub use in_flight::InFlight;
+
+#[cfg(test)]
+mod tests;
