@@ -1,9 +1,11 @@
 //! What one entry more makes of the desk.
-ghost use Rattle.std.specs.Prelude.{◌≡◌, ◌≤◌, ◌↔◌, ℕ, Some, true, false};
+ghost use Rattle.std.specs.Prelude.{◌≡◌, ◌≤◌, ◌<◌, ◌↔◌, ℕ, None, Some, true, false, length};
 ghost use Rattle.std.specs.List.{All};
 ghost use Rattle.desk_model.specs.declared.vac_state.VacState.TheVariants as state;
 ghost use Rattle.desk_model.specs.Entry.{EntryValue};
 ghost use Rattle.desk_model.specs.History.{History, with_entry, steps, said};
+ghost use Rattle.desk_model.specs.declared.limits.TheConstants.{PERSON_LIMIT};
+ghost use Rattle.desk_model.specs.Register.{enrols_any, person_of, persons};
 ghost use Rattle.desk_model.specs.Duty.{tells, may_come, events};
 ghost use Rattle.desk_base.specs.Window.{Holds};
 ghost use Rattle.duty_events.specs.declared.event.Event.{Event};
@@ -73,4 +75,12 @@ pub fn what_is_told_may_follow()
         → said (tells p) e ≡ Some t → Holds h.opening.window (first_minute t) }
     ensures last { (h : History) (e : EntryValue) (p : ℕ) (t : Event) → IsLegal h → IsNext h e
         → said (tells p) e ≡ Some t → Holds h.opening.window (last_minute t) }
+{}
+
+/// Who is enrolled by an entry that is right was not enrolled before, when fewer than 1,000 were. It does nothing: its
+/// clauses are the laws.
+pub fn who_is_enrolled_is_new()
+    ensures new { (h : History) (e : EntryValue) (p : ℕ) → IsNext h e → said enrols_any e ≡ Some p → person_of h p ≡ None }
+    ensures few { (h : History) (e : EntryValue) (p : ℕ) → IsNext h e → said enrols_any e ≡ Some p
+        → length (persons h) < PERSON_LIMIT }
 {}

@@ -44,6 +44,7 @@ pub use laws_of_editions::{
 pub use laws_of_entries::{
     a_vacancy_is_in_one_state, each_moment_lies_in_the_window, moments_never_fall,
     what_a_command_leaves, what_an_entry_makes_of_the_desk, what_is_told_may_follow,
+    who_is_enrolled_is_new,
 };
 pub use legal::{a_legal_history_fits, boards_and_chains_are_bounded, one_history_is_legal};
 pub use limits::{

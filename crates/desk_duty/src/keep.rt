@@ -1,0 +1,93 @@
+ghost use Rattle.std.specs.Prelude.{◌≡◌, ◌<◌, length, IfOk};
+ghost use Rattle.std.specs.Option.{option_copied};
+ghost use Rattle.std.specs.List.{slice_get};
+ghost use Rattle.desk_model.specs.declared.limits.TheConstants.{PERSON_LIMIT};
+ghost use Rattle.desk_model.specs.Opening.{OpeningValue};
+ghost use Rattle.desk_model.specs.History.{History, opened, with_entry, said};
+ghost use Rattle.desk_model.specs.Register.{persons};
+ghost use Rattle.desk_model.specs.Legal.{IsLegal, IsNext};
+ghost use Rattle.desk_register.specs.Vacancies.{HasPlace};
+ghost use Rattle.desk_duty.specs.Told.{teller};
+ghost use Rattle.desk_duty.specs.Clocks.{AreClocks, Tells, Enrols, teller_place};
+
+use crate::duty::Duty;
+use crate::told::{home_of, told_event};
+use desk_base::{Code, NoMemory, Window};
+use desk_model::{
+    Entry, PERSON_LIMIT, what_an_entry_makes_of_the_desk, what_is_told_may_follow,
+    who_is_enrolled_is_new,
+};
+use duty_events::{Event, may_follow_in_words};
+use person_clock::PersonClock;
+use std::alloc::Global;
+
+impl Duty {
+    /// Those of a desk with this window where nobody is enrolled; `NoMemory` where there is none for 1,000.
+    pub fn new(alloc: Global, window: Window) -> Result<Duty, NoMemory>
+        ensures window { IfOk result (λ d. d.window ≡ window) }
+        ensures clocks { IfOk result (λ d. (o : OpeningValue) → AreClocks d.clocks.items (opened o)) }
+    {
+        let clocks = Vec::with_capacity(alloc, PERSON_LIMIT)?;
+        Ok(Duty { clocks, window })
+    }
+
+    /// The clock of the person at this place among all; `None` where there are fewer.
+    pub fn clock(&self, place: usize) -> Option<&PersonClock>
+        ensures { option_copied result ≡ slice_get self.now.clocks.items place }
+    {
+        self.clocks.get(place)
+    }
+
+    // A clock for one person more, where there is room.
+    fn enrol(&mut self, home: Code)
+        ensures clocks { length self.old.clocks.items < PERSON_LIMIT → Enrols self.old.window home self.old.clocks.items self.new.clocks.items }
+        ensures window { self.new.window ≡ self.old.window }
+    {
+        if self.clocks.len() >= PERSON_LIMIT {
+            return;
+        }
+        match PersonClock::new(self.window, home) {
+            Ok(clock) => self.clocks.push_reserved(clock),
+            Err(_) => {}
+        }
+    }
+
+    // The clock at this place takes in the event, where it may.
+    fn tell(&mut self, place: usize, event: &Event)
+        ensures clocks { Tells place event.now self.old.clocks.items self.new.clocks.items }
+        ensures window { self.new.window ≡ self.old.window }
+    {
+        let Some(clock) = self.clocks.get(place) else {
+            return;
+        };
+        if clock.may_take(event) {
+            let mut later = *clock;
+            later.apply(*event);
+            self.clocks[place] = later;
+        }
+    }
+
+    /// Keeps what an entry tells of what somebody did; `place` is that of the person among all.
+    pub fn keep(&mut self, entry: &Entry, place: Option<usize>)
+        ensures clocks { (h : History) → IsLegal h → IsNext h entry.now → self.old.window ≡ h.opening.window
+            → place ≡ teller_place h entry.now → HasPlace (persons h) (said teller entry.now)
+            → AreClocks self.old.clocks.items h → AreClocks self.new.clocks.items (with_entry h entry.now) }
+        ensures window { self.new.window ≡ self.old.window }
+    {
+        what_an_entry_makes_of_the_desk();
+        what_is_told_may_follow();
+        may_follow_in_words();
+        who_is_enrolled_is_new();
+        if let Some(home) = home_of(entry) {
+            self.enrol(home);
+            return;
+        }
+        let Some(event) = told_event(entry) else {
+            return;
+        };
+        let Some(place) = place else {
+            return;
+        };
+        self.tell(place, &event);
+    }
+}
