@@ -6,3 +6,6 @@ mod keep;
 mod told;
 
 pub use duty::Duty;
+
+#[cfg(test)]
+mod tests;

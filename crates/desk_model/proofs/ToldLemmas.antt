@@ -1,11 +1,9 @@
 -- An event that is told and accepted lies in the window.
-use Rattle.std.proofs.Common.{is_some, length, ◌≡◌, ℕ, ◌≤◌, ◌<◌, Bool, true, false, ◌&&◌, cond, max, nat_eq, nat_le, nat_lt, Option, None, Some, Result, List, refl, sym, ap, subst, arith}
+use Rattle.std.proofs.Common.{is_some, length, ◌≡◌, ℕ, ◌≤◌, ◌<◌, Bool, true, false, ◌&&◌, cond, max, nat_eq, nat_le, nat_lt, Option, None, Some, List, refl, sym, subst, arith}
 use Rattle.std.proofs.lemmas.Bool.{false≢true}
 use Rattle.std.proofs.lemmas.Bool.Decides.{nat_tests}
 use Rattle.desk_base.specs.Window.{WindowValue, start_of, end_of, Holds}
 use Rattle.duty_events.specs.declared.event.Event.{Event}
-use Rattle.duty_events.specs.declared.stage.Stage.{Stage}
-use Rattle.duty_events.specs.declared.event_fault.EventFault.{EventFault}
 use Rattle.duty_events.specs.Allowed.{first_minute, last_minute, judge}
 use Rattle.duty_events.specs.Lists.{stage_of, latest}
 use Rattle.desk_model.specs.declared.command.Cmd.{Cmd}
@@ -14,14 +12,14 @@ use Rattle.desk_model.specs.declared.reply.Reply.TheVariants as reply
 use Rattle.desk_model.specs.Opening.{OpeningValue}
 use Rattle.desk_model.specs.Entry.{EntryValue}
 use Rattle.desk_model.specs.Fits.{IsEvent, IsCommand}
-use Rattle.desk_model.specs.History.{History, with_entry, is_done, said}
+use Rattle.desk_model.specs.History.{History, is_done, said}
 use Rattle.desk_model.specs.Duty.{tells, may_come, events}
 use Rattle.desk_model.specs.declared.limits.TheConstants.{PERSON_LIMIT}
 use Rattle.desk_model.specs.declared.person.Person.{Person}
 use Rattle.desk_model.specs.Register.{enrols_any, person_of, persons}
 use Rattle.desk_model.specs.EnrolAnswer.{enrol_answer}
 use Rattle.desk_model.specs.EventAnswer.{judged_answer, told_answer}
-use Rattle.desk_model.specs.Legal.{is_within, last_moment, moment, answer_to, IsNext, IsLegal}
+use Rattle.desk_model.specs.Legal.{is_within, last_moment, answer_to, IsNext, IsLegal}
 use Rattle.desk_model.proofs.LegalLemmas.{legal-induction, said-next}
 use Rattle.desk_model.proofs.MomentLemmas.{last_moment-comes}
 use Rattle.desk_model.proofs.EventLemmas.{event-years, past-done, event-done, command-comes}
