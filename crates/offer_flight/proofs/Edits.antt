@@ -36,17 +36,18 @@ module _ (number : InFlight → ℕ) (l : List InFlight) (place : ℕ) (x : InFl
   insert-above : (i : ℕ) → place < i → number_at number (insert l place x) i ≡ number_at number l (i - 1)
   insert-above i late = subst (λ q. number_at number (insert l place x) q ≡ number_at number l (i - 1)) {x = i - 1 + 1} (omega arith) (ap number (get_or-insert_above l place x blank (i - 1) (omega arith) within))
 
+  -- the number at a place: the old one there, the new one, or the old one before it
+  number_at-insert : (i : ℕ) → (i < place → number_at number (insert l place x) i ≡ number_at number l i) × (i ≡ place → number_at number (insert l place x) i ≡ number x)
+      × (place < i → number_at number (insert l place x) i ≡ number_at number l (i - 1))
+  number_at-insert i = (insert-below i, insert-here i, insert-above i)
+
   pub rising-insert : IsRising number l → IsPlace number l (number x) place → NoneBefore number l (number x) (length l) → IsRising number (insert l place x)
   rising-insert rising at none i j order before =
       let long = length-insert l place x within in
       grind (
         arith,
-        insert-below i,
-        insert-here i,
-        insert-above i,
-        insert-below j,
-        insert-here j,
-        insert-above j,
+        number_at-insert i,
+        number_at-insert j,
         rising i j,
         rising i (j - 1),
         rising (i - 1) (j - 1),
@@ -60,12 +61,8 @@ module _ (number : InFlight → ℕ) (l : List InFlight) (place : ℕ) (x : InFl
       let long = length-insert l place x within in
       grind (
         arith,
-        insert-below i,
-        insert-here i,
-        insert-above i,
-        insert-below j,
-        insert-here j,
-        insert-above j,
+        number_at-insert i,
+        number_at-insert j,
         apart i j,
         apart i (j - 1),
         apart (i - 1) (j - 1),
