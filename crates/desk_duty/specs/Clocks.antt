@@ -10,7 +10,12 @@ use Rattle.desk_model.specs.History.{History, said}
 use Rattle.desk_model.specs.Register.{person_of, persons}
 use Rattle.desk_model.specs.Duty.{events}
 use Rattle.desk_register.specs.Vacancies.{place_among, HasPlace}
+use Rattle.desk_duty.specs.declared.duty.Duty.{Duty}
 use Rattle.desk_duty.specs.Told.{teller}
+
+-- the clocks of a desk's persons, by their places
+abbrev pub clocks_of : Duty → List ClockValue
+clocks_of d = d.clocks.items
 
 -- the clock is this person's: it stands for their events, in the desk's window, with their home
 pub record IsClock (c : ClockValue) (h : History) (p : ℕ) : Type 0 where

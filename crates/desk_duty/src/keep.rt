@@ -8,7 +8,7 @@ ghost use Rattle.desk_model.specs.Register.{persons};
 ghost use Rattle.desk_model.specs.Legal.{IsLegal, IsNext};
 ghost use Rattle.desk_register.specs.Vacancies.{HasPlace};
 ghost use Rattle.desk_duty.specs.Told.{teller};
-ghost use Rattle.desk_duty.specs.Clocks.{AreClocks, Tells, Enrols, teller_place};
+ghost use Rattle.desk_duty.specs.Clocks.{clocks_of, AreClocks, Tells, Enrols, teller_place};
 
 use crate::duty::Duty;
 use crate::told::{home_of, told_event};
@@ -25,7 +25,7 @@ impl Duty {
     /// Those of a desk with this window where nobody is enrolled; `NoMemory` where there is none for 1,000.
     pub fn new(alloc: Global, window: Window) -> Result<Duty, NoMemory>
         ensures window { IfOk result (λ d. d.window ≡ window) }
-        ensures clocks { IfOk result (λ d. (o : OpeningValue) → AreClocks d.clocks.items (opened o)) }
+        ensures clocks { IfOk result (λ d. (o : OpeningValue) → AreClocks (clocks_of d) (opened o)) }
     {
         let clocks = Vec::with_capacity(alloc, PERSON_LIMIT)?;
         Ok(Duty { clocks, window })
@@ -33,14 +33,14 @@ impl Duty {
 
     /// The clock of the person at this place among all; `None` where there are fewer.
     pub fn clock(&self, place: usize) -> Option<&PersonClock>
-        ensures { option_copied result ≡ slice_get self.now.clocks.items place }
+        ensures { option_copied result ≡ slice_get (clocks_of self.now) place }
     {
         self.clocks.get(place)
     }
 
     // A clock for one person more, where there is room.
     fn enrol(&mut self, home: Code)
-        ensures clocks { length self.old.clocks.items < PERSON_LIMIT → Enrols self.old.window home self.old.clocks.items self.new.clocks.items }
+        ensures clocks { length (clocks_of self.old) < PERSON_LIMIT → Enrols self.old.window home (clocks_of self.old) (clocks_of self.new) }
         ensures window { self.new.window ≡ self.old.window }
     {
         if self.clocks.len() >= PERSON_LIMIT {
@@ -54,7 +54,7 @@ impl Duty {
 
     // The clock at this place takes in the event, where it may.
     fn tell(&mut self, place: usize, event: &Event)
-        ensures clocks { Tells place event.now self.old.clocks.items self.new.clocks.items }
+        ensures clocks { Tells place event.now (clocks_of self.old) (clocks_of self.new) }
         ensures window { self.new.window ≡ self.old.window }
     {
         let Some(clock) = self.clocks.get(place) else {
@@ -71,7 +71,7 @@ impl Duty {
     pub fn keep(&mut self, entry: &Entry, place: Option<usize>)
         ensures clocks { (h : History) → IsLegal h → IsNext h entry.now → self.old.window ≡ h.opening.window
             → place ≡ teller_place h entry.now → HasPlace (persons h) (said teller entry.now)
-            → AreClocks self.old.clocks.items h → AreClocks self.new.clocks.items (with_entry h entry.now) }
+            → AreClocks (clocks_of self.old) h → AreClocks (clocks_of self.new) (with_entry h entry.now) }
         ensures window { self.new.window ≡ self.old.window }
     {
         what_an_entry_makes_of_the_desk();

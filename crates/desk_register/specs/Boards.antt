@@ -26,6 +26,13 @@ abbrev pub put_board : Cmd → (List ℕ → Option BoardSetup) → List ℕ →
 put_board (cmd.Board board extra place) under b = if bytes_eq board b then Some (record { extra = extra; place = place }) else under b
 put_board other under b = under b
 
+-- what is kept under a code, and under which something is, in the order in which these came
+abbrev pub board_under : Boards → List ℕ → Option BoardSetup
+board_under x k = get bytes_eq x.kept k
+
+abbrev pub board_codes : Boards → List (List ℕ)
+board_codes x = keys x.kept
+
 -- the register of boards keeps that
 abbrev pub KeepsBoards : Boards → History → Type 0
-KeepsBoards x h = AreBoards (get bytes_eq x.kept) (keys x.kept) h
+KeepsBoards x h = AreBoards (board_under x) (board_codes x) h

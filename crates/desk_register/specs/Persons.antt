@@ -28,6 +28,13 @@ pub record ArePersons (under : ℕ → Option KeptPerson) (numbers : List ℕ) (
   pub each : (p : ℕ) → IsPerson (under p) h p
   pub order : numbers ≡ persons h
 
+-- what the roster keeps under a number, and under which it keeps something, in the order in which these came
+abbrev pub person_under : Roster → ℕ → Option KeptPerson
+person_under r k = get nat_eq r.kept k
+
+abbrev pub person_numbers : Roster → List ℕ
+person_numbers r = keys r.kept
+
 -- the roster keeps that
 abbrev pub KeepsPersons : Roster → History → Type 0
-KeepsPersons r h = ArePersons (get nat_eq r.kept) (keys r.kept) h
+KeepsPersons r h = ArePersons (person_under r) (person_numbers r) h

@@ -130,9 +130,16 @@ abbrev pub HasPlace : List ℕ → Option ℕ → Type 0
 HasPlace numbers None = Unit
 HasPlace numbers (Some p) = is_none (place_among numbers p) ≡ false
 
+-- what is kept under a number, and under which something is, in the order in which these came
+abbrev pub vacancy_under : Vacancies → ℕ → Option KeptVacancy
+vacancy_under x k = get nat_eq x.kept k
+
+abbrev pub vacancy_numbers : Vacancies → List ℕ
+vacancy_numbers x = keys x.kept
+
 -- the register of vacancies keeps what a history says
 abbrev pub KeepsVacancies : Vacancies → History → Type 0
-KeepsVacancies x h = AreVacancies (get nat_eq x.kept) (keys x.kept) h
+KeepsVacancies x h = AreVacancies (vacancy_under x) (vacancy_numbers x) h
 
 -- ---- what an offer makes of it
 

@@ -3,6 +3,7 @@
 
 mod add_last;
 mod board_changes;
+mod board_reads;
 mod boards;
 mod kept_person;
 mod kept_vacancy;
@@ -11,8 +12,10 @@ mod register;
 mod register_keeps;
 mod roster;
 mod roster_changes;
+mod roster_reads;
 mod vacancies;
 mod vacancy_changes;
+mod vacancy_reads;
 
 pub use boards::Boards;
 pub use kept_person::KeptPerson;

@@ -66,29 +66,6 @@ fn make(number: u32) -> Option<Cmd> {
     Some(Cmd::Vacancy(job))
 }
 
-// The vacancy is on offer to the person.
-fn offer(register: &mut Register, vac: u32, person: u32) -> Option<()> {
-    let offered = Reply::Offered {
-        person: of_person(person)?,
-        board: code(b"P1")?,
-        position: 1,
-    };
-    keep(
-        register,
-        Some(Cmd::Next {
-            vac: of_vacancy(vac)?,
-        }),
-        offered,
-    )
-}
-
-fn accept(vac: u32, person: u32) -> Option<Cmd> {
-    Some(Cmd::Accept {
-        vac: of_vacancy(vac)?,
-        person: of_person(person)?,
-    })
-}
-
 // A register with three persons, two boards and two vacancies.
 fn crew(alloc: Global) -> Result<Register, Fail> {
     let mut register = Register::new(alloc)?;
@@ -103,25 +80,151 @@ fn crew(alloc: Global) -> Result<Register, Fail> {
     Ok(register)
 }
 
-fn state(register: &Register, vac: u32) -> Option<VacState> {
-    Some(register.vacancies().get(of_vacancy(vac)?)?.state)
+// What is kept of a vacancy and of a person: how it stands, and whether they have turned it down; whether they are marked
+// off, whether their past is closed, and what is assigned to them.
+#[derive(Clone, Copy, PartialEq)]
+struct Seen {
+    state: VacState,
+    turned_down: bool,
+    marked_off: bool,
+    closed: bool,
+    assigned: Option<VacNo>,
 }
 
-// Whether the person is marked off, whether their past is closed, and the vacancy that is assigned to them.
-fn marks(register: &Register, person: u32) -> Option<(bool, bool, Option<VacNo>)> {
-    let kept = register.persons().get(of_person(person)?)?;
-    Some((kept.marked_off, kept.closed, kept.assigned))
+fn look(register: &Register, vac: u32, person: u32) -> Option<Seen> {
+    let vac = of_vacancy(vac)?;
+    let person = of_person(person)?;
+    let kept = register.persons().get(person)?;
+    Some(Seen {
+        state: register.vacancies().get(vac)?.state,
+        turned_down: register.has_turned_down(vac, person),
+        marked_off: kept.marked_off,
+        closed: kept.closed,
+        assigned: kept.assigned,
+    })
 }
 
-fn has_turned_down(register: &Register, vac: u32, person: u32) -> Option<bool> {
-    Some(register.has_turned_down(of_vacancy(vac)?, of_person(person)?))
+// What is stated and answered, and of which vacancy and person what is kept then.
+#[derive(Drop)]
+struct Step {
+    cmd: Option<Cmd>,
+    reply: Option<Reply>,
+    vac: u32,
+    person: u32,
+    seen: Option<Seen>,
+}
+
+fn after(cmd: Option<Cmd>, vac: u32, person: u32, seen: Option<Seen>) -> Step {
+    Step {
+        cmd,
+        reply: Some(Reply::Done),
+        vac,
+        person,
+        seen,
+    }
+}
+
+// The place of the first step, from 0, after which something else is kept; `None` where none is.
+fn first_wrong(register: &mut Register, steps: &[Step]) -> Result<Option<usize>, Fail> {
+    for (i, step) in steps.iter().enumerate() {
+        let reply = step.reply.ok_or("no reply")?;
+        keep(register, step.cmd, reply).ok_or("not stated")?;
+        if look(register, step.vac, step.person) != step.seen {
+            return Ok(Some(i));
+        }
+    }
+    Ok(None)
+}
+
+// Nothing is so but how the vacancy stands.
+fn stands(state: VacState) -> Option<Seen> {
+    Some(Seen {
+        state,
+        turned_down: false,
+        marked_off: false,
+        closed: false,
+        assigned: None,
+    })
+}
+
+fn turned(state: VacState) -> Option<Seen> {
+    Some(Seen {
+        turned_down: true,
+        ..stands(state)?
+    })
+}
+
+fn has(state: VacState, vac: u32) -> Option<Seen> {
+    Some(Seen {
+        assigned: of_vacancy(vac),
+        ..stands(state)?
+    })
+}
+
+fn next(vac: u32) -> Option<Cmd> {
+    Some(Cmd::Next {
+        vac: of_vacancy(vac)?,
+    })
+}
+
+fn offered(person: u32) -> Option<Reply> {
+    Some(Reply::Offered {
+        person: of_person(person)?,
+        board: code(b"P1")?,
+        position: 1,
+    })
+}
+
+fn accept(vac: u32, person: u32) -> Option<Cmd> {
+    Some(Cmd::Accept {
+        vac: of_vacancy(vac)?,
+        person: of_person(person)?,
+    })
+}
+
+fn decline(vac: u32, person: u32) -> Option<Cmd> {
+    Some(Cmd::Decline {
+        vac: of_vacancy(vac)?,
+        person: of_person(person)?,
+    })
+}
+
+fn give_up(person: u32) -> Option<Cmd> {
+    Some(Cmd::Drop {
+        person: of_person(person)?,
+    })
+}
+
+fn annul(vac: u32) -> Option<Cmd> {
+    Some(Cmd::Annul {
+        vac: of_vacancy(vac)?,
+    })
+}
+
+fn goes_on_duty(person: u32) -> Option<Cmd> {
+    Some(Cmd::Happened {
+        person: of_person(person)?,
+        event: Event::Duty(noon()?),
+    })
+}
+
+fn offer(vac: u32, person: u32) -> Step {
+    Step {
+        cmd: next(vac),
+        reply: offered(person),
+        vac,
+        person,
+        seen: of_person(person).and_then(|p| stands(VacState::OnOffer(p))),
+    }
+}
+
+fn taken(person: u32) -> Result<VacState, Fail> {
+    Ok(VacState::Taken(of_person(person).ok_or("nobody")?))
 }
 
 #[test]
-fn persons_boards_and_vacancies_are_found(rt: HostRuntime) -> Result<(), Fail> {
+fn persons_and_boards_are_found(rt: HostRuntime) -> Result<(), Fail> {
     let register = crew(rt.alloc())?;
-    let persons = register.persons();
-    assert_eq!(rt; persons.count(), 3);
     for (number, place) in [
         (101, Some(0)),
         (7, Some(1)),
@@ -129,52 +232,33 @@ fn persons_boards_and_vacancies_are_found(rt: HostRuntime) -> Result<(), Fail> {
         (102, None),
     ] {
         let person = of_person(number).ok_or("no number")?;
-        assert_eq!(rt; persons.place(person), place);
-        assert_eq!(rt;
-            persons.get(person).map(|kept| kept.person.home),
-            place.and(code(b"HOM"))
-        );
+        assert_eq!(rt; register.persons().place(person), place);
     }
-    let boards = register.boards();
-    assert_eq!(rt; boards.count(), 2);
-    for (text, place, extra) in [
-        (b"P1", Some(0), Some(false)),
-        (b"X1", Some(1), Some(true)),
-        (b"Y1", None, None),
-    ] {
+    for (text, place) in [(b"P1", Some(0)), (b"X1", Some(1)), (b"Y1", None)] {
         let board = code(text).ok_or("no code")?;
-        assert_eq!(rt; boards.place(&board), place);
-        assert_eq!(rt; boards.get(&board).map(|setup| setup.extra), extra);
+        assert_eq!(rt; register.boards().place(&board), place);
     }
-    assert_eq!(rt; register.vacancies().count(), 2);
-    assert_eq!(rt; state(&register, 12), Some(VacState::Vacant));
-    assert_eq!(rt; state(&register, 13), None);
     Ok(())
 }
 
 #[test]
 fn a_vacancy_is_declined_accepted_and_given_up(rt: HostRuntime) -> Result<(), Fail> {
     let mut register = crew(rt.alloc())?;
-    let one = of_person(101).ok_or("nobody")?;
-    let two = of_person(7).ok_or("nobody")?;
-    let vac = of_vacancy(12).ok_or("no vacancy")?;
-    offer(&mut register, 12, 101).ok_or("no offer")?;
-    assert_eq!(rt; state(&register, 12), Some(VacState::OnOffer(one)));
-    assert_eq!(rt; state(&register, 3), Some(VacState::Vacant));
-    done(&mut register, Some(Cmd::Decline { vac, person: one })).ok_or("no decline")?;
-    assert_eq!(rt; state(&register, 12), Some(VacState::Vacant));
-    assert_eq!(rt; has_turned_down(&register, 12, 101), Some(true));
-    assert_eq!(rt; has_turned_down(&register, 12, 7), Some(false));
-    assert_eq!(rt; has_turned_down(&register, 3, 101), Some(false));
-    offer(&mut register, 12, 7).ok_or("no offer")?;
-    done(&mut register, accept(12, 7)).ok_or("not accepted")?;
-    assert_eq!(rt; state(&register, 12), Some(VacState::Taken(two)));
-    assert_eq!(rt; marks(&register, 7), Some((false, false, Some(vac))));
-    done(&mut register, Some(Cmd::Drop { person: two })).ok_or("not given up")?;
-    assert_eq!(rt; state(&register, 12), Some(VacState::Vacant));
-    assert_eq!(rt; marks(&register, 7), Some((true, false, None)));
-    assert_eq!(rt; has_turned_down(&register, 12, 7), Some(true));
-    assert_eq!(rt; has_turned_down(&register, 12, 9_999_999), Some(false));
+    let gone = Seen {
+        marked_off: true,
+        ..turned(VacState::Vacant).ok_or("nothing")?
+    };
+    let steps = [
+        offer(12, 101),
+        after(decline(12, 101), 12, 101, turned(VacState::Vacant)),
+        after(next(3), 12, 7, stands(VacState::Vacant)),
+        offer(12, 7),
+        after(accept(12, 7), 12, 7, has(taken(7)?, 12)),
+        after(next(3), 3, 101, stands(VacState::Vacant)),
+        after(give_up(7), 12, 7, Some(gone)),
+        after(next(3), 12, 9_999_999, stands(VacState::Vacant)),
+    ];
+    assert_eq!(rt; first_wrong(&mut register, &steps)?, None);
     Ok(())
 }
 
@@ -182,25 +266,24 @@ fn a_vacancy_is_declined_accepted_and_given_up(rt: HostRuntime) -> Result<(), Fa
 fn a_vacancy_is_begun_or_annulled(rt: HostRuntime) -> Result<(), Fail> {
     let mut register = crew(rt.alloc())?;
     let one = of_person(101).ok_or("nobody")?;
-    let minute = noon().ok_or("no minute")?;
-    for (vac, person) in [(12, 101), (3, 7)] {
-        offer(&mut register, vac, person).ok_or("no offer")?;
-        done(&mut register, accept(vac, person)).ok_or("not accepted")?;
-    }
-    let duty = Cmd::Happened {
-        person: one,
-        event: Event::Duty(minute),
+    let begun = Seen {
+        closed: true,
+        ..stands(VacState::Begun(one)).ok_or("nothing")?
     };
-    // what is refused changes nothing
-    keep(&mut register, Some(duty), Reply::OutsideWindow).ok_or("no event")?;
-    assert_eq!(rt; state(&register, 12), Some(VacState::Taken(one)));
-    done(&mut register, Some(duty)).ok_or("no event")?;
-    assert_eq!(rt; state(&register, 12), Some(VacState::Begun(one)));
-    assert_eq!(rt; marks(&register, 101), Some((false, true, None)));
-    let vac = of_vacancy(3).ok_or("no vacancy")?;
-    done(&mut register, Some(Cmd::Annul { vac })).ok_or("not annulled")?;
-    assert_eq!(rt; state(&register, 3), Some(VacState::Annulled));
-    assert_eq!(rt; marks(&register, 7), Some((false, false, None)));
+    let refused = Step {
+        reply: Some(Reply::OutsideWindow),
+        ..after(goes_on_duty(101), 12, 101, has(taken(101)?, 12))
+    };
+    let steps = [
+        offer(12, 101),
+        after(accept(12, 101), 12, 101, has(taken(101)?, 12)),
+        offer(3, 7),
+        after(accept(3, 7), 3, 7, has(taken(7)?, 3)),
+        refused,
+        after(goes_on_duty(101), 12, 101, Some(begun)),
+        after(annul(3), 3, 7, stands(VacState::Annulled)),
+    ];
+    assert_eq!(rt; first_wrong(&mut register, &steps)?, None);
     Ok(())
 }
 
@@ -212,22 +295,14 @@ fn a_thousand_persons_have_their_places(rt: HostRuntime) -> Result<(), Fail> {
         done(&mut register, enrol(number)).ok_or("nobody")?;
     }
     assert_eq!(rt; register.persons().count(), 1_000);
-    let vac = of_vacancy(1).ok_or("no vacancy")?;
-    for number in 1..=1_000_u32 {
-        let person = of_person(number).ok_or("nobody")?;
-        assert_eq!(rt;
-            register.persons().place(person),
-            usize::try_from(number - 1).ok()
-        );
+    for number in 1..=1_000 {
         if number % 3 == 0 {
-            done(&mut register, Some(Cmd::NoAnswer { vac, person })).ok_or("no answer")?;
+            done(&mut register, decline(1, number)).ok_or("no decline")?;
         }
     }
-    for number in 1..=1_000_u32 {
-        assert_eq!(rt;
-            has_turned_down(&register, 1, number),
-            Some(number % 3 == 0)
-        );
+    for number in 1..=1_000 {
+        let seen = look(&register, 1, number).ok_or("nobody")?;
+        assert_eq!(rt; seen.turned_down, number % 3 == 0);
     }
     Ok(())
 }

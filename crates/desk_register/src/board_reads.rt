@@ -1,0 +1,54 @@
+ghost use Rattle.std.specs.Prelude.{◌≡◌, ◌≤◌, ◌<◌, ◌+◌, ◌++◌, ◌∷◌, [], ℕ, List, if◌then◌else◌, None, Some, IfOk, IfSome, length, position};
+ghost use Rattle.std.specs.Str.{bytes_eq};
+ghost use Rattle.std.specs.Option.{option_copied};
+ghost use Rattle.desk_register.specs.Boards.{board_under, board_codes};
+ghost use Rattle.desk_model.specs.declared.limits.TheConstants.{BOARD_LIMIT};
+
+use crate::add_last::add_last;
+use crate::boards::Boards;
+use desk_base::{Code, NoMemory};
+use desk_model::{BOARD_LIMIT, BoardSetup};
+use indexmap::IndexMap;
+use std::alloc::Global;
+
+impl Boards {
+    /// None.
+    pub fn new(alloc: Global) -> Result<Boards, NoMemory>
+        ensures under { IfOk result (λ r. (b : List ℕ) → board_under r b ≡ None) }
+        ensures keys { IfOk result (λ r. board_codes r ≡ []) }
+    {
+        let kept = IndexMap::with_capacity(alloc, BOARD_LIMIT)?;
+        Ok(Boards { kept })
+    }
+
+    /// What the board was set up as; `None` where the code is no board.
+    pub fn get(&self, board: &Code) -> Option<&BoardSetup>
+        ensures { option_copied result ≡ board_under self.now board.now }
+    {
+        self.kept.get(board)
+    }
+
+    /// The place of the board among all, below 64; `None` where the code is no board.
+    pub fn place(&self, board: &Code) -> Option<usize>
+        ensures place { result ≡ position (bytes_eq board.now) (board_codes self.now) }
+        ensures range { IfSome result (λ i. i < BOARD_LIMIT) }
+    {
+        self.kept.get_index_of(board)
+    }
+
+    /// How many there are.
+    pub fn count(&self) -> usize
+        ensures { result ≡ length (board_codes self.now) }
+    {
+        self.kept.len()
+    }
+
+    pub(crate) fn add(&mut self, board: Code, setup: BoardSetup)
+        requires new { board_under self.old board ≡ None }
+        requires few { length (board_codes self.old) < BOARD_LIMIT }
+        ensures under { (b : List ℕ) → board_under self.new b ≡ (if bytes_eq board b then Some setup else board_under self.old b) }
+        ensures keys { board_codes self.new ≡ board_codes self.old ++ board ∷ [] }
+    {
+        add_last(&mut self.kept, board, setup);
+    }
+}

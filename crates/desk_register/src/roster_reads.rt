@@ -1,0 +1,64 @@
+ghost use Rattle.std.specs.Prelude.{◌≡◌, ◌≤◌, ◌<◌, ◌+◌, ℕ, nat_eq, if◌then◌else◌, Option, None, Some, OnOk, is_some, IfOk, IfSome, List, [], ◌∷◌, ◌++◌, length, position};
+ghost use Rattle.std.specs.Option.{option_copied};
+ghost use Rattle.desk_register.specs.Persons.{person_under, person_numbers};
+ghost use Rattle.desk_model.specs.declared.limits.TheConstants.{PERSON_LIMIT};
+
+use crate::add_last::add_last;
+use crate::kept_person::KeptPerson;
+use crate::roster::Roster;
+use desk_base::{NoMemory, PersonNo};
+use desk_model::PERSON_LIMIT;
+use indexmap::IndexMap;
+use std::alloc::Global;
+
+impl Roster {
+    /// An empty roster.
+    pub fn new(alloc: Global) -> Result<Roster, NoMemory>
+        ensures under { IfOk result (λ r. (p : ℕ) → person_under r p ≡ None) }
+        ensures keys { IfOk result (λ r. person_numbers r ≡ []) }
+    {
+        let kept = IndexMap::with_capacity(alloc, PERSON_LIMIT)?;
+        Ok(Roster { kept })
+    }
+
+    /// What is kept of this person.
+    pub fn get(&self, person: PersonNo) -> Option<&KeptPerson>
+        ensures { option_copied result ≡ person_under self.now person }
+    {
+        self.kept.get(&person)
+    }
+
+    /// The place of this person among all, below 1,000; `None` where nobody has the number.
+    pub fn place(&self, person: PersonNo) -> Option<usize>
+        ensures place { result ≡ position (nat_eq person) (person_numbers self.now) }
+        ensures range { IfSome result (λ i. i < PERSON_LIMIT) }
+        ensures found { is_some result ≡ is_some (person_under self.now person) }
+    {
+        self.kept.get_index_of(&person)
+    }
+
+    /// How many.
+    pub fn count(&self) -> usize
+        ensures { result ≡ length (person_numbers self.now) }
+    {
+        self.kept.len()
+    }
+
+    pub(crate) fn add(&mut self, person: PersonNo, kept: KeptPerson)
+        requires new { person_under self.old person ≡ None }
+        requires few { length (person_numbers self.old) < PERSON_LIMIT }
+        ensures get { (q : ℕ) → person_under self.new q ≡ (if nat_eq person q then Some kept else person_under self.old q) }
+        ensures keys { person_numbers self.new ≡ person_numbers self.old ++ person ∷ [] }
+    {
+        add_last(&mut self.kept, person, kept);
+    }
+
+    pub(crate) fn set(&mut self, person: PersonNo, kept: KeptPerson)
+        ensures get { (q : ℕ) → person_under self.new q ≡ (if nat_eq person q then (if is_some (person_under self.old person) then Some kept else None) else person_under self.old q) }
+        ensures keys { person_numbers self.new ≡ person_numbers self.old }
+    {
+        if let Some(now) = self.kept.get_mut(&person) {
+            *now = kept;
+        }
+    }
+}
