@@ -4,7 +4,7 @@ use Rattle.std.specs.List.{filter}
 use Rattle.std.proofs.lemmas.Bool.{cases_order, cases_lt, cases_eq, eq-eqb, ne_eqb, false≢true}
 use Rattle.std.proofs.lemmas.List.{length-append, length-replicate}
 use Rattle.slot_tree.specs.declared.slot.Slot.{Slot}
-use Rattle.slot_tree.specs.Slots.{slot_at, filled_end, compacted}
+use Rattle.slot_tree.specs.Slots.{slot_at, filled, filled_end, compacted}
 use Rattle.slot_tree.proofs.SlotLemmas.{slot_at-written, slot_at-others, slot_at-within}
 
 -- none is filled from one on, and the one before it is
@@ -134,3 +134,42 @@ filled_end-few slots = elim (cases_lt (length slots) (filled_end slots)) [
       absurd (omega (arith, beyond, slot_at-within slots (filled_end slots - 1) ((is_end slots).before (omega (arith, beyond)))))
   | inr within ↦ within
 ]
+
+-- ---- in order
+
+filled-none : (slots : List (Option Slot)) → ((s : ℕ) → slot_at slots s ≡ None) → filled slots ≡ []
+filled-none [] none = refl
+filled-none (None ∷ xs) none = filled-none xs (λ s. none (suc s))
+filled-none (Some x ∷ xs) none = absurd (let is : Some x ≡ None = none 0 in cc)
+
+filled-behind : (slots : List (Option Slot)) (e : ℕ) (x : Slot) → e < length slots → ((s : ℕ) → e ≤ s → slot_at slots s ≡ None) → filled (set slots e (Some x)) ≡ filled slots ++ x ∷ []
+filled-behind [] e x within after = absurd (omega (arith, within))
+filled-behind (None ∷ xs) zero x within after = rw (filled-none xs (λ s. after (suc s) (omega arith))) refl
+filled-behind (Some y ∷ xs) zero x within after = absurd (let is : Some y ≡ None = after 0 (omega arith) in cc)
+filled-behind (None ∷ xs) (suc e) x within after = filled-behind xs e x (omega (arith, within)) (λ s low. after (suc s) (omega (arith, low)))
+filled-behind (Some y ∷ xs) (suc e) x within after = ap (λ ys. y ∷ ys) (filled-behind xs e x (omega (arith, within)) (λ s low. after (suc s) (omega (arith, low))))
+
+-- who fills the slot behind the last filled one comes last
+pub filled-append : (slots : List (Option Slot)) (x : Slot) → filled_end slots < length slots → filled (set slots (filled_end slots) (Some x)) ≡ filled slots ++ x ∷ []
+filled-append slots x room = filled-behind slots (filled_end slots) x room (is_end slots).after
+
+filled-empties : (n : ℕ) → filled (replicate n None) ≡ []
+filled-empties zero = refl
+filled-empties (suc n) = filled-empties n
+
+filled-front : (slots : List (Option Slot)) (n : ℕ) → filled (filter is_some slots ++ replicate n None) ≡ filled slots
+filled-front [] n = filled-empties n
+filled-front (None ∷ xs) n = filled-front xs n
+filled-front (Some x ∷ xs) n = ap (λ ys. x ∷ ys) (filled-front xs n)
+
+pub filled-compacted : (slots : List (Option Slot)) → filled (compacted slots) ≡ filled slots
+filled-compacted slots = filled-front slots (length slots - length (filter is_some slots))
+
+length-filter : (slots : List (Option Slot)) → length (filter is_some slots) ≡ length (filled slots)
+length-filter [] = refl
+length-filter (None ∷ xs) = length-filter xs
+length-filter (Some x ∷ xs) = ap suc (length-filter xs)
+
+-- and then no slot before the end is empty
+pub filled_end-front : (slots : List (Option Slot)) → filled_end (compacted slots) ≡ length (filled (compacted slots))
+filled_end-front slots = filled_end-compacted slots ∙ length-filter slots ∙ sym (ap length (filled-compacted slots))

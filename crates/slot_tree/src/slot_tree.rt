@@ -1,4 +1,4 @@
-ghost use Rattle.std.specs.Prelude.{◌≡◌, ℕ, ◌+◌, ◌-◌, ◌*◌, ◌^◌, ◌<◌, ◌≤◌, IfOk, true, None, Some, is_some, length, take, replicate, slice_set};
+ghost use Rattle.std.specs.Prelude.{◌≡◌, ℕ, ◌+◌, ◌-◌, ◌*◌, ◌^◌, ◌<◌, ◌≤◌, IfOk, true, None, Some, [], ◌∷◌, ◌++◌, is_some, length, take, replicate, slice_set};
 ghost use Rattle.slot_tree.specs.Slots.{slot_at, with_ready, filled, filled_end, compacted};
 ghost use Rattle.slot_tree.specs.Search.{FindsReady, FindsFilled};
 ghost use Rattle.slot_tree.specs.Nodes.{key, AreLeast, KeysStand};
@@ -59,6 +59,7 @@ impl SlotTree {
         requires { filled_end self.old < length self.old }
         ensures slot { result ≡ filled_end self.old }
         ensures slots { self.new ≡ slice_set self.old result (Some (record { person = person; ready = ready })) }
+        ensures order { filled self.new ≡ filled self.old ++ record { person = person; ready = ready } ∷ [] }
     {
         let slot = self.next;
         put(
@@ -159,7 +160,10 @@ impl SlotTree {
 
     /// Moves the filled slots to the front, in the same order.
     pub fn compact(&mut self)
-        ensures { self.new ≡ compacted self.old }
+        ensures slots { self.new ≡ compacted self.old }
+        ensures order { filled self.new ≡ filled self.old }
+        ensures front { filled_end self.new ≡ length (filled self.new) }
+        ensures length { length self.new ≡ length self.old }
     {
         let many = self.slots.len();
         self.slots.retain(|slot| slot.is_some());
