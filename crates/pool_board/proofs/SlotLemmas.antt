@@ -1,16 +1,11 @@
 -- The filled slots of a tree as members: what a write of one slot makes of them.
-use Rattle.std.proofs.Common.{◌≡◌, ◌≢◌, ℕ, zero, suc, ◌+◌, ◌<◌, Bool, true, false, not, cond, nat_eq, Option, None, Some, List, [], ◌∷◌, length, set, refl, sym, ap, ◌∙◌, arith}
+use Rattle.std.proofs.Common.{◌≡◌, ◌≢◌, ℕ, zero, suc, ◌+◌, ◌<◌, true, false, not, cond, nat_eq, Option, None, Some, List, [], ◌∷◌, length, set, refl, sym, ap, ◌∙◌, arith}
 use Rattle.std.specs.List.{list_any}
 use Rattle.std.proofs.lemmas.Bool.{eq-eqb, ne_eqb, or_from, or_right, or_left, and_parts, not-true}
 use Rattle.slot_tree.specs.declared.slot.Slot.{Slot}
 use Rattle.slot_tree.specs.Slots.{slot_at, with_ready, filled}
-use Rattle.pool_board.specs.Members.{persons, is_listed, ready_of, without, are_distinct}
+use Rattle.pool_board.specs.Members.{persons, is_listed, holds, ready_of, without, are_distinct}
 use Rattle.pool_board.proofs.MemberLemmas.{others_differ, without-absent}
-
--- filled by this person
-abbrev pub holds : ℕ → Option Slot → Bool
-holds p None = false
-holds p (Some x) = nat_eq p x.person
 
 pub is_listed-none : (p : ℕ) (slots : List (Option Slot)) → ((s : ℕ) → s < length slots → holds p (slot_at slots s) ≡ false) → is_listed p (filled slots) ≡ false
 is_listed-none p [] none = refl

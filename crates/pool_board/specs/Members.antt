@@ -1,5 +1,5 @@
 -- The members of a board in order, each with the minute from which they are ready.
-use Rattle.std.specs.Prelude.{ℕ, Bool, true, not, ◌&&◌, nat_eq, Option, None, Some, List, [], ◌∷◌, map, filter, if◌then◌else◌}
+use Rattle.std.specs.Prelude.{ℕ, Bool, true, false, not, ◌&&◌, nat_eq, Option, None, Some, List, [], ◌∷◌, map, filter, if◌then◌else◌}
 use Rattle.std.specs.List.{list_any}
 use Rattle.slot_tree.specs.declared.slot.Slot.{Slot}
 
@@ -8,6 +8,11 @@ persons members = map (λ s. s.person) members
 
 abbrev pub is_listed : ℕ → List Slot → Bool
 is_listed p members = list_any (nat_eq p) (persons members)
+
+-- filled by this person
+abbrev pub holds : ℕ → Option Slot → Bool
+holds p None = false
+holds p (Some s) = nat_eq p s.person
 
 -- the minute from which a person is ready; nothing where the person is no member
 abbrev pub ready_of : ℕ → List Slot → Option ℕ

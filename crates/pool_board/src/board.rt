@@ -5,6 +5,7 @@ ghost use Rattle.pool_board.specs.Places.{at_place, FindsReadyPlace};
 ghost use Rattle.pool_board.specs.Board.{board_of, IsSameSort};
 
 use crate::MembersFull;
+use crate::hints::Hints;
 use crate::slots::{find, make_room};
 use desk_base::{Code, Minute, NoMemory, PersonNo};
 use slot_tree::{SlotTree, Steps};
@@ -23,6 +24,7 @@ pub struct Board {
     extra: bool,
     listed: u16,
     tree: SlotTree,
+    hints: Hints,
 }
 
 impl Model for Board {
@@ -46,6 +48,7 @@ impl Board {
             extra,
             listed: 0,
             tree: SlotTree::new(alloc, 10)?,
+            hints: Hints::new(alloc)?,
         })
     }
 
@@ -72,8 +75,9 @@ impl Board {
         if self.listed == MOST_MEMBERS {
             return Err(MembersFull);
         }
-        make_room(&mut self.tree);
-        self.tree.append(person, ready);
+        make_room(&mut self.tree, &mut self.hints);
+        let slot = self.tree.append(person, ready);
+        self.hints.set(person, slot);
         self.listed += 1;
         Ok(())
     }
@@ -86,7 +90,7 @@ impl Board {
         ensures ready { (other : ℕ) → other ≢ person
             → ready_of other self.new.members ≡ ready_of other self.old.members }
     {
-        if let Some(at) = find(&self.tree, person) {
+        if let Some(at) = find(&self.tree, self.hints.of(person), person) {
             self.tree.clear(at.slot);
             self.listed -= 1;
         }
@@ -100,10 +104,11 @@ impl Board {
             ≡ without person (persons self.old.members) ++ person ∷ [] }
         ensures ready { (who : ℕ) → ready_of who self.new.members ≡ ready_of who self.old.members }
     {
-        if let Some(at) = find(&self.tree, person) {
+        if let Some(at) = find(&self.tree, self.hints.of(person), person) {
             self.tree.clear(at.slot);
-            make_room(&mut self.tree);
-            self.tree.append(person, at.ready);
+            make_room(&mut self.tree, &mut self.hints);
+            let slot = self.tree.append(person, at.ready);
+            self.hints.set(person, slot);
         }
     }
 
@@ -116,7 +121,7 @@ impl Board {
         ensures others { (other : ℕ) → other ≢ person
             → ready_of other self.new.members ≡ ready_of other self.old.members }
     {
-        if let Some(at) = find(&self.tree, person) {
+        if let Some(at) = find(&self.tree, self.hints.of(person), person) {
             self.tree.set(at.slot, ready);
         }
     }
@@ -126,7 +131,7 @@ impl Board {
         ensures at { IfSome result (λ place. at_place (persons self.now.members) place ≡ Some person) }
         ensures listed { is_some result ≡ is_listed person self.now.members }
     {
-        let at = find(&self.tree, person)?;
+        let at = find(&self.tree, self.hints.of(person), person)?;
         Some(self.tree.before(at.slot) as u16 + 1)
     }
 
@@ -175,6 +180,7 @@ impl Board {
             extra: self.extra,
             listed: self.listed,
             tree: self.tree.copy(alloc)?,
+            hints: self.hints.copy(alloc)?,
         })
     }
 

@@ -2,6 +2,7 @@
 #![tactic(auto)]
 
 mod board;
+mod hints;
 mod members_full;
 mod slots;
 

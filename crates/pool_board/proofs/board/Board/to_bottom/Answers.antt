@@ -22,21 +22,21 @@ invariant_of-self c =
     ap (λ xs. is_listed x.person (filled xs)) c.clear.ensures ∙ is_listed-cleared slots c.in-Some.at.slot x c.in-Some.ensures.found c.self.invariant.distinct in
     let some = length-cleared slots c.in-Some.at.slot x c.in-Some.ensures.found in
     let again : c.self.inside.listed - 1 + 1 ≡ c.self.inside.listed = omega (arith, some, c.self.invariant.count) in
-    subst (λ n. IsBoard n c.append.new.self) again
-    (is_board-in (c.self.inside.listed - 1) c.clear.new.self c.append.new.self x out (omega (arith, c.self.invariant.most, again)) absent
-    (ap length c.append.ensures.slots ∙ length-set c.make_room.new.tree _ _ ∙ c.make_room.ensures.length)
-    (c.append.ensures.order ∙ ap (λ ms. ms ++ x ∷ []) c.make_room.ensures.order))
+    subst (λ n. IsBoard n c.append-slot.new.self) again
+    (is_board-in (c.self.inside.listed - 1) c.clear.new.self c.append-slot.new.self x out (omega (arith, c.self.invariant.most, again)) absent
+    (ap length c.append-slot.ensures.slots ∙ length-set c.make_room.new.tree _ _ ∙ c.make_room.ensures.length)
+    (c.append-slot.ensures.order ∙ ap (λ ms. ms ++ x ∷ []) c.make_room.ensures.order))
 
 pub returns-in-Some-clause-order : goal.returns-in-Some-clause-order
 returns-in-Some-clause-order c =
     let x : Slot = record { person = c.args.person; ready = c.in-Some.at.ready } in
     persons-moved c.self.inside.tree _ c.in-Some.at.slot x c.in-Some.ensures.found c.self.invariant.distinct
-    (c.append.ensures.order ∙ ap (λ ms. ms ++ x ∷ []) (c.make_room.ensures.order ∙ ap filled c.clear.ensures))
+    (c.append-slot.ensures.order ∙ ap (λ ms. ms ++ x ∷ []) (c.make_room.ensures.order ∙ ap filled c.clear.ensures))
     ∙ ap (λ v. without c.args.person (persons v.members) ++ c.args.person ∷ []) c.self.view_is
 
 pub returns-in-Some-clause-ready : goal.returns-in-Some-clause-ready
 returns-in-Some-clause-ready c who =
     let x : Slot = record { person = c.args.person; ready = c.in-Some.at.ready } in
     ready_of-moved c.self.inside.tree _ c.in-Some.at.slot x who c.in-Some.ensures.found c.self.invariant.distinct
-    (c.append.ensures.order ∙ ap (λ ms. ms ++ x ∷ []) (c.make_room.ensures.order ∙ ap filled c.clear.ensures))
+    (c.append-slot.ensures.order ∙ ap (λ ms. ms ++ x ∷ []) (c.make_room.ensures.order ∙ ap filled c.clear.ensures))
     ∙ ap (λ v. ready_of who v.members) c.self.view_is
