@@ -1,0 +1,4 @@
+pub mod LeastLemmas
+pub mod SlotLemmas
+pub mod EndLemmas
+pub mod KeepLemmas

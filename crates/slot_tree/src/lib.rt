@@ -1,0 +1,16 @@
+//! Slots in a row, each empty or filled by a person, and the first of them who is ready at a minute.
+#![tactic(auto)]
+
+mod nodes;
+mod search;
+mod slot;
+mod slot_tree;
+mod slots;
+mod steps;
+
+pub use slot::Slot;
+pub use slot_tree::SlotTree;
+pub use steps::Steps;
+
+#[cfg(test)]
+mod tests;

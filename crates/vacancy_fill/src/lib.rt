@@ -1,0 +1,12 @@
+//! The first of a vacancy's chain of boards whom nothing bars.
+#![tactic(auto)]
+
+mod fill;
+mod judge;
+mod on_board;
+
+pub use fill::{Found, first};
+pub use judge::Judge;
+
+#[cfg(test)]
+mod tests;
