@@ -38,10 +38,16 @@ fn past(number: u32, event: Option<Event>) -> Option<Cmd> {
     })
 }
 
+// An entry of this command, answered so.
+fn entry_of(cmd: Option<Cmd>, reply: Reply) -> Option<Entry> {
+    let stated = Stated::new(at(b"23:00")?, cmd?)?;
+    Some(Entry::new(0, stated, at(b"23:00")?, reply))
+}
+
 // The clocks keep this command, answered so, of the person at this place; whether there is such a command.
 fn keep(duty: &mut Duty, cmd: Option<Cmd>, reply: Reply, place: Option<usize>) -> Option<()> {
-    let stated = Stated::new(at(b"23:00")?, cmd?)?;
-    duty.keep(&Entry::new(0, stated, at(b"23:00")?, reply), place);
+    let entry = entry_of(cmd, reply)?;
+    duty.keep(&entry, place);
     Some(())
 }
 

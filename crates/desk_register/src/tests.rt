@@ -23,10 +23,16 @@ fn of_vacancy(number: u32) -> Option<VacNo> {
     VacNo::new(number)
 }
 
+// An entry of this command, answered so.
+fn entry_of(cmd: Option<Cmd>, reply: Reply) -> Option<Entry> {
+    let stated = Stated::new(noon()?, cmd?)?;
+    Some(Entry::new(0, stated, noon()?, reply))
+}
+
 // The register keeps this command, answered so; whether there is such a command.
 fn keep(register: &mut Register, cmd: Option<Cmd>, reply: Reply) -> Option<()> {
-    let stated = Stated::new(noon()?, cmd?)?;
-    register.keep(&Entry::new(0, stated, noon()?, reply));
+    let entry = entry_of(cmd, reply)?;
+    register.keep(&entry);
     Some(())
 }
 
