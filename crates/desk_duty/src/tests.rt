@@ -24,20 +24,6 @@ fn enrol(number: u32, home: &[u8]) -> Option<Cmd> {
     })
 }
 
-fn happened(number: u32, event: Option<Event>) -> Option<Cmd> {
-    Some(Cmd::Happened {
-        person: PersonNo::new(number)?,
-        event: event?,
-    })
-}
-
-fn past(number: u32, event: Option<Event>) -> Option<Cmd> {
-    Some(Cmd::Past {
-        person: PersonNo::new(number)?,
-        event: event?,
-    })
-}
-
 // An entry of this command, answered so.
 fn entry_of(cmd: Option<Cmd>, reply: Reply) -> Option<Entry> {
     let stated = Stated::new(at(b"23:00")?, cmd?)?;
@@ -51,36 +37,111 @@ fn keep(duty: &mut Duty, cmd: Option<Cmd>, reply: Reply, place: Option<usize>) -
     Some(())
 }
 
-// The stage of the person at this place, their latest minute, and where they are.
-fn look(duty: &Duty, place: usize) -> Option<(Stage, Option<Minute>, Code)> {
+fn duty(number: u32, time: &[u8]) -> Option<Cmd> {
+    Some(Cmd::Past {
+        person: PersonNo::new(number)?,
+        event: Event::Duty(at(time)?),
+    })
+}
+
+fn release(number: u32, time: &[u8], place: &[u8]) -> Option<Cmd> {
+    Some(Cmd::Happened {
+        person: PersonNo::new(number)?,
+        event: Event::Final(at(time)?, Code::read(place)?),
+    })
+}
+
+// The stage of the person at a place, their latest minute, and where they are.
+type Seen = (Stage, Option<Minute>, Code);
+
+fn look(duty: &Duty, place: usize) -> Option<Seen> {
     let clock = duty.clock(place)?;
     Some((clock.stage(), clock.last(), clock.place()))
+}
+
+fn off(last: Option<Minute>, place: &[u8]) -> Option<Seen> {
+    Some((Stage::Off, last, Code::read(place)?))
+}
+
+fn on_duty(time: &[u8], place: &[u8]) -> Option<Seen> {
+    Some((Stage::Duty, at(time), Code::read(place)?))
+}
+
+// What is stated and answered, of the person at which place, and what is seen then of the first and of the second.
+type Step = (
+    Option<Cmd>,
+    Reply,
+    Option<usize>,
+    Option<Seen>,
+    Option<Seen>,
+);
+
+// The place of the first step, from 0, after which something else is seen; `None` where none is.
+fn first_wrong(duty: &mut Duty, steps: &[Step]) -> Result<Option<usize>, Fail> {
+    for (i, (cmd, reply, place, one, two)) in steps.iter().enumerate() {
+        keep(duty, *cmd, *reply, *place).ok_or("not stated")?;
+        if look(duty, 0) != *one || look(duty, 1) != *two {
+            return Ok(Some(i));
+        }
+    }
+    Ok(None)
 }
 
 #[test]
 fn each_person_has_a_clock_of_their_own(rt: HostRuntime) -> Result<(), Fail> {
     let march = Month::read(b"2024-03").ok_or("no month")?;
     let window = Window::new(march, 1).ok_or("no window")?;
-    let mut duty = Duty::new(rt.alloc(), window)?;
-    assert_eq!(rt; look(&duty, 0), None);
-    let home = Code::read(b"HOM").ok_or("no home")?;
-    let away = Code::read(b"AWY").ok_or("no place")?;
-    keep(&mut duty, enrol(7, b"HOM"), Reply::Done, None).ok_or("nobody")?;
-    keep(&mut duty, enrol(7, b"HOM"), Reply::Used, None).ok_or("nobody")?;
-    keep(&mut duty, enrol(3, b"AWY"), Reply::Done, None).ok_or("nobody")?;
-    assert_eq!(rt; look(&duty, 0), Some((Stage::Off, None, home)));
-    assert_eq!(rt; look(&duty, 1), Some((Stage::Off, None, away)));
-    assert_eq!(rt; look(&duty, 2), None);
-    let began = at(b"06:00").map(Event::Duty);
-    let ended = at(b"14:00").map(|minute| Event::Final(minute, away));
-    keep(&mut duty, past(7, began), Reply::Done, Some(0)).ok_or("no event")?;
-    keep(&mut duty, happened(7, ended), Reply::OutsideWindow, Some(0)).ok_or("no event")?;
-    assert_eq!(rt; look(&duty, 0), Some((Stage::Duty, at(b"06:00"), home)));
-    keep(&mut duty, happened(7, ended), Reply::Done, Some(0)).ok_or("no event")?;
-    assert_eq!(rt; look(&duty, 0), Some((Stage::Off, at(b"14:00"), away)));
-    assert_eq!(rt; look(&duty, 1), Some((Stage::Off, None, away)));
-    keep(&mut duty, happened(3, began), Reply::Done, Some(1)).ok_or("no event")?;
-    assert_eq!(rt; look(&duty, 1), Some((Stage::Duty, at(b"06:00"), away)));
-    assert_eq!(rt; look(&duty, 0), Some((Stage::Off, at(b"14:00"), away)));
+    let mut duty_of_two = Duty::new(rt.alloc(), window)?;
+    let done = Reply::Done;
+    let steps: [Step; 8] = [
+        (enrol(7, b"HOM"), done, None, off(None, b"HOM"), None),
+        (enrol(7, b"HOM"), Reply::Used, None, off(None, b"HOM"), None),
+        (
+            enrol(3, b"AWY"),
+            done,
+            None,
+            off(None, b"HOM"),
+            off(None, b"AWY"),
+        ),
+        (
+            duty(7, b"06:00"),
+            done,
+            Some(0),
+            on_duty(b"06:00", b"HOM"),
+            off(None, b"AWY"),
+        ),
+        // what is refused is not taken in
+        (
+            release(7, b"14:00", b"FAR"),
+            Reply::OutsideWindow,
+            Some(0),
+            on_duty(b"06:00", b"HOM"),
+            off(None, b"AWY"),
+        ),
+        (
+            release(7, b"14:00", b"FAR"),
+            done,
+            Some(0),
+            off(at(b"14:00"), b"FAR"),
+            off(None, b"AWY"),
+        ),
+        (
+            duty(3, b"05:00"),
+            done,
+            Some(1),
+            off(at(b"14:00"), b"FAR"),
+            on_duty(b"05:00", b"AWY"),
+        ),
+        (
+            enrol(9, b"FAR"),
+            done,
+            None,
+            off(at(b"14:00"), b"FAR"),
+            on_duty(b"05:00", b"AWY"),
+        ),
+    ];
+    assert_eq!(rt; first_wrong(&mut duty_of_two, &steps)?, None);
+    assert_eq!(rt; look(&duty_of_two, 2), off(None, b"FAR"));
+    assert_eq!(rt; look(&duty_of_two, 3), None);
     Ok(())
 }
