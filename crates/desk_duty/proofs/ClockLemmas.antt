@@ -1,16 +1,13 @@
 -- The clocks keep on what a history says.
-use Rattle.std.proofs.Common.{get_or, zero, suc, ◌≡◌, ◌≢◌, ◌<◌, ◌≤◌, ◌+◌, ℕ, Bool, true, false, not, cond, nat_eq, nat_lt, nat_le, List, [], ◌∷◌, ◌++◌, length, slice_set, position, Option, None, Some, is_some, is_none, unwrap_or, refl, sym, ap, ◌∙◌, subst, ◌⊎◌, inl, inr, arith, append-nil, length-append}
+use Rattle.std.proofs.Common.{get_or, zero, suc, ◌≡◌, ◌≢◌, ◌<◌, ◌+◌, ℕ, Bool, true, false, cond, nat_eq, List, [], ◌∷◌, ◌++◌, length, slice_set, Option, None, Some, is_some, unwrap_or, refl, sym, ap, ◌∙◌, subst, inl, inr, arith, append-nil, length-append}
 use Rattle.std.proofs.lemmas.Bool.{false≢true}
 use Rattle.std.proofs.lemmas.Bool.Decides.{nat_tests}
 use Rattle.std.proofs.lemmas.List.{get_or-set_same, get_or-set_other, length-set}
-use Rattle.std.proofs.lemmas.List.Folds.{position_or_len_push}
-use Rattle.std.proofs.lemmas.List.Quantifiers.{position-Some}
-use Rattle.std.proofs.lemmas.List.Sums.{prefix_len-le-length}
 use Rattle.std.proofs.lemmas.Option.{slice_get-get_or, slice_get_within, get_or_from_slice_get}
 use Rattle.std.specs.Prelude.{if◌then◌else◌}
 use Rattle.std.specs.Bool.{Decides}
 use Rattle.std.specs.Option.{option_map, option_and_then, option_or}
-use Rattle.std.specs.List.{slice_get, position_or_len, cons_option}
+use Rattle.std.specs.List.{slice_get, cons_option}
 use Rattle.desk_base.specs.Window.{WindowValue, Holds}
 use Rattle.duty_events.specs.declared.event.Event.{Event}
 use Rattle.duty_events.specs.declared.stage.Stage.{Stage}
@@ -19,62 +16,18 @@ use Rattle.duty_events.specs.Lists.{stage_of, latest, Follows, may_follow}
 use Rattle.person_clock.specs.Clock.{ClockValue, Stands, MayTake}
 use Rattle.desk_model.specs.declared.person.Person.{Person}
 use Rattle.desk_model.specs.declared.limits.TheConstants.{PERSON_LIMIT}
-use Rattle.desk_model.specs.declared.reply.Reply.TheVariants as reply
 use Rattle.desk_model.specs.Opening.{OpeningValue}
 use Rattle.desk_model.specs.Entry.{EntryValue}
 use Rattle.desk_model.specs.History.{History, opened, with_entry, steps, said}
 use Rattle.desk_model.specs.Register.{enrols, enrols_any, person_of, persons}
 use Rattle.desk_model.specs.Duty.{tells, told, may_come, events}
 use Rattle.desk_model.specs.Comes.{Comes, kept}
-use Rattle.desk_model.specs.Legal.{IsNext, IsLegal}
-use Rattle.desk_register.specs.Vacancies.{place_among, HasPlace}
-use Rattle.desk_duty.specs.Told.{home_of, teller, told_event}
-use Rattle.desk_duty.specs.Clocks.{IsClock, AreClocks, HasTaken, Tells, IsNew, Enrols, teller_place}
+use Rattle.desk_register.specs.Vacancies.{place_among}
+use Rattle.desk_register.proofs.PersonLemmas.{same, same_number, option_or-none}
+use Rattle.desk_register.proofs.PlaceAmongLemmas.{place-is, places-apart, place-grown}
+use Rattle.desk_duty.specs.Told.{home_of, told_event}
+use Rattle.desk_duty.specs.Clocks.{IsClock, AreClocks, HasTaken, Tells, Enrols, teller_place}
 use Rattle.desk_duty.proofs.HeardLemmas.{EnrolsOne, TellsOne, TellsNothing, heard}
-
-same_number : (p q : ℕ) → nat_eq p q ≡ true → p ≡ q
-same_number p q is = grind (arith, nat_tests, is)
-
-same : (n : ℕ) → nat_eq n n ≡ true
-same n = grind (arith, nat_tests)
-
-option_or-none : {X : Type 0} (x : Option X) → option_or x None ≡ x
-option_or-none None = refl
-option_or-none (Some x) = refl
-
--- ---- places
-
-place-lt : (numbers : List ℕ) (p i : ℕ) → place_among numbers p ≡ Some i → i < length numbers
-place-lt numbers p i is = (position-Some (nat_eq p) numbers i 0 is).0
-
-place-is : (numbers : List ℕ) (p i : ℕ) → place_among numbers p ≡ Some i → p ≡ get_or numbers i 0
-place-is numbers p i is = same_number p (get_or numbers i 0) (position-Some (nat_eq p) numbers i 0 is).1
-
--- who has a place keeps it when one more is enrolled, and who has none gets the last, if it is them
-by-number : (at n : ℕ) (mine : Bool) → at ≤ n
-    → cond (nat_lt (cond (nat_eq at n) (n + cond mine 0 1) at) (n + 1)) (Some (cond (nat_eq at n) (n + cond mine 0 1) at)) None
-    ≡ option_or (cond (nat_lt at n) (Some at) None) (cond mine (Some n) None)
-by-number at n mine most = go mine (nat_eq at n) refl
-  where
-    go : (mine here : Bool) → nat_eq at n ≡ here → cond (nat_lt (cond here (n + cond mine 0 1) at) (n + 1)) (Some (cond here (n + cond mine 0 1) at)) None
-        ≡ option_or (cond (nat_lt at n) (Some at) None) (cond mine (Some n) None)
-    go true true here =
-        let zero : n + 0 ≡ n = omega arith in
-        let within : nat_lt n (n + 1) ≡ true = grind (arith, nat_tests) in
-        let low : nat_lt at n ≡ false = grind (arith, nat_tests, here) in
-        rw (zero, within, low) refl
-    go false true here =
-        let within : nat_lt (n + 1) (n + 1) ≡ false = grind (arith, nat_tests) in
-        let low : nat_lt at n ≡ false = grind (arith, nat_tests, here) in
-        rw (within, low) refl
-    go mine false here =
-        let within : nat_lt at (n + 1) ≡ true = grind (arith, nat_tests, most) in
-        let low : nat_lt at n ≡ true = grind (arith, nat_tests, here, most) in
-        rw (within, low) refl
-
-place-grown : (numbers : List ℕ) (p q : ℕ) → place_among (numbers ++ p ∷ []) q ≡ option_or (place_among numbers q) (cond (nat_eq q p) (Some (length numbers)) None)
-place-grown numbers p q = rw (position_or_len_push (nat_eq q) numbers p, length-append numbers (p ∷ []))
-    (by-number (position_or_len (nat_eq q) numbers) (length numbers) (nat_eq q p) (prefix_len-le-length (λ x. not (nat_eq q x)) numbers))
 
 -- ---- lists of clocks
 
@@ -110,7 +63,7 @@ silent-events h e p comes none = comes.events p ∙ ap (kept (events h p)) none
 
 silent-home : (h : History) (e : EntryValue) (p : ℕ) → Comes h e → said (enrols p) e ≡ None
     → option_map (λ x. x.home) (person_of (with_entry h e) p) ≡ option_map (λ x. x.home) (person_of h p)
-silent-home h e p comes none = ap (option_map (λ x. x.home)) (comes.person p ∙ ap (option_or (person_of h p)) none ∙ option_or-none (person_of h p))
+silent-home h e p comes none = ap (option_map (λ x. x.home)) (comes.person p ∙ ap (option_or (person_of h p)) none ∙ sym (option_or-none (person_of h p)))
 
 no-more : (h : History) (e : EntryValue) → Comes h e → said enrols_any e ≡ None → persons (with_entry h e) ≡ persons h
 no-more h e comes none = comes.persons ∙ ap (λ o. persons h ++ cons_option o []) none ∙ append-nil (persons h)
@@ -174,23 +127,16 @@ told-keeps h e i clocks later comes says decides may first end at_i tells_it are
         let other = are.each q j at in
         let apart : j ≢ i = grind (arith, nat_tests, here) in
         let stored : slice_get later j ≡ Some other.0 = ap (λ cs. slice_get cs j) done.1.0 ∙ get-set_other clocks i j done.0 other.0 apart other.1.0 in
-        let not_them : nat_eq says.person q ≡ false = elsewhere q j at here in
+        let not_them : nat_eq says.person q ≡ false = sym (places-apart (persons h) says.person q i j at_i at) ∙ here in
         (other.0, (stored, clock-stays h e q other.0 comes (silent-events h e q comes (says.tells_is q ∙ rw not_them refl)) (silent-home h e q comes (says.who q)) other.1.1))
-      where
-        elsewhere : (q j : ℕ) → place_among (persons h) q ≡ Some j → nat_eq i j ≡ false → nat_eq says.person q ≡ false
-        elsewhere q j at here = go (nat_eq says.person q) refl
-          where
-            go : (them : Bool) → nat_eq says.person q ≡ them → them ≡ false
-            go true them = absurd (false≢true (sym here ∙ ap (λ o. unwrap_or (option_map (nat_eq i) o) false) (sym at ∙ ap (place_among (persons h)) (sym (same_number says.person q them)) ∙ at_i) ∙ same i))
-            go false them = refl
 
     none : (q : ℕ) → place_among (persons h) q ≡ None → (them : Bool) → nat_eq says.person q ≡ them → events (with_entry h e) q ≡ []
     none q at true them = absurd (false≢true (ap is_some (sym at ∙ ap (place_among (persons h)) (sym (same_number says.person q them)) ∙ at_i)))
     none q at false them = silent-events h e q comes (says.tells_is q ∙ rw them refl) ∙ are.none q at
 
-enrolled-keeps : (h : History) (e : EntryValue) (clocks later : List ClockValue) → Comes h e → (says : EnrolsOne e) → is_none (person_of h says.person) ≡ true
+enrolled-keeps : (h : History) (e : EntryValue) (clocks later : List ClockValue) → Comes h e → (says : EnrolsOne e) → person_of h says.person ≡ None
     → Enrols h.opening.window says.home clocks later → AreClocks clocks h → AreClocks later (with_entry h e)
-enrolled-keeps h e clocks later comes says new enrols_it are =
+enrolled-keeps h e clocks later comes says unknown enrols_it are =
     let p = says.person in
     let grows : persons (with_entry h e) ≡ persons h ++ p ∷ [] = comes.persons ∙ ap (λ o. persons h ++ cons_option o []) says.any in
     let places : (q : ℕ) → place_among (persons (with_entry h e)) q ≡ option_or (place_among (persons h) q) (cond (nat_eq q p) (Some (length (persons h))) None)
@@ -203,13 +149,6 @@ enrolled-keeps h e clocks later comes says new enrols_it are =
   where
     quiet : (q : ℕ) → events (with_entry h e) q ≡ events h q
     quiet q = silent-events h e q comes (says.tells_none q)
-
-    unknown : person_of h says.person ≡ None
-    unknown = none-is (person_of h says.person) new
-      where
-        none-is : (o : Option Person) → is_none o ≡ true → o ≡ None
-        none-is None is = refl
-        none-is (Some x) is = absurd (false≢true is)
 
     person-now : (q : ℕ) → person_of (with_entry h e) q ≡ option_or (person_of h q) (if nat_eq says.person q then Some (record { craft = says.craft; home = says.home }) else None)
     person-now q = comes.person q ∙ ap (option_or (person_of h q)) (says.who q)
@@ -280,7 +219,7 @@ pub home-keeps : (h : History) (e : EntryValue) (window : WindowValue) (home : L
     → ((p : ℕ) → said enrols_any e ≡ Some p → person_of h p ≡ None) → ((p : ℕ) → said enrols_any e ≡ Some p → length (persons h) < PERSON_LIMIT)
     → said home_of e ≡ Some home → (length clocks < PERSON_LIMIT → Enrols window home clocks later) → AreClocks clocks h → AreClocks later (with_entry h e)
 home-keeps h e window home clocks later comes window_is new few home_is enrols_it are = elim (heard e) [
-  | inl says ↦ enrolled-keeps h e clocks later comes says (ap is_none (new says.person says.any))
+  | inl says ↦ enrolled-keeps h e clocks later comes says (new says.person says.any)
       (subst (λ w. Enrols w says.home clocks later) window_is (subst (λ x. Enrols window x clocks later) (ap (λ o. unwrap_or o []) (sym home_is ∙ says.home_is))
       (enrols_it (subst (λ n. n < PERSON_LIMIT) (sym are.many) (few says.person says.any))))) are
   | inr (inl says) ↦ absurd (other-home e home says.home_none home_is)

@@ -1,11 +1,10 @@
 -- What an entry tells of what somebody did.
-use Rattle.std.proofs.Common.{◌≡◌, ℕ, Bool, true, false, nat_eq, Option, None, Some, List, refl, sym, ap, ◌∙◌, ◌⊎◌, inl, inr}
+use Rattle.std.proofs.Common.{◌≡◌, ℕ, Bool, true, false, nat_eq, Option, None, Some, List, refl, ◌∙◌, ◌⊎◌, inl, inr}
 use Rattle.std.specs.Prelude.{if◌then◌else◌}
 use Rattle.qualifications.specs.declared.craft.Craft.{Craft}
 use Rattle.duty_events.specs.declared.event.Event.{Event}
 use Rattle.desk_model.specs.declared.command.Cmd.{Cmd}
 use Rattle.desk_model.specs.declared.command.Cmd.TheVariants as cmd
-use Rattle.desk_model.specs.declared.person.Person.{Person}
 use Rattle.desk_model.specs.Entry.{EntryValue}
 use Rattle.desk_model.specs.History.{is_done, said}
 use Rattle.desk_model.specs.Register.{enrols, enrols_any}
@@ -92,22 +91,4 @@ heard e = go (is_done e.reply) e.stated.cmd refl refl
     })
     go true (cmd.Past p t) done is = one-told e (cmd.Past p t) p t done is refl refl (λ q. refl) refl refl (λ q. refl)
     go true (cmd.Happened p t) done is = one-told e (cmd.Happened p t) p t done is refl refl (λ q. refl) refl refl (λ q. refl)
-    go true (cmd.Board a b d) done is = idle e (cmd.Board a b d) done is refl refl (λ q. refl) refl (λ q. refl)
-    go true (cmd.List a b) done is = idle e (cmd.List a b) done is refl refl (λ q. refl) refl (λ q. refl)
-    go true (cmd.Unlist a b) done is = idle e (cmd.Unlist a b) done is refl refl (λ q. refl) refl (λ q. refl)
-    go true (cmd.MarkOff a) done is = idle e (cmd.MarkOff a) done is refl refl (λ q. refl) refl (λ q. refl)
-    go true (cmd.MarkOn a) done is = idle e (cmd.MarkOn a) done is refl refl (λ q. refl) refl (λ q. refl)
-    go true (cmd.Qualify a b) done is = idle e (cmd.Qualify a b) done is refl refl (λ q. refl) refl (λ q. refl)
-    go true (cmd.Vacancy a) done is = idle e (cmd.Vacancy a) done is refl refl (λ q. refl) refl (λ q. refl)
-    go true (cmd.Next a) done is = idle e (cmd.Next a) done is refl refl (λ q. refl) refl (λ q. refl)
-    go true (cmd.Offer a b) done is = idle e (cmd.Offer a b) done is refl refl (λ q. refl) refl (λ q. refl)
-    go true (cmd.Accept a b) done is = idle e (cmd.Accept a b) done is refl refl (λ q. refl) refl (λ q. refl)
-    go true (cmd.Decline a b) done is = idle e (cmd.Decline a b) done is refl refl (λ q. refl) refl (λ q. refl)
-    go true (cmd.NoAnswer a b) done is = idle e (cmd.NoAnswer a b) done is refl refl (λ q. refl) refl (λ q. refl)
-    go true (cmd.Withdraw a b) done is = idle e (cmd.Withdraw a b) done is refl refl (λ q. refl) refl (λ q. refl)
-    go true (cmd.Annul a) done is = idle e (cmd.Annul a) done is refl refl (λ q. refl) refl (λ q. refl)
-    go true (cmd.Drop a) done is = idle e (cmd.Drop a) done is refl refl (λ q. refl) refl (λ q. refl)
-    go true (cmd.Hours a b) done is = idle e (cmd.Hours a b) done is refl refl (λ q. refl) refl (λ q. refl)
-    go true (cmd.At a b) done is = idle e (cmd.At a b) done is refl refl (λ q. refl) refl (λ q. refl)
-    go true (cmd.Explain a b) done is = idle e (cmd.Explain a b) done is refl refl (λ q. refl) refl (λ q. refl)
-    go true (cmd.Vac a) done is = idle e (cmd.Vac a) done is refl refl (λ q. refl) refl (λ q. refl)
+    go true other done is = idle e other done is refl refl (λ q. refl) refl (λ q. refl)

@@ -1,5 +1,5 @@
 -- Clocks of persons, beside what a history says of what they did.
-use Rattle.std.specs.Prelude.{◌≡◌, ℕ, Option, None, Some, is_none, false, List, [], ◌∷◌, ◌++◌, length, slice_set}
+use Rattle.std.specs.Prelude.{◌≡◌, ℕ, Option, None, Some, List, [], ◌∷◌, ◌++◌, length, slice_set}
 use Rattle.std.specs.List.{slice_get}
 use Rattle.std.specs.Option.{option_map, option_and_then}
 use Rattle.desk_base.specs.Window.{WindowValue}
@@ -9,7 +9,7 @@ use Rattle.desk_model.specs.Entry.{EntryValue}
 use Rattle.desk_model.specs.History.{History, said}
 use Rattle.desk_model.specs.Register.{person_of, persons}
 use Rattle.desk_model.specs.Duty.{events}
-use Rattle.desk_register.specs.Vacancies.{place_among, HasPlace}
+use Rattle.desk_register.specs.Vacancies.{place_among}
 use Rattle.desk_duty.specs.declared.duty.Duty.{Duty}
 use Rattle.desk_duty.specs.Told.{teller}
 

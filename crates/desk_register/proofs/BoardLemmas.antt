@@ -33,27 +33,7 @@ can-set_up h m (cmd.Board b extra place) under codes are done = go (board_of h b
     go (Some setup) full x y done = absurd (false≢true done)
     go None true x y done = absurd (false≢true done)
     go None false x y done = (are.each b ∙ x, rw are.order grind (arith, nat_tests, y))
-can-set_up h m (cmd.Enrol a b d f) under codes are done = tt
-can-set_up h m (cmd.List a b) under codes are done = tt
-can-set_up h m (cmd.Unlist a b) under codes are done = tt
-can-set_up h m (cmd.MarkOff a) under codes are done = tt
-can-set_up h m (cmd.MarkOn a) under codes are done = tt
-can-set_up h m (cmd.Qualify a b) under codes are done = tt
-can-set_up h m (cmd.Past a b) under codes are done = tt
-can-set_up h m (cmd.Vacancy a) under codes are done = tt
-can-set_up h m (cmd.Next a) under codes are done = tt
-can-set_up h m (cmd.Offer a b) under codes are done = tt
-can-set_up h m (cmd.Hours a b) under codes are done = tt
-can-set_up h m (cmd.At a b) under codes are done = tt
-can-set_up h m (cmd.Explain a b) under codes are done = tt
-can-set_up h m (cmd.Vac a) under codes are done = tt
-can-set_up h m (cmd.Accept a b) under codes are done = tt
-can-set_up h m (cmd.Decline a b) under codes are done = tt
-can-set_up h m (cmd.NoAnswer a b) under codes are done = tt
-can-set_up h m (cmd.Withdraw a b) under codes are done = tt
-can-set_up h m (cmd.Annul a) under codes are done = tt
-can-set_up h m (cmd.Drop a) under codes are done = tt
-can-set_up h m (cmd.Happened a b) under codes are done = tt
+can-set_up h m other under codes are done = tt
 
 -- what is kept goes on by a command as what is said does
 board-follows : (c : Cmd) (under : List ℕ → Option BoardSetup) (codes : List (List ℕ)) (b : List ℕ) → CanSetUp (sets_up_any c) under codes
@@ -64,27 +44,7 @@ board-follows (cmd.Board x extra place) under codes b can = go (bytes_eq x b) re
         ≡ option_or (under b) (cond here (Some (record { extra = extra; place = place })) None)
     go true here = rw (sym (ap under ((bytes_eq-Decides x b).0 here)) ∙ can.0) refl
     go false here = option_or-none (under b)
-board-follows (cmd.Enrol a b d f) under codes code can = option_or-none (under code)
-board-follows (cmd.List a b) under codes code can = option_or-none (under code)
-board-follows (cmd.Unlist a b) under codes code can = option_or-none (under code)
-board-follows (cmd.MarkOff a) under codes code can = option_or-none (under code)
-board-follows (cmd.MarkOn a) under codes code can = option_or-none (under code)
-board-follows (cmd.Qualify a b) under codes code can = option_or-none (under code)
-board-follows (cmd.Past a b) under codes code can = option_or-none (under code)
-board-follows (cmd.Vacancy a) under codes code can = option_or-none (under code)
-board-follows (cmd.Next a) under codes code can = option_or-none (under code)
-board-follows (cmd.Offer a b) under codes code can = option_or-none (under code)
-board-follows (cmd.Hours a b) under codes code can = option_or-none (under code)
-board-follows (cmd.At a b) under codes code can = option_or-none (under code)
-board-follows (cmd.Explain a b) under codes code can = option_or-none (under code)
-board-follows (cmd.Vac a) under codes code can = option_or-none (under code)
-board-follows (cmd.Accept a b) under codes code can = option_or-none (under code)
-board-follows (cmd.Decline a b) under codes code can = option_or-none (under code)
-board-follows (cmd.NoAnswer a b) under codes code can = option_or-none (under code)
-board-follows (cmd.Withdraw a b) under codes code can = option_or-none (under code)
-board-follows (cmd.Annul a) under codes code can = option_or-none (under code)
-board-follows (cmd.Drop a) under codes code can = option_or-none (under code)
-board-follows (cmd.Happened a b) under codes code can = option_or-none (under code)
+board-follows other under codes code can = option_or-none (under code)
 
 -- after a command that was done the register keeps what the longer history says
 pub boards-keep : (h : History) (e : EntryValue) (c : Cmd) (under later : List ℕ → Option BoardSetup) (codes after : List (List ℕ)) → Comes h e → IsNext h e → IsDone e c

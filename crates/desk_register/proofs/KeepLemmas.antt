@@ -77,21 +77,7 @@ target-made h m (cmd.Happened p e) v k law agrees done here = go (reports e) her
     go : (report : Bool) → is_of v (cond report (assigned h p) None) ≡ true → is_none k ≡ false
     go true here = had-made k h v p law agrees here
     go false here = absurd (false≢true here)
-target-made h m (cmd.Vacancy job) v k law agrees done here = absurd (false≢true here)
-target-made h m (cmd.Enrol a b d f) v k law agrees done here = absurd (false≢true here)
-target-made h m (cmd.Board a b d) v k law agrees done here = absurd (false≢true here)
-target-made h m (cmd.List a b) v k law agrees done here = absurd (false≢true here)
-target-made h m (cmd.Unlist a b) v k law agrees done here = absurd (false≢true here)
-target-made h m (cmd.MarkOff a) v k law agrees done here = absurd (false≢true here)
-target-made h m (cmd.MarkOn a) v k law agrees done here = absurd (false≢true here)
-target-made h m (cmd.Qualify a b) v k law agrees done here = absurd (false≢true here)
-target-made h m (cmd.Past a b) v k law agrees done here = absurd (false≢true here)
-target-made h m (cmd.Next a) v k law agrees done here = absurd (false≢true here)
-target-made h m (cmd.Offer a b) v k law agrees done here = absurd (false≢true here)
-target-made h m (cmd.Hours a b) v k law agrees done here = absurd (false≢true here)
-target-made h m (cmd.At a b) v k law agrees done here = absurd (false≢true here)
-target-made h m (cmd.Explain a b) v k law agrees done here = absurd (false≢true here)
-target-made h m (cmd.Vac a) v k law agrees done here = absurd (false≢true here)
+target-made h m other v k law agrees done here = absurd (false≢true here)
 
 -- a vacancy that is made by a command that is done is new, and there is room
 can-make : (h : History) (m : ℕ) (c : Cmd) (under : ℕ → Option KeptVacancy) (numbers : List ℕ) → AreVacancies under numbers h
@@ -107,27 +93,7 @@ can-make h m (cmd.Vacancy job) under numbers are done =
     go false true full x y done = absurd (false≢true done)
     go false false true x y done = absurd (false≢true done)
     go false false false x y done = (none-is (under job.vac) (unmade-is (under job.vac) h job.vac (are.each job.vac) ∙ ap not x), rw are.order grind (arith, nat_tests, y))
-can-make h m (cmd.Enrol a b d f) under numbers are done = tt
-can-make h m (cmd.Board a b d) under numbers are done = tt
-can-make h m (cmd.List a b) under numbers are done = tt
-can-make h m (cmd.Unlist a b) under numbers are done = tt
-can-make h m (cmd.MarkOff a) under numbers are done = tt
-can-make h m (cmd.MarkOn a) under numbers are done = tt
-can-make h m (cmd.Qualify a b) under numbers are done = tt
-can-make h m (cmd.Past a b) under numbers are done = tt
-can-make h m (cmd.Next a) under numbers are done = tt
-can-make h m (cmd.Offer a b) under numbers are done = tt
-can-make h m (cmd.Hours a b) under numbers are done = tt
-can-make h m (cmd.At a b) under numbers are done = tt
-can-make h m (cmd.Explain a b) under numbers are done = tt
-can-make h m (cmd.Vac a) under numbers are done = tt
-can-make h m (cmd.Accept a b) under numbers are done = tt
-can-make h m (cmd.Decline a b) under numbers are done = tt
-can-make h m (cmd.NoAnswer a b) under numbers are done = tt
-can-make h m (cmd.Withdraw a b) under numbers are done = tt
-can-make h m (cmd.Annul a) under numbers are done = tt
-can-make h m (cmd.Drop a) under numbers are done = tt
-can-make h m (cmd.Happened a b) under numbers are done = tt
+can-make h m other under numbers are done = tt
 
 -- ---- what is kept goes on as what is said does
 
@@ -167,27 +133,7 @@ keeps-follow : (h : History) (m : ℕ) (c : Cmd) (under mid later : ℕ → Opti
     → ChangesAt (is_of v (target c (had_by h c))) c (turner_place (persons h) c) (mid v) (later v) → VacancyFollows (persons h) h v c (under v) (later v)
 keeps-follow h m (cmd.Vacancy job) under mid later numbers v law has placed done agrees can made changes =
     rw changes (make-follows h job under mid v law has can.0 agrees made)
-keeps-follow h m (cmd.Enrol a b d f) under mid later numbers v law has placed done agrees can made changes = change-follows h m (cmd.Enrol a b d f) under mid later v law has placed done agrees refl (made v) changes
-keeps-follow h m (cmd.Board a b d) under mid later numbers v law has placed done agrees can made changes = change-follows h m (cmd.Board a b d) under mid later v law has placed done agrees refl (made v) changes
-keeps-follow h m (cmd.List a b) under mid later numbers v law has placed done agrees can made changes = change-follows h m (cmd.List a b) under mid later v law has placed done agrees refl (made v) changes
-keeps-follow h m (cmd.Unlist a b) under mid later numbers v law has placed done agrees can made changes = change-follows h m (cmd.Unlist a b) under mid later v law has placed done agrees refl (made v) changes
-keeps-follow h m (cmd.MarkOff a) under mid later numbers v law has placed done agrees can made changes = change-follows h m (cmd.MarkOff a) under mid later v law has placed done agrees refl (made v) changes
-keeps-follow h m (cmd.MarkOn a) under mid later numbers v law has placed done agrees can made changes = change-follows h m (cmd.MarkOn a) under mid later v law has placed done agrees refl (made v) changes
-keeps-follow h m (cmd.Qualify a b) under mid later numbers v law has placed done agrees can made changes = change-follows h m (cmd.Qualify a b) under mid later v law has placed done agrees refl (made v) changes
-keeps-follow h m (cmd.Past a b) under mid later numbers v law has placed done agrees can made changes = change-follows h m (cmd.Past a b) under mid later v law has placed done agrees refl (made v) changes
-keeps-follow h m (cmd.Next a) under mid later numbers v law has placed done agrees can made changes = change-follows h m (cmd.Next a) under mid later v law has placed done agrees refl (made v) changes
-keeps-follow h m (cmd.Offer a b) under mid later numbers v law has placed done agrees can made changes = change-follows h m (cmd.Offer a b) under mid later v law has placed done agrees refl (made v) changes
-keeps-follow h m (cmd.Hours a b) under mid later numbers v law has placed done agrees can made changes = change-follows h m (cmd.Hours a b) under mid later v law has placed done agrees refl (made v) changes
-keeps-follow h m (cmd.At a b) under mid later numbers v law has placed done agrees can made changes = change-follows h m (cmd.At a b) under mid later v law has placed done agrees refl (made v) changes
-keeps-follow h m (cmd.Explain a b) under mid later numbers v law has placed done agrees can made changes = change-follows h m (cmd.Explain a b) under mid later v law has placed done agrees refl (made v) changes
-keeps-follow h m (cmd.Vac a) under mid later numbers v law has placed done agrees can made changes = change-follows h m (cmd.Vac a) under mid later v law has placed done agrees refl (made v) changes
-keeps-follow h m (cmd.Accept a b) under mid later numbers v law has placed done agrees can made changes = change-follows h m (cmd.Accept a b) under mid later v law has placed done agrees refl (made v) changes
-keeps-follow h m (cmd.Decline a b) under mid later numbers v law has placed done agrees can made changes = change-follows h m (cmd.Decline a b) under mid later v law has placed done agrees refl (made v) changes
-keeps-follow h m (cmd.NoAnswer a b) under mid later numbers v law has placed done agrees can made changes = change-follows h m (cmd.NoAnswer a b) under mid later v law has placed done agrees refl (made v) changes
-keeps-follow h m (cmd.Withdraw a b) under mid later numbers v law has placed done agrees can made changes = change-follows h m (cmd.Withdraw a b) under mid later v law has placed done agrees refl (made v) changes
-keeps-follow h m (cmd.Annul a) under mid later numbers v law has placed done agrees can made changes = change-follows h m (cmd.Annul a) under mid later v law has placed done agrees refl (made v) changes
-keeps-follow h m (cmd.Drop a) under mid later numbers v law has placed done agrees can made changes = change-follows h m (cmd.Drop a) under mid later v law has placed done agrees refl (made v) changes
-keeps-follow h m (cmd.Happened a b) under mid later numbers v law has placed done agrees can made changes = change-follows h m (cmd.Happened a b) under mid later v law has placed done agrees refl (made v) changes
+keeps-follow h m other under mid later numbers v law has placed done agrees can made changes = change-follows h m other under mid later v law has placed done agrees refl (made v) changes
 
 -- after a command that was done the register keeps what the longer history says
 pub vacancies-keep : (h : History) (e : EntryValue) (c : Cmd) (had place : Option ℕ) (under mid later : ℕ → Option KeptVacancy) (numbers after : List ℕ)

@@ -1,4 +1,5 @@
-mod PersonLemmas
+pub mod PersonLemmas
+pub mod PlaceAmongLemmas
 mod AgreeLemmas
 mod AnswerLemmas
 mod ChangeLemmas

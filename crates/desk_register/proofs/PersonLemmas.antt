@@ -47,20 +47,7 @@ subject-told k (cmd.Happened p a) = rw (same p) (refl, (refl, (refl, (or_true k.
 subject-told k (cmd.Accept a p) = rw (same p) (refl, (refl, (refl, (or_false k.closed, refl))))
 subject-told k (cmd.NoAnswer a p) = rw (same p) (refl, (refl, (refl, (or_false k.closed, refl))))
 subject-told k (cmd.Drop p) = rw (same p) (refl, (refl, (refl, (or_false k.closed, refl))))
-subject-told k (cmd.Enrol p a b d) = tt
-subject-told k (cmd.Board a b d) = tt
-subject-told k (cmd.Unlist a b) = tt
-subject-told k (cmd.Past a b) = tt
-subject-told k (cmd.Vacancy a) = tt
-subject-told k (cmd.Next a) = tt
-subject-told k (cmd.Offer a b) = tt
-subject-told k (cmd.Decline a b) = tt
-subject-told k (cmd.Withdraw a b) = tt
-subject-told k (cmd.Annul a) = tt
-subject-told k (cmd.Hours a b) = tt
-subject-told k (cmd.At a b) = tt
-subject-told k (cmd.Explain a b) = tt
-subject-told k (cmd.Vac a) = tt
+subject-told k other = tt
 
 -- the person whom a command enrols or changes
 abbrev pub named : Cmd → Option ℕ
@@ -87,19 +74,7 @@ others-hear_nothing q (cmd.Happened p a) other = rw other (refl, (refl, (refl, (
 others-hear_nothing q (cmd.Accept a p) other = rw other (refl, (refl, (refl, (refl, λ was. refl))))
 others-hear_nothing q (cmd.NoAnswer a p) other = rw other (refl, (refl, (refl, (refl, λ was. refl))))
 others-hear_nothing q (cmd.Drop p) other = rw other (refl, (refl, (refl, (refl, λ was. refl))))
-others-hear_nothing q (cmd.Board a b d) other = (refl, (refl, (refl, (refl, λ was. refl))))
-others-hear_nothing q (cmd.Unlist a b) other = (refl, (refl, (refl, (refl, λ was. refl))))
-others-hear_nothing q (cmd.Past a b) other = (refl, (refl, (refl, (refl, λ was. refl))))
-others-hear_nothing q (cmd.Vacancy a) other = (refl, (refl, (refl, (refl, λ was. refl))))
-others-hear_nothing q (cmd.Next a) other = (refl, (refl, (refl, (refl, λ was. refl))))
-others-hear_nothing q (cmd.Offer a b) other = (refl, (refl, (refl, (refl, λ was. refl))))
-others-hear_nothing q (cmd.Decline a b) other = (refl, (refl, (refl, (refl, λ was. refl))))
-others-hear_nothing q (cmd.Withdraw a b) other = (refl, (refl, (refl, (refl, λ was. refl))))
-others-hear_nothing q (cmd.Annul a) other = (refl, (refl, (refl, (refl, λ was. refl))))
-others-hear_nothing q (cmd.Hours a b) other = (refl, (refl, (refl, (refl, λ was. refl))))
-others-hear_nothing q (cmd.At a b) other = (refl, (refl, (refl, (refl, λ was. refl))))
-others-hear_nothing q (cmd.Explain a b) other = (refl, (refl, (refl, (refl, λ was. refl))))
-others-hear_nothing q (cmd.Vac a) other = (refl, (refl, (refl, (refl, λ was. refl))))
+others-hear_nothing q silent other = (refl, (refl, (refl, (refl, λ was. refl))))
 
 pub option_or-none : {X : Type 0} (x : Option X) → x ≡ option_or x None
 option_or-none None = refl

@@ -56,27 +56,7 @@ taker-assigned h v p law = both (is_of p (taker (state_of h v))) (is_of v (assig
 lost-is : (h : History) (c : Cmd) (lost : Option ℕ) (under : ℕ → Option KeptPerson) → TakenIsAssigned h → lost ≡ loser h c
     → ((p : ℕ) → assigned_in (under p) ≡ assigned h p) → IsLost c lost under
 lost-is h (cmd.Annul v) lost under law is agrees = λ p. ap (is_of p) is ∙ taker-assigned h v p law ∙ ap (is_of v) (sym (agrees p))
-lost-is h (cmd.Enrol a b d f) lost under law is agrees = is
-lost-is h (cmd.List p a) lost under law is agrees = is
-lost-is h (cmd.MarkOff p) lost under law is agrees = is
-lost-is h (cmd.MarkOn p) lost under law is agrees = is
-lost-is h (cmd.Qualify p a) lost under law is agrees = is
-lost-is h (cmd.Happened p a) lost under law is agrees = is
-lost-is h (cmd.Accept a p) lost under law is agrees = is
-lost-is h (cmd.NoAnswer a p) lost under law is agrees = is
-lost-is h (cmd.Drop p) lost under law is agrees = is
-lost-is h (cmd.Board a b d) lost under law is agrees = is
-lost-is h (cmd.Unlist a b) lost under law is agrees = is
-lost-is h (cmd.Past a b) lost under law is agrees = is
-lost-is h (cmd.Vacancy a) lost under law is agrees = is
-lost-is h (cmd.Next a) lost under law is agrees = is
-lost-is h (cmd.Offer a b) lost under law is agrees = is
-lost-is h (cmd.Decline a b) lost under law is agrees = is
-lost-is h (cmd.Withdraw a b) lost under law is agrees = is
-lost-is h (cmd.Hours a b) lost under law is agrees = is
-lost-is h (cmd.At a b) lost under law is agrees = is
-lost-is h (cmd.Explain a b) lost under law is agrees = is
-lost-is h (cmd.Vac a) lost under law is agrees = is
+lost-is h other lost under law is agrees = is
 
 pub unknown-is : (k : Option KeptPerson) (h : History) (p : ℕ) → IsPerson k h p → is_none k ≡ is_none (person_of h p)
 unknown-is k h p agrees = go k ∙ ap is_none agrees.person
@@ -99,27 +79,7 @@ can-enrol h m (cmd.Enrol p a b d) under numbers are done = go (is_some (person_o
     go true full x y done = absurd (false≢true done)
     go false true x y done = absurd (false≢true done)
     go false false x y done = (none-is (under p) (unknown-is (under p) h p (are.each p) ∙ ap not x), rw are.order grind (arith, nat_tests, y))
-can-enrol h m (cmd.Annul a) under numbers are done = tt
-can-enrol h m (cmd.List p a) under numbers are done = tt
-can-enrol h m (cmd.MarkOff p) under numbers are done = tt
-can-enrol h m (cmd.MarkOn p) under numbers are done = tt
-can-enrol h m (cmd.Qualify p a) under numbers are done = tt
-can-enrol h m (cmd.Happened p a) under numbers are done = tt
-can-enrol h m (cmd.Accept a p) under numbers are done = tt
-can-enrol h m (cmd.NoAnswer a p) under numbers are done = tt
-can-enrol h m (cmd.Drop p) under numbers are done = tt
-can-enrol h m (cmd.Board a b d) under numbers are done = tt
-can-enrol h m (cmd.Unlist a b) under numbers are done = tt
-can-enrol h m (cmd.Past a b) under numbers are done = tt
-can-enrol h m (cmd.Vacancy a) under numbers are done = tt
-can-enrol h m (cmd.Next a) under numbers are done = tt
-can-enrol h m (cmd.Offer a b) under numbers are done = tt
-can-enrol h m (cmd.Decline a b) under numbers are done = tt
-can-enrol h m (cmd.Withdraw a b) under numbers are done = tt
-can-enrol h m (cmd.Hours a b) under numbers are done = tt
-can-enrol h m (cmd.At a b) under numbers are done = tt
-can-enrol h m (cmd.Explain a b) under numbers are done = tt
-can-enrol h m (cmd.Vac a) under numbers are done = tt
+can-enrol h m other under numbers are done = tt
 
 known-under : (h : History) (under : ℕ → Option KeptPerson) (who : Option ℕ) → ((p : ℕ) → IsPerson (under p) h p)
     → OfNumber (λ p. is_none (person_of h p) ≡ false) who → OfNumber (λ p. is_none (under p) ≡ false) who

@@ -96,26 +96,7 @@ offer-made h m at vac v p (Some job) is = refl
 asked-made : (h : History) (m at v : ℕ) (c : Cmd) → option_and_then (λ o. asks_for c) (offer_in at (answer_to h m c)) ≡ Some v → is_none (vacancy_of h v) ≡ false
 asked-made h m at v (cmd.Next vac) is = subst (λ x. is_none (vacancy_of h x) ≡ false) (some-is vac v _ is) (next-made h m at vac v (vacancy_of h vac) is)
 asked-made h m at v (cmd.Offer vac p) is = subst (λ x. is_none (vacancy_of h x) ≡ false) (some-is vac v _ is) (offer-made h m at vac v p (vacancy_of h vac) is)
-asked-made h m at v (cmd.Accept a b) is = absurd (not-asked v (cmd.Accept a b) (offer_in at (answer_to h m (cmd.Accept a b))) is refl)
-asked-made h m at v (cmd.Decline a b) is = absurd (not-asked v (cmd.Decline a b) (offer_in at (answer_to h m (cmd.Decline a b))) is refl)
-asked-made h m at v (cmd.NoAnswer a b) is = absurd (not-asked v (cmd.NoAnswer a b) (offer_in at (answer_to h m (cmd.NoAnswer a b))) is refl)
-asked-made h m at v (cmd.Withdraw a b) is = absurd (not-asked v (cmd.Withdraw a b) (offer_in at (answer_to h m (cmd.Withdraw a b))) is refl)
-asked-made h m at v (cmd.Annul a) is = absurd (not-asked v (cmd.Annul a) (offer_in at (answer_to h m (cmd.Annul a))) is refl)
-asked-made h m at v (cmd.Drop a) is = absurd (not-asked v (cmd.Drop a) (offer_in at (answer_to h m (cmd.Drop a))) is refl)
-asked-made h m at v (cmd.Happened a b) is = absurd (not-asked v (cmd.Happened a b) (offer_in at (answer_to h m (cmd.Happened a b))) is refl)
-asked-made h m at v (cmd.Enrol a b d f) is = absurd (not-asked v (cmd.Enrol a b d f) (offer_in at (answer_to h m (cmd.Enrol a b d f))) is refl)
-asked-made h m at v (cmd.Board a b d) is = absurd (not-asked v (cmd.Board a b d) (offer_in at (answer_to h m (cmd.Board a b d))) is refl)
-asked-made h m at v (cmd.List a b) is = absurd (not-asked v (cmd.List a b) (offer_in at (answer_to h m (cmd.List a b))) is refl)
-asked-made h m at v (cmd.Unlist a b) is = absurd (not-asked v (cmd.Unlist a b) (offer_in at (answer_to h m (cmd.Unlist a b))) is refl)
-asked-made h m at v (cmd.MarkOff a) is = absurd (not-asked v (cmd.MarkOff a) (offer_in at (answer_to h m (cmd.MarkOff a))) is refl)
-asked-made h m at v (cmd.MarkOn a) is = absurd (not-asked v (cmd.MarkOn a) (offer_in at (answer_to h m (cmd.MarkOn a))) is refl)
-asked-made h m at v (cmd.Qualify a b) is = absurd (not-asked v (cmd.Qualify a b) (offer_in at (answer_to h m (cmd.Qualify a b))) is refl)
-asked-made h m at v (cmd.Past a b) is = absurd (not-asked v (cmd.Past a b) (offer_in at (answer_to h m (cmd.Past a b))) is refl)
-asked-made h m at v (cmd.Vacancy a) is = absurd (not-asked v (cmd.Vacancy a) (offer_in at (answer_to h m (cmd.Vacancy a))) is refl)
-asked-made h m at v (cmd.Hours a b) is = absurd (not-asked v (cmd.Hours a b) (offer_in at (answer_to h m (cmd.Hours a b))) is refl)
-asked-made h m at v (cmd.At a b) is = absurd (not-asked v (cmd.At a b) (offer_in at (answer_to h m (cmd.At a b))) is refl)
-asked-made h m at v (cmd.Explain a b) is = absurd (not-asked v (cmd.Explain a b) (offer_in at (answer_to h m (cmd.Explain a b))) is refl)
-asked-made h m at v (cmd.Vac a) is = absurd (not-asked v (cmd.Vac a) (offer_in at (answer_to h m (cmd.Vac a))) is refl)
+asked-made h m at v other is = absurd (not-asked v other (offer_in at (answer_to h m other)) is refl)
 
 -- a vacancy that is offered was made
 offered-made : (h : History) (e : EntryValue) (v : ℕ) → IsNext h e → offered_vac e ≡ Some v → is_none (vacancy_of h v) ≡ false

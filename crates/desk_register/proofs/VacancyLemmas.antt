@@ -1,11 +1,8 @@
 -- What is kept of vacancies, after a command that was done.
-use Rattle.std.proofs.Common.{append-nil, cond, ◌++◌, ◌∷◌, [], ◌≡◌, ◌+◌, nat_lt, length-append, ◌≤◌, ◌<◌, ℕ, Bool, true, false, ◌||◌, nat_eq, List, length, Option, None, Some, is_some, is_none, refl, sym, ap, ◌∙◌, subst, arith}
+use Rattle.std.proofs.Common.{append-nil, cond, ◌++◌, ◌∷◌, [], ◌≡◌, length-append, ◌≤◌, ℕ, Bool, true, false, ◌||◌, nat_eq, List, length, Option, None, Some, is_some, is_none, refl, sym, ap, ◌∙◌, subst, arith}
 use Rattle.std.proofs.lemmas.Bool.{false≢true}
 use Rattle.std.proofs.lemmas.Bool.Decides.{nat_tests}
-use Rattle.std.proofs.lemmas.List.Quantifiers.{position-Some}
-use Rattle.std.proofs.lemmas.List.Folds.{position_or_len_push}
-use Rattle.std.specs.List.{position_or_len, cons_option}
-use Rattle.std.specs.Prelude.{get_or}
+use Rattle.std.specs.List.{cons_option}
 use Rattle.std.specs.Option.{option_map, option_map_or, option_or, option_and_then}
 use Rattle.desk_model.specs.declared.command.Cmd.{Cmd}
 use Rattle.desk_model.specs.declared.vac_state.VacState.TheVariants as state
@@ -20,24 +17,12 @@ use Rattle.desk_register.specs.Done.{IsDone}
 use Rattle.desk_register.specs.Places.{has_place}
 use Rattle.desk_register.specs.Vacancies.{HasPlace, place_among, has_in, turned_in, IsVacancy, state_then, turner, turner_place, IsChanged, ChangesAt}
 use Rattle.desk_register.specs.declared.kept_vacancy.KeptVacancy.{KeptVacancy}
-use Rattle.desk_register.proofs.PersonLemmas.{same, same_number, or_false}
+use Rattle.desk_register.proofs.PlaceAmongLemmas.{place-lt, places-apart, place-grown}
+use Rattle.desk_register.proofs.PersonLemmas.{same_number, or_false, option_or-none}
 use Rattle.desk_register.proofs.AgreeLemmas.{said-done}
 use Rattle.desk_register.proofs.SaidLemmas.{Said}
 
 -- ---- places
-
-place-Some : (numbers : List ℕ) (p i : ℕ) → place_among numbers p ≡ Some i → (i < length numbers) × (p ≡ get_or numbers i 0)
-place-Some numbers p i is = let at = position-Some (nat_eq p) numbers i 0 is in (at.0, same_number p (get_or numbers i 0) at.1)
-
--- of two persons who have places these are one just where the persons are
-places-apart : (numbers : List ℕ) (p q i j : ℕ) → place_among numbers p ≡ Some i → place_among numbers q ≡ Some j → nat_eq i j ≡ nat_eq p q
-places-apart numbers p q i j p_is q_is = go (nat_eq i j) (nat_eq p q) refl refl
-  where
-    go : (a b : Bool) → nat_eq i j ≡ a → nat_eq p q ≡ b → a ≡ b
-    go true true x y = refl
-    go false false x y = refl
-    go true false x y = absurd (false≢true (sym y ∙ rw ((place-Some numbers p i p_is).1, (place-Some numbers q j q_is).1, same_number i j x) (same (get_or numbers j 0))))
-    go false true x y = absurd (false≢true (sym x ∙ ap (λ o. option_map_or (nat_eq i) o false) (sym q_is ∙ ap (place_among numbers) (sym (same_number p q y)) ∙ p_is) ∙ same i))
 
 -- the place of who turns it down is this person's just where it is them
 turner-is : (numbers : List ℕ) (who : Option ℕ) (q j : ℕ) → HasPlace numbers who → place_among numbers q ≡ Some j → is_of j (option_and_then (place_among numbers) who) ≡ is_of q who
@@ -64,31 +49,16 @@ turner-within numbers (Some p) i above = go (place_among numbers p) refl
   where
     go : (place : Option ℕ) → place_among numbers p ≡ place → is_of i place ≡ false
     go None is = refl
-    go (Some j) is = let low = (place-Some numbers p j is).0 in grind (arith, nat_tests, low, above)
+    go (Some j) is = let low = place-lt numbers p j is in grind (arith, nat_tests, low, above)
 
--- one place more, where nothing is kept behind the last, changes for nobody whether they have turned it down
-grown-place : (f : ℕ → Bool) (at n : ℕ) (mine : Bool) → f n ≡ false
-    → option_map_or f (cond (nat_lt (cond (nat_eq at n) (n + cond mine 0 1) at) (n + 1)) (Some (cond (nat_eq at n) (n + cond mine 0 1) at)) None) false
-    ≡ option_map_or f (cond (nat_lt at n) (Some at) None) false
-grown-place f at n mine last = go mine (nat_eq at n) refl
-  where
-    go : (mine here : Bool) → nat_eq at n ≡ here
-        → option_map_or f (cond (nat_lt (cond here (n + cond mine 0 1) at) (n + 1)) (Some (cond here (n + cond mine 0 1) at)) None) false
-        ≡ option_map_or f (cond (nat_lt at n) (Some at) None) false
-    go true true here =
-        let zero : n + 0 ≡ n = omega arith in
-        let within : nat_lt n (n + 1) ≡ true = grind (arith, nat_tests) in
-        let low : nat_lt at n ≡ false = grind (arith, nat_tests, here) in
-        rw (zero, within, low) last
-    go false true here =
-        let within : nat_lt (n + 1) (n + 1) ≡ false = grind (arith, nat_tests) in
-        let low : nat_lt at n ≡ false = grind (arith, nat_tests, here) in
-        rw (within, low) refl
-    go mine false here = let same_test : nat_lt at (n + 1) ≡ nat_lt at n = grind (arith, nat_tests, here) in rw same_test refl
-
+-- one person more, where nothing is kept behind the last, changes for nobody whether they have turned it down
 turned-grown : (numbers : List ℕ) (p q : ℕ) (k : Option KeptVacancy) → has_in k (length numbers) ≡ false → turned_in (numbers ++ p ∷ []) k q ≡ turned_in numbers k q
-turned-grown numbers p q k last = rw (position_or_len_push (nat_eq q) numbers p, length-append numbers (p ∷ []))
-    (grown-place (has_in k) (position_or_len (nat_eq q) numbers) (length numbers) (nat_eq q p) last)
+turned-grown numbers p q k last = ap (λ o. option_map_or (has_in k) o false) (place-grown numbers p q) ∙ go (place_among numbers q) (nat_eq q p)
+  where
+    go : (place : Option ℕ) (them : Bool) → option_map_or (has_in k) (option_or place (cond them (Some (length numbers)) None)) false ≡ option_map_or (has_in k) place false
+    go (Some i) them = refl
+    go None true = last
+    go None false = refl
 
 -- ---- what is kept goes on by a command as what is said of it does
 
@@ -123,10 +93,6 @@ vacancy-follows h e c v k later comes law is agrees follows =
           ∙ ap (λ x. has_turned_down h v p || is_some x) (sym (said-done (turns_down v p h) e c is)) ∙ sym (comes.turned_down v p);
       behind = λ i above. follows.behind i (within-grown (persons h) (enrols_any c) i (subst (λ ns. length ns ≤ i) grows above));
     }
-
-option_or-none : {X : Type 0} (x : Option X) → x ≡ option_or x None
-option_or-none None = refl
-option_or-none (Some x) = refl
 
 -- the vacancy whose state the command changes
 here-follows : (h : History) (v : ℕ) (c : Cmd) (k later : KeptVacancy) → Said true h c v → HasPlace (persons h) (turner c)
