@@ -1,12 +1,12 @@
 -- The clocks keep on what a history says.
-use Rattle.std.proofs.Common.{get_or, zero, suc, ◌≡◌, ◌≢◌, ◌<◌, ◌+◌, ℕ, Bool, true, false, cond, nat_eq, List, [], ◌∷◌, ◌++◌, length, slice_set, Option, None, Some, is_some, unwrap_or, refl, sym, ap, ◌∙◌, subst, inl, inr, arith, append-nil, length-append}
+use Rattle.std.proofs.Common.{is_none, get_or, zero, suc, ◌≡◌, ◌≢◌, ◌<◌, ◌+◌, ℕ, Bool, true, false, cond, nat_eq, List, [], ◌∷◌, ◌++◌, length, slice_set, Option, None, Some, is_some, unwrap_or, refl, sym, ap, ◌∙◌, subst, inl, inr, arith, append-nil, length-append}
 use Rattle.std.proofs.lemmas.Bool.{false≢true}
 use Rattle.std.proofs.lemmas.Bool.Decides.{nat_tests}
 use Rattle.std.proofs.lemmas.List.{get_or-set_same, get_or-set_other, length-set}
 use Rattle.std.proofs.lemmas.Option.{slice_get-get_or, slice_get_within, get_or_from_slice_get}
 use Rattle.std.specs.Prelude.{if◌then◌else◌}
 use Rattle.std.specs.Bool.{Decides}
-use Rattle.std.specs.Option.{option_map, option_and_then, option_or}
+use Rattle.std.specs.Option.{option_map, option_or}
 use Rattle.std.specs.List.{slice_get, cons_option}
 use Rattle.desk_base.specs.Window.{WindowValue, Holds}
 use Rattle.duty_events.specs.declared.event.Event.{Event}
@@ -22,11 +22,13 @@ use Rattle.desk_model.specs.History.{History, opened, with_entry, steps, said}
 use Rattle.desk_model.specs.Register.{enrols, enrols_any, person_of, persons}
 use Rattle.desk_model.specs.Duty.{tells, told, may_come, events}
 use Rattle.desk_model.specs.Comes.{Comes, kept}
+use Rattle.desk_model.specs.Legal.{IsNext}
 use Rattle.desk_register.specs.Vacancies.{place_among}
 use Rattle.desk_register.proofs.PersonLemmas.{same, same_number, option_or-none}
 use Rattle.desk_register.proofs.PlaceAmongLemmas.{place-is, places-apart, place-grown}
-use Rattle.desk_duty.specs.Told.{home_of, told_event}
-use Rattle.desk_duty.specs.Clocks.{IsClock, AreClocks, HasTaken, Tells, Enrols, teller_place}
+use Rattle.desk_duty.specs.Told.{teller, home_of, told_event}
+use Rattle.desk_duty.specs.Clocks.{IsClock, AreClocks, HasTaken, Tells, Enrols}
+use Rattle.desk_duty.proofs.PlacedLemmas.{teller-placed}
 use Rattle.desk_duty.proofs.HeardLemmas.{EnrolsOne, TellsOne, TellsNothing, heard}
 
 -- ---- lists of clocks
@@ -239,14 +241,22 @@ event-is a b is = cc
 pub event-keeps : (h : History) (e : EntryValue) (i : ℕ) (t : Event) (clocks later : List ClockValue) → Comes h e
     → ((s : Stage) (last : Option ℕ) (x : Event) → Decides (may_follow s last x) (Follows s last x))
     → ((p : ℕ) (x : Event) → said (tells p) e ≡ Some x → may_come (events h p) x ≡ true) → ((p : ℕ) (x : Event) → said (tells p) e ≡ Some x → Holds h.opening.window (first_minute x))
-    → ((p : ℕ) (x : Event) → said (tells p) e ≡ Some x → Holds h.opening.window (last_minute x)) → said told_event e ≡ Some t → Some i ≡ teller_place h e
+    → ((p : ℕ) (x : Event) → said (tells p) e ≡ Some x → Holds h.opening.window (last_minute x)) → said told_event e ≡ Some t → ((p : ℕ) → said teller e ≡ Some p → Some i ≡ place_among (persons h) p)
     → Tells i t clocks later → AreClocks clocks h → AreClocks later (with_entry h e)
 event-keeps h e i t clocks later comes decides may first end event_is place_is tells_it are = elim (heard e) [
   | inl says ↦ absurd (other-event e t says.event event_is)
   | inr (inl says) ↦
       let told : said (tells says.person) e ≡ Some says.event = says.tells_is says.person ∙ rw (same says.person) refl in
       told-keeps h e i clocks later comes says decides (may says.person says.event told) (first says.person says.event told) (end says.person says.event told)
-      (ap (option_and_then (place_among (persons h))) (sym says.teller_is) ∙ sym place_is)
+      (sym (place_is says.person says.teller_is))
       (subst (λ x. Tells i x clocks later) (event-is t says.event (sym event_is ∙ says.event_is)) tells_it) are
   | inr (inr says) ↦ absurd (other-event e t says.event event_is)
+]
+
+-- who is told of has a place
+pub placed : (h : History) (e : EntryValue) (t : Event) → IsNext h e → said told_event e ≡ Some t → ((p : ℕ) → said teller e ≡ Some p → None ≡ place_among (persons h) p) → ⊥
+placed h e t next event_is place_is = elim (heard e) [
+  | inl says ↦ other-event e t says.event event_is
+  | inr (inl says) ↦ false≢true (sym (teller-placed h e says.person next says.teller_is) ∙ sym (ap is_none (place_is says.person says.teller_is)))
+  | inr (inr says) ↦ other-event e t says.event event_is
 ]

@@ -1,21 +1,23 @@
 -- Clocks of persons, beside what a history says of what they did.
-use Rattle.std.specs.Prelude.{◌≡◌, ℕ, Option, None, Some, List, [], ◌∷◌, ◌++◌, length, slice_set}
+use Rattle.std.specs.Prelude.{◌≡◌, ℕ, None, Some, List, [], ◌∷◌, ◌++◌, length, slice_set}
 use Rattle.std.specs.List.{slice_get}
-use Rattle.std.specs.Option.{option_map, option_and_then}
+use Rattle.std.specs.Option.{option_map}
 use Rattle.desk_base.specs.Window.{WindowValue}
 use Rattle.duty_events.specs.declared.event.Event.{Event}
 use Rattle.person_clock.specs.Clock.{ClockValue, Stands, MayTake}
-use Rattle.desk_model.specs.Entry.{EntryValue}
-use Rattle.desk_model.specs.History.{History, said}
+use Rattle.desk_model.specs.History.{History}
 use Rattle.desk_model.specs.Register.{person_of, persons}
 use Rattle.desk_model.specs.Duty.{events}
 use Rattle.desk_register.specs.Vacancies.{place_among}
 use Rattle.desk_duty.specs.declared.duty.Duty.{Duty}
-use Rattle.desk_duty.specs.Told.{teller}
 
 -- the clocks of a desk's persons, by their places
 abbrev pub clocks_of : Duty → List ClockValue
 clocks_of d = d.clocks.items
+
+-- and the desk's window
+abbrev pub window_of : Duty → WindowValue
+window_of d = d.window
 
 -- the clock is this person's: it stands for their events, in the desk's window, with their home
 pub record IsClock (c : ClockValue) (h : History) (p : ℕ) : Type 0 where
@@ -50,7 +52,3 @@ pub record IsNew (c : ClockValue) (window : WindowValue) (home : List ℕ) : Typ
 -- there is one more at the end
 abbrev pub Enrols : WindowValue → List ℕ → List ClockValue → List ClockValue → Type 0
 Enrols window home clocks later = (x : ClockValue) × ((later ≡ clocks ++ x ∷ []) × IsNew x window home)
-
--- the place of whom an entry tells an event
-abbrev pub teller_place : History → EntryValue → Option ℕ
-teller_place h e = option_and_then (place_among (persons h)) (said teller e)

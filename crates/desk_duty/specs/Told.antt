@@ -1,4 +1,4 @@
--- What a command tells of what somebody did.
+-- Whom a command enrols, with which home, and what it tells of what somebody did.
 use Rattle.std.specs.Prelude.{ℕ, Option, None, Some, List}
 use Rattle.duty_events.specs.declared.event.Event.{Event}
 use Rattle.desk_model.specs.declared.command.Cmd.{Cmd}

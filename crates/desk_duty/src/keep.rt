@@ -1,4 +1,4 @@
-ghost use Rattle.std.specs.Prelude.{◌≡◌, ◌<◌, length, IfOk};
+ghost use Rattle.std.specs.Prelude.{◌≡◌, ◌<◌, length, IfOk, ℕ, Some};
 ghost use Rattle.std.specs.Option.{option_copied};
 ghost use Rattle.std.specs.List.{slice_get};
 ghost use Rattle.desk_model.specs.declared.limits.TheConstants.{PERSON_LIMIT};
@@ -6,9 +6,9 @@ ghost use Rattle.desk_model.specs.Opening.{OpeningValue};
 ghost use Rattle.desk_model.specs.History.{History, opened, with_entry, said};
 ghost use Rattle.desk_model.specs.Register.{persons};
 ghost use Rattle.desk_model.specs.Legal.{IsLegal, IsNext};
-ghost use Rattle.desk_register.specs.Vacancies.{HasPlace};
+ghost use Rattle.desk_register.specs.Vacancies.{place_among};
 ghost use Rattle.desk_duty.specs.Told.{teller};
-ghost use Rattle.desk_duty.specs.Clocks.{clocks_of, AreClocks, Tells, Enrols, teller_place};
+ghost use Rattle.desk_duty.specs.Clocks.{clocks_of, window_of, AreClocks, Tells, Enrols};
 
 use crate::duty::Duty;
 use crate::told::{home_of, told_event};
@@ -24,7 +24,7 @@ use std::alloc::Global;
 impl Duty {
     /// Those of a desk with this window where nobody is enrolled; `NoMemory` where there is none for 1,000.
     pub fn new(alloc: Global, window: Window) -> Result<Duty, NoMemory>
-        ensures window { IfOk result (λ d. d.window ≡ window) }
+        ensures window { IfOk result (λ d. window_of d ≡ window) }
         ensures clocks { IfOk result (λ d. (o : OpeningValue) → AreClocks (clocks_of d) (opened o)) }
     {
         let clocks = Vec::with_capacity(alloc, PERSON_LIMIT)?;
@@ -40,8 +40,8 @@ impl Duty {
 
     // A clock for one person more, where there is room.
     fn enrol(&mut self, home: Code)
-        ensures clocks { length (clocks_of self.old) < PERSON_LIMIT → Enrols self.old.window home (clocks_of self.old) (clocks_of self.new) }
-        ensures window { self.new.window ≡ self.old.window }
+        ensures clocks { length (clocks_of self.old) < PERSON_LIMIT → Enrols (window_of self.old) home (clocks_of self.old) (clocks_of self.new) }
+        ensures window { window_of self.new ≡ window_of self.old }
     {
         if self.clocks.len() >= PERSON_LIMIT {
             return;
@@ -55,7 +55,7 @@ impl Duty {
     // The clock at this place takes in the event, where it may.
     fn tell(&mut self, place: usize, event: &Event)
         ensures clocks { Tells place event.now (clocks_of self.old) (clocks_of self.new) }
-        ensures window { self.new.window ≡ self.old.window }
+        ensures window { window_of self.new ≡ window_of self.old }
     {
         let Some(clock) = self.clocks.get(place) else {
             return;
@@ -67,12 +67,13 @@ impl Duty {
         }
     }
 
-    /// Keeps what an entry tells of what somebody did; `place` is that of the person among all.
+    /// Keeps what the next entry of a legal history tells: a clock more of whom it enrols, and the event that it tells of
+    /// somebody. `place` is the person's among all; it isn't looked at where the entry tells no event.
     pub fn keep(&mut self, entry: &Entry, place: Option<usize>)
-        ensures clocks { (h : History) → IsLegal h → IsNext h entry.now → self.old.window ≡ h.opening.window
-            → place ≡ teller_place h entry.now → HasPlace (persons h) (said teller entry.now)
+        ensures clocks { (h : History) → IsLegal h → IsNext h entry.now → window_of self.old ≡ h.opening.window
+            → ((p : ℕ) → said teller entry.now ≡ Some p → place ≡ place_among (persons h) p)
             → AreClocks (clocks_of self.old) h → AreClocks (clocks_of self.new) (with_entry h entry.now) }
-        ensures window { self.new.window ≡ self.old.window }
+        ensures window { window_of self.new ≡ window_of self.old }
     {
         what_an_entry_makes_of_the_desk();
         what_is_told_may_follow();

@@ -18,7 +18,7 @@ use Rattle.desk_register.proofs.ChangeLemmas.{OfNumber}
 use Rattle.desk_register.specs.Vacancies.{turner}
 use Rattle.desk_register.specs.Done.{IsDone}
 
-known : (unknown : Bool) (other : Reply) → is_done (if unknown then reply.UnknownPerson else other) ≡ true → unknown ≡ false
+pub known : (unknown : Bool) (other : Reply) → is_done (if unknown then reply.UnknownPerson else other) ≡ true → unknown ≡ false
 known true other done = absurd (false≢true done)
 known false other done = refl
 

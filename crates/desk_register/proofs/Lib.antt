@@ -1,7 +1,7 @@
 pub mod PersonLemmas
 pub mod PlaceAmongLemmas
 mod AgreeLemmas
-mod AnswerLemmas
+pub mod AnswerLemmas
 mod ChangeLemmas
 mod RosterLemmas
 mod PlaceLemmas

@@ -34,7 +34,7 @@ enrolled craft home quals = record {
   assigned = None;
 }
 
--- and what it makes of them
+-- what a command makes of the enrolled person whom it changes
 abbrev pub changed : Cmd → KeptPerson → KeptPerson
 changed (cmd.List person board) k = record k { closed = true }
 changed (cmd.MarkOff person) k = record k { marked_off = true }

@@ -3,10 +3,23 @@ use Rattle.desk_model.specs.History.{History}
 use Rattle.desk_register.specs.Persons.{KeepsPersons}
 use Rattle.desk_register.specs.Boards.{KeepsBoards}
 use Rattle.desk_register.specs.Vacancies.{KeepsVacancies}
+use Rattle.desk_register.specs.declared.roster.Roster.{Roster}
+use Rattle.desk_register.specs.declared.boards.Boards.{Boards}
+use Rattle.desk_register.specs.declared.vacancies.Vacancies.{Vacancies}
 use Rattle.desk_register.specs.declared.register.Register.{Register}
+
+-- its parts
+abbrev pub roster_of : Register → Roster
+roster_of r = r.persons
+
+abbrev pub boards_kept : Register → Boards
+boards_kept r = r.boards
+
+abbrev pub vacancies_kept : Register → Vacancies
+vacancies_kept r = r.vacancies
 
 -- all that is kept is what the history says
 pub record Keeps (r : Register) (h : History) : Type 0 where
-  pub persons : KeepsPersons r.persons h
-  pub boards : KeepsBoards r.boards h
-  pub vacancies : KeepsVacancies r.vacancies h
+  pub persons : KeepsPersons (roster_of r) h
+  pub boards : KeepsBoards (boards_kept r) h
+  pub vacancies : KeepsVacancies (vacancies_kept r) h

@@ -1,4 +1,4 @@
-ghost use Rattle.std.specs.Prelude.{◌≡◌, ◌≤◌, ◌<◌, ◌+◌, ◌++◌, ◌∷◌, [], ℕ, List, if◌then◌else◌, None, Some, IfOk, IfSome, length, position};
+ghost use Rattle.std.specs.Prelude.{◌≡◌, ◌≤◌, ◌<◌, ◌+◌, ◌++◌, ◌∷◌, [], ℕ, List, if◌then◌else◌, None, Some, IfOk, IfSome, is_some, length, position};
 ghost use Rattle.std.specs.Str.{bytes_eq};
 ghost use Rattle.std.specs.Option.{option_copied};
 ghost use Rattle.desk_register.specs.Boards.{board_under, board_codes};
@@ -12,7 +12,7 @@ use indexmap::IndexMap;
 use std::alloc::Global;
 
 impl Boards {
-    /// None.
+    /// No boards, with memory for 64; `NoMemory` where there is none for them.
     pub fn new(alloc: Global) -> Result<Boards, NoMemory>
         ensures under { IfOk result (λ r. (b : List ℕ) → board_under r b ≡ None) }
         ensures keys { IfOk result (λ r. board_codes r ≡ []) }
@@ -32,11 +32,12 @@ impl Boards {
     pub fn place(&self, board: &Code) -> Option<usize>
         ensures place { result ≡ position (bytes_eq board.now) (board_codes self.now) }
         ensures range { IfSome result (λ i. i < BOARD_LIMIT) }
+        ensures found { is_some result ≡ is_some (board_under self.now board.now) }
     {
         self.kept.get_index_of(board)
     }
 
-    /// How many there are.
+    /// How many there are, 64 at most.
     pub fn count(&self) -> usize
         ensures { result ≡ length (board_codes self.now) }
     {

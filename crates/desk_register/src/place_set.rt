@@ -1,5 +1,5 @@
 ghost use Rattle.std.specs.Prelude.{◌≡◌, ◌<◌, ◌||◌, ℕ, nat_eq, false};
-ghost use Rattle.desk_register.specs.Places.{has_place};
+ghost use Rattle.desk_register.specs.Places.{has_in_set};
 
 /// A set of places below 1,024, each kept as a bit.
 #[derive(Clone, Copy, Debug)]
@@ -10,7 +10,7 @@ pub struct PlaceSet {
 impl PlaceSet {
     /// No places.
     pub fn empty() -> PlaceSet
-        ensures { (i : ℕ) → has_place result.words i ≡ false }
+        ensures { (i : ℕ) → has_in_set result i ≡ false }
     {
         PlaceSet { words: [0; 16] }
     }
@@ -18,7 +18,7 @@ impl PlaceSet {
     /// Whether the set has this place.
     pub fn has(&self, place: usize) -> bool
         requires { place < 1_024 }
-        ensures { result ≡ has_place self.now.words place }
+        ensures { result ≡ has_in_set self.now place }
     {
         let word = self.words[place / 64];
         (word >> (place % 64)) & 1 == 1
@@ -28,7 +28,7 @@ impl PlaceSet {
     #[tactic(auto, using(crate::proofs::PlaceLemmas::inserted))]
     pub fn insert(&mut self, place: usize)
         requires { place < 1_024 }
-        ensures { (i : ℕ) → has_place self.new.words i ≡ (nat_eq place i || has_place self.old.words i) }
+        ensures { (i : ℕ) → has_in_set self.new i ≡ (nat_eq place i || has_in_set self.old i) }
     {
         let word = self.words[place / 64];
         self.words[place / 64] = word | 1 << (place % 64);

@@ -9,7 +9,7 @@ ghost use Rattle.desk_model.specs.Legal.{IsLegal, IsNext};
 ghost use Rattle.desk_register.specs.Changes.{loser};
 ghost use Rattle.desk_register.specs.Done.{IsDone};
 ghost use Rattle.desk_register.specs.Vacancies.{had_by, turner, turner_place, HasPlace, offered_vac, offered_person};
-ghost use Rattle.desk_register.specs.Register.{Keeps};
+ghost use Rattle.desk_register.specs.Register.{roster_of, boards_kept, vacancies_kept, Keeps};
 
 use crate::boards::Boards;
 use crate::kept_vacancy::{giver, turner};
@@ -47,7 +47,8 @@ fn offered(entry: &Entry) -> Option<(VacNo, PersonNo)>
 }
 
 impl Register {
-    /// That of a desk that has answered nothing yet, with memory for all that it may come to keep.
+    /// That of a desk that has answered nothing yet, with memory for all that it may come to keep; `NoMemory` where there is
+    /// none for it.
     pub fn new(alloc: Global) -> Result<Register, NoMemory>
         ensures { IfOk result (λ r. (o : OpeningValue) → Keeps r (opened o)) }
     {
@@ -63,21 +64,21 @@ impl Register {
 
     /// The persons.
     pub fn persons(&self) -> &Roster
-        ensures { result.now ≡ self.now.persons }
+        ensures { result.now ≡ roster_of self.now }
     {
         &self.persons
     }
 
     /// The boards.
     pub fn boards(&self) -> &Boards
-        ensures { result.now ≡ self.now.boards }
+        ensures { result.now ≡ boards_kept self.now }
     {
         &self.boards
     }
 
     /// The vacancies.
     pub fn vacancies(&self) -> &Vacancies
-        ensures { result.now ≡ self.now.vacancies }
+        ensures { result.now ≡ vacancies_kept self.now }
     {
         &self.vacancies
     }
@@ -123,7 +124,7 @@ impl Register {
         self.vacancies.change(cmd, had, place);
     }
 
-    /// Keeps what an entry changes.
+    /// Keeps what an entry changes, the next one of a legal history; of any other entry nothing is promised.
     pub fn keep(&mut self, entry: &Entry)
         ensures { (h : History) → IsLegal h → IsNext h entry.now → Keeps self.old h → Keeps self.new (with_entry h entry.now) }
     {

@@ -12,7 +12,7 @@ use indexmap::IndexMap;
 use std::alloc::Global;
 
 impl Roster {
-    /// An empty roster.
+    /// Nobody, with memory for 1,000; `NoMemory` where there is none for them.
     pub fn new(alloc: Global) -> Result<Roster, NoMemory>
         ensures under { IfOk result (λ r. (p : ℕ) → person_under r p ≡ None) }
         ensures keys { IfOk result (λ r. person_numbers r ≡ []) }
@@ -21,7 +21,7 @@ impl Roster {
         Ok(Roster { kept })
     }
 
-    /// What is kept of this person.
+    /// What is kept of this person; `None` where nobody has the number.
     pub fn get(&self, person: PersonNo) -> Option<&KeptPerson>
         ensures { option_copied result ≡ person_under self.now person }
     {
@@ -37,7 +37,7 @@ impl Roster {
         self.kept.get_index_of(&person)
     }
 
-    /// How many.
+    /// How many are enrolled.
     pub fn count(&self) -> usize
         ensures { result ≡ length (person_numbers self.now) }
     {

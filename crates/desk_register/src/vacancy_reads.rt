@@ -12,7 +12,7 @@ use indexmap::IndexMap;
 use std::alloc::Global;
 
 impl Vacancies {
-    /// None.
+    /// No vacancies, with memory for 20,000; `NoMemory` where there is none for them.
     pub fn new(alloc: Global) -> Result<Vacancies, NoMemory>
         ensures under { IfOk result (λ r. (v : ℕ) → vacancy_under r v ≡ None) }
         ensures keys { IfOk result (λ r. vacancy_numbers r ≡ []) }
