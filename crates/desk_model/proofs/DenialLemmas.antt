@@ -1,10 +1,10 @@
 -- A vacancy is unfilled where all of its chain are barred, and else offered to the first who isn't.
-use Rattle.std.proofs.Common.{◌≡◌, ℕ, ◌+◌, Bool, true, false, cond, nat_lt, Option, None, Some, is_none, is_some, List, [], ◌∷◌, ◌++◌, length, filter, refl, sym, ap, subst, ◌∙◌, arith}
+use Rattle.std.proofs.Common.{◌≡◌, ℕ, Bool, true, false, cond, nat_lt, Option, None, Some, is_none, is_some, List, [], ◌∷◌, ◌++◌, length, filter, refl, sym, ap, subst, ◌∙◌, arith}
 use Rattle.std.specs.List.{All, find}
 use Rattle.std.proofs.lemmas.Bool.{false≢true}
 use Rattle.std.proofs.lemmas.Bool.Decides.{nat_tests}
 use Rattle.std.proofs.lemmas.List.Folds.{find-append}
-use Rattle.std.proofs.lemmas.List.Elements.{All-nil, All-cons, All-tail, All-append}
+use Rattle.std.proofs.lemmas.List.Elements.{All-nil, All-cons, All-tail}
 use Rattle.denial_rules.specs.declared.bar.Bar.{Bar}
 use Rattle.desk_model.specs.declared.person.Person.{Person}
 use Rattle.desk_model.specs.declared.link.Link.{Link}
@@ -12,12 +12,12 @@ use Rattle.desk_model.specs.declared.reply.Reply.TheVariants as reply
 use Rattle.desk_model.specs.Job.{JobValue}
 use Rattle.desk_model.specs.History.{History}
 use Rattle.desk_model.specs.Register.{person_of}
-use Rattle.desk_model.specs.Boards.{is_on, sent_to, keep_last, order, links, chain}
+use Rattle.desk_model.specs.Boards.{chain}
 use Rattle.desk_model.specs.Bars.{bar_of, may_have, is_free, first_free}
 use Rattle.desk_model.specs.NextAnswer.{choice_answer, vacant_answer, unless_closed, known_answer, next_answer}
 use Rattle.desk_model.specs.Denials.{IsOpen, IsBarred, IsClear, AreBarred, IsUnfilled, IsFirstClear}
 use Rattle.desk_model.specs.Legal.{IsLegal}
-use Rattle.desk_model.proofs.EnrolledLemmas.{on-enrolled}
+use Rattle.desk_model.proofs.ListedLemmas.{on-listed, chain-keeps}
 
 -- ---- all of a chain are enrolled
 
@@ -32,21 +32,8 @@ filter-passes f (p ∷ ps) = go (f p) refl (filter-passes f ps)
     go true is rest = All-cons (λ q. f q ≡ true) p (filter f ps) is rest
     go false is rest = rest
 
-links-enrolled : (h : History) (b : List ℕ) (k : ℕ) (ps : List ℕ) → ((p : ℕ) → is_on h p b ≡ true → IsEnrolled h p) → All (λ p. is_on h p b ≡ true) ps
-    → All (λ (link : Link). IsEnrolled h link.person) (links b k ps)
-links-enrolled h b k [] known on = All-nil (λ (link : Link). IsEnrolled h link.person)
-links-enrolled h b k (p ∷ ps) known on =
-    All-cons (λ (link : Link). IsEnrolled h link.person) (record { board = b; position = k; person = p }) (links b (k + 1) ps)
-    (known p (on 0 p (omega arith)))
-    (links-enrolled h b (k + 1) ps known (All-tail (λ q. is_on h q b ≡ true) p ps on))
-
-chain-enrolled : (h : History) (codes : List (List ℕ)) → ((p : ℕ) (b : List ℕ) → is_on h p b ≡ true → IsEnrolled h p)
-    → All (λ (link : Link). IsEnrolled h link.person) (chain h codes)
-chain-enrolled h [] known = All-nil (λ (link : Link). IsEnrolled h link.person)
-chain-enrolled h (b ∷ codes) known =
-    All-append (λ (link : Link). IsEnrolled h link.person) (links b 1 (order h b)) (chain h codes)
-    (links-enrolled h b 1 (order h b) (λ p. known p b) (filter-passes (λ p. is_on h p b) (keep_last (sent_to h b))))
-    (chain-enrolled h codes known)
+chain-enrolled : (h : History) (codes : List (List ℕ)) → IsLegal h → All (λ (link : Link). IsEnrolled h link.person) (chain h codes)
+chain-enrolled h codes legal = chain-keeps (λ (link : Link). IsEnrolled h link.person) h codes (λ b i p on. (on-listed h legal p b on).enrolled)
 
 -- ---- one person
 
@@ -147,7 +134,7 @@ pub unfilled-barred : (h : History) (m v : ℕ) (job : JobValue) → IsLegal h �
 unfilled-barred h m v job legal is_open is = go (first_free h m job) refl (sym (open-answer h m v job is_open) ∙ is)
   where
     go : (first : Option Link) → first_free h m job ≡ first → choice_answer (length (chain h job.chain)) first ≡ reply.Unfilled (length (chain h job.chain)) → AreBarred h m job (chain h job.chain)
-    go None first is = none-barred h m job (chain h job.chain) (chain-enrolled h job.chain (on-enrolled h legal)) first
+    go None first is = none-barred h m job (chain h job.chain) (chain-enrolled h job.chain legal) first
     go (Some link) first is = cc
 
 pub barred-unfilled : (h : History) (m v : ℕ) (job : JobValue) → IsOpen h m v job → AreBarred h m job (chain h job.chain) → IsUnfilled h job (next_answer h m v)
@@ -157,7 +144,7 @@ barred-unfilled h m v job is_open barred =
 -- what a search finds is the first who is clear
 pub found-clear : (h : History) (m : ℕ) (job : JobValue) (link : Link) → IsLegal h → first_free h m job ≡ Some link → IsFirstClear h m job link
 found-clear h m job link legal first =
-    let found = found-first h m job (chain h job.chain) link (chain-enrolled h job.chain (on-enrolled h legal)) first in
+    let found = found-first h m job (chain h job.chain) link (chain-enrolled h job.chain legal) first in
     record {
       before = found.before;
       behind = found.behind;

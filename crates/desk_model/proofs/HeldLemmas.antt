@@ -1,5 +1,5 @@
 -- The end of the latest hold: what one entry more makes of it, and that it is the end of one.
-use Rattle.std.proofs.Common.{◌≡◌, ◌≤◌, ◌<◌, ◌⊎◌, inl, inr, ℕ, suc, ◌+◌, ◌^◌, Bool, true, false, cond, ◌&&◌, nat_eq, nat_lt, max, Option, None, Some, unwrap_or, List, [], ◌∷◌, ◌++◌, get_or, refl, sym, ap, subst, ◌∙◌, arith}
+use Rattle.std.proofs.Common.{◌≡◌, ◌≤◌, ◌<◌, ◌⊎◌, inl, inr, ℕ, suc, ◌+◌, ◌^◌, Bool, true, false, cond, ◌&&◌, ◌||◌, nat_eq, nat_lt, max, Option, None, Some, unwrap_or, List, [], ◌∷◌, ◌++◌, get_or, refl, sym, ap, subst, ◌∙◌, arith}
 use Rattle.std.specs.List.{All, Contains, list_any, cons_option, filter_map}
 use Rattle.std.specs.Str.{bytes_eq}
 use Rattle.std.proofs.lemmas.Bool.{false≢true}
@@ -41,6 +41,75 @@ hold_end-comes h e codes p =
     only : (o : Option ℕ) → greatest (cons_option o []) ≡ unwrap_or o 0
     only None = refl
     only (Some m) = max-none m
+
+-- by each board alone: what a command holds by a chain it holds by its first board or by the others
+hold_told-more : (b : List ℕ) (codes : List (List ℕ)) (p : ℕ) (h : History) (m : ℕ) (c : Cmd)
+    → unwrap_or (hold_told (b ∷ codes) p h m c) 0 ≡ max (unwrap_or (hold_told (b ∷ []) p h m c) 0) (unwrap_or (hold_told codes p h m c) 0)
+hold_told-more b codes p h m (cmd.Decline vac person) = go (nat_eq person p) (open_offer h vac)
+  where
+    go : (mine : Bool) (offer : Option Offer) → unwrap_or (cond (mine && is_from (b ∷ codes) offer) (Some (m + HOLD)) None) 0
+        ≡ max (unwrap_or (cond (mine && is_from (b ∷ []) offer) (Some (m + HOLD)) None) 0) (unwrap_or (cond (mine && is_from codes offer) (Some (m + HOLD)) None) 0)
+    go false offer = omega arith
+    go true None = omega arith
+    go true (Some offer) = by_board (bytes_eq offer.board b) (list_any (bytes_eq offer.board) codes)
+      where
+        by_board : (first behind : Bool) → unwrap_or (cond (first || behind) (Some (m + HOLD)) None) 0
+            ≡ max (unwrap_or (cond (first || false) (Some (m + HOLD)) None) 0) (unwrap_or (cond behind (Some (m + HOLD)) None) 0)
+        by_board true true = omega arith
+        by_board true false = omega arith
+        by_board false true = omega arith
+        by_board false false = omega arith
+hold_told-more b codes p h m other = omega arith
+
+held_by-more : (b : List ℕ) (codes : List (List ℕ)) (p : ℕ) (s : Step)
+    → unwrap_or (held_by (b ∷ codes) p s) 0 ≡ max (unwrap_or (held_by (b ∷ []) p s) 0) (unwrap_or (held_by codes p s) 0)
+held_by-more b codes p s = go (is_done s.entry.reply)
+  where
+    go : (done : Bool) → unwrap_or (cond done (hold_told (b ∷ codes) p s.before s.entry.moment s.entry.stated.cmd) None) 0
+        ≡ max (unwrap_or (cond done (hold_told (b ∷ []) p s.before s.entry.moment s.entry.stated.cmd) None) 0)
+        (unwrap_or (cond done (hold_told codes p s.before s.entry.moment s.entry.stated.cmd) None) 0)
+    go true = hold_told-more b codes p s.before s.entry.moment s.entry.stated.cmd
+    go false = omega arith
+
+greatest-more : (o : Option ℕ) (ms : List ℕ) → greatest (cons_option o ms) ≡ max (unwrap_or o 0) (greatest ms)
+greatest-more None ms = omega arith
+greatest-more (Some m) ms = refl
+
+greatest-by_board : (b : List ℕ) (codes : List (List ℕ)) (p : ℕ) (ss : List Step) → greatest (filter_map (held_by (b ∷ codes) p) ss)
+    ≡ max (greatest (filter_map (held_by (b ∷ []) p) ss)) (greatest (filter_map (held_by codes p) ss))
+greatest-by_board b codes p [] = omega arith
+greatest-by_board b codes p (s ∷ ss) =
+    omega (arith, greatest-by_board b codes p ss, held_by-more b codes p s, greatest-more (held_by (b ∷ codes) p s) (filter_map (held_by (b ∷ codes) p) ss),
+    greatest-more (held_by (b ∷ []) p s) (filter_map (held_by (b ∷ []) p) ss), greatest-more (held_by codes p s) (filter_map (held_by codes p) ss))
+
+pub hold_end-more : (h : History) (p : ℕ) (b : List ℕ) (codes : List (List ℕ)) → hold_end h (b ∷ codes) p ≡ max (hold_end h (b ∷ []) p) (hold_end h codes p)
+unfolding hold_end
+hold_end-more h p b codes = greatest-by_board b codes p (steps h)
+
+-- a chain of no boards holds nobody
+held_by-none : (p : ℕ) (s : Step) → held_by [] p s ≡ None
+held_by-none p s = go (is_done s.entry.reply) s.entry.stated.cmd
+  where
+    from_none : (offer : Option Offer) → is_from [] offer ≡ false
+    from_none None = refl
+    from_none (Some offer) = refl
+
+    go : (done : Bool) (c : Cmd) → cond done (hold_told [] p s.before s.entry.moment c) None ≡ None
+    go false c = refl
+    go true (cmd.Decline vac person) = rw (from_none (open_offer s.before vac)) (both (nat_eq person p))
+      where
+        both : (mine : Bool) → cond (mine && false) (Some (s.entry.moment + HOLD)) None ≡ None
+        both true = refl
+        both false = refl
+    go true other = refl
+
+pub hold_end-none : (h : History) (p : ℕ) → hold_end h [] p ≡ 0
+unfolding hold_end
+hold_end-none h p = go (steps h)
+  where
+    go : (ss : List Step) → greatest (filter_map (held_by [] p) ss) ≡ 0
+    go [] = refl
+    go (s ∷ ss) = rw (held_by-none p s) (go ss)
 
 max-either : (m n : ℕ) → (max m n ≡ m) ⊎ (max m n ≡ n)
 max-either m n = go (nat_lt m n) refl

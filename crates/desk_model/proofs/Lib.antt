@@ -23,7 +23,10 @@ pub mod PartLemmas
 pub mod OneStateLemmas
 pub mod MomentLemmas
 pub mod OnOfferLemmas
-pub mod EnrolledLemmas
+pub mod RestsOnLemmas
+pub mod ListedLemmas
+pub mod AheadLemmas
+pub mod ReadyLemmas
 pub mod DenialLemmas
 pub mod OfferLemmas
 pub mod FoundLemmas

@@ -60,7 +60,7 @@ free-idle h m job p free = go (person_of h p) free
 -- ---- what the entry that the rules give says of offers
 
 -- a vacancy that is vacant has no open offer
-vacant-closed : (h : History) (v : ℕ) → state_of h v ≡ state.Vacant → open_offer h v ≡ None
+pub vacant-closed : (h : History) (v : ℕ) → state_of h v ≡ state.Vacant → open_offer h v ≡ None
 vacant-closed h v is = go (is_annulled h v) (begun h v) (holder h v) (open_offer h v) is
   where
     go : (over : Bool) (b held : Option ℕ) (o : Option Offer) → cond over state.Annulled (begun_state b (taken_state held (open_state o))) ≡ state.Vacant → o ≡ None

@@ -100,8 +100,11 @@ vacancy_of-keeps Q keeps h legal = legal-induction (AllKeep Q) (λ o valid v job
 pub vacancy_of-within : (h : History) → IsLegal h → (v : ℕ) (job : JobValue) → vacancy_of h v ≡ Some job → IsWithin job
 vacancy_of-within h legal v job made = (vacancy_of-keeps Fits vacancy-fits h legal v job made).1
 
+pub vacancy_of-ends : (h : History) → IsLegal h → (v : ℕ) (job : JobValue) → vacancy_of h v ≡ Some job → job.report + job.duty + job.limbo ≤ end_of h.opening.window
+vacancy_of-ends h legal v job made = (vacancy_of-keeps Fits vacancy-fits h legal v job made).0
+
 pub vacancy-in_years : (h : History) → IsLegal h → (v : ℕ) (job : JobValue) → vacancy_of h v ≡ Some job → job.report + job.duty + job.limbo ≤ YEARS_END
 vacancy-in_years h legal v job made =
-    let ends : EndsIn h.opening job = (vacancy_of-keeps Fits vacancy-fits h legal v job made).0 in
+    let ends = vacancy_of-ends h legal v job made in
     let window = legal.opening.window in
     omega (arith, ends, first_day_mono (h.opening.window.first + h.opening.window.months) 1560 window.ends, first_day-2100)

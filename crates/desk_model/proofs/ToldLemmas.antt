@@ -1,5 +1,5 @@
 -- An event that is told and accepted lies in the window.
-use Rattle.std.proofs.Common.{is_some, length, ◌≡◌, ℕ, ◌≤◌, ◌<◌, Bool, true, false, ◌&&◌, cond, max, nat_eq, nat_le, nat_lt, Option, None, Some, List, refl, sym, subst, arith}
+use Rattle.std.proofs.Common.{◌≡◌, ℕ, ◌≤◌, ◌<◌, Bool, true, false, ◌&&◌, cond, max, nat_eq, nat_le, nat_lt, None, Some, List, refl, sym, subst, arith}
 use Rattle.std.proofs.lemmas.Bool.{false≢true}
 use Rattle.std.proofs.lemmas.Bool.Decides.{nat_tests}
 use Rattle.desk_base.specs.Window.{WindowValue, start_of, end_of, Holds}
@@ -14,10 +14,6 @@ use Rattle.desk_model.specs.Entry.{EntryValue}
 use Rattle.desk_model.specs.Fits.{IsEvent, IsCommand}
 use Rattle.desk_model.specs.History.{History, is_done, said}
 use Rattle.desk_model.specs.Duty.{tells, may_come, events}
-use Rattle.desk_model.specs.declared.limits.TheConstants.{PERSON_LIMIT}
-use Rattle.desk_model.specs.declared.person.Person.{Person}
-use Rattle.desk_model.specs.Register.{enrols_any, person_of, persons}
-use Rattle.desk_model.specs.EnrolAnswer.{enrol_answer}
 use Rattle.desk_model.specs.EventAnswer.{judged_answer, told_answer}
 use Rattle.desk_model.specs.Legal.{is_within, last_moment, answer_to, IsNext, IsLegal}
 use Rattle.desk_model.proofs.LegalLemmas.{legal-induction, said-next}
@@ -67,7 +63,7 @@ told-lies o es m t is within done = go (nat_lt (first_minute t) (start_of o.wind
         let to : last_minute t ≤ m = grind (arith, nat_tests, y) in
         ((from, omega (arith, whole, to, within.1)), (omega (arith, from, whole), omega (arith, to, within.1)))
 
-told-of : (q p : ℕ) (e t : Event) → cond (nat_eq q p) (Some e) None ≡ Some t → e ≡ t
+pub told-of : (q p : ℕ) (e t : Event) → cond (nat_eq q p) (Some e) None ≡ Some t → e ≡ t
 told-of q p e t told = go (nat_eq q p) told
   where
     go : (same : Bool) → cond same (Some e) None ≡ Some t → e ≡ t
@@ -87,24 +83,3 @@ said-lies h e p t legal is told =
 
 pub said-comes : (h : History) (e : EntryValue) (p : ℕ) (t : Event) → IsNext h e → said (tells p) e ≡ Some t → may_come (events h p) t ≡ true
 said-comes h e p t is told = let done = said-next (tells p) h e t is told in command-comes h e.moment e.stated.cmd p t is.may.stated.cmd done.0 done.1
-
--- ---- who is enrolled
-
-enrol-is : (h : History) (p : ℕ) → is_done (enrol_answer h p) ≡ true → (person_of h p ≡ None) × (length (persons h) < PERSON_LIMIT)
-enrol-is h p done = go (person_of h p) (nat_le PERSON_LIMIT (length (persons h))) refl refl done
-  where
-    go : (known : Option Person) (full : Bool) → person_of h p ≡ known → nat_le PERSON_LIMIT (length (persons h)) ≡ full
-        → is_done (cond (is_some known) reply.Used (cond full reply.PersonsFull reply.Done)) ≡ true → (person_of h p ≡ None) × (length (persons h) < PERSON_LIMIT)
-    go (Some x) full x_is y done = absurd (false≢true done)
-    go None true x_is y done = absurd (false≢true done)
-    go None false x_is y done = (x_is, grind (arith, nat_tests, y))
-
-command-enrols : (h : History) (m : ℕ) (c : Cmd) (p : ℕ) → enrols_any c ≡ Some p → is_done (answer_to h m c) ≡ true → (person_of h p ≡ None) × (length (persons h) < PERSON_LIMIT)
-command-enrols h m (cmd.Enrol q craft home able) p is done = subst (λ x. (person_of h x ≡ None) × (length (persons h) < PERSON_LIMIT)) (of_some is) (enrol-is h q done)
-  where
-    of_some : Some q ≡ Some p → q ≡ p
-    of_some is = cc
-command-enrols h m other p is done = cc
-
-pub said-enrols : (h : History) (e : EntryValue) (p : ℕ) → IsNext h e → said enrols_any e ≡ Some p → (person_of h p ≡ None) × (length (persons h) < PERSON_LIMIT)
-said-enrols h e p is told = let done = said-next enrols_any h e p is told in command-enrols h e.moment e.stated.cmd p done.0 done.1

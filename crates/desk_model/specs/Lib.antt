@@ -43,3 +43,4 @@ pub mod StatedTexts
 pub mod BarTexts
 pub mod ReplyTexts
 pub mod Journal
+pub mod RestsOn

@@ -1,8 +1,9 @@
-ghost use Rattle.std.specs.Prelude.{◌≡◌, ◌≤◌};
+ghost use Rattle.std.specs.Prelude.{◌≡◌, ◌≤◌, true, false, IfSome, IfNone};
+ghost use Rattle.desk_model.specs.History.{is_done};
 ghost use Rattle.desk_model.specs.declared.limits.TheConstants.{LAST_CALLER};
 ghost use Rattle.desk_model.specs.Entry.{entry_of};
 
-use crate::{Reply, Stated};
+use crate::{Cmd, Reply, Stated};
 use desk_base::Minute;
 use std::marker::Model;
 
@@ -61,6 +62,18 @@ impl Entry {
         ensures { result.now ≡ self.now.stated }
     {
         &self.stated
+    }
+
+    /// The command, where it was accepted.
+    pub fn accepted(&self) -> Option<&Cmd>
+        ensures done { IfSome result (λ cmd.
+            (is_done self.now.reply ≡ true) × (cmd.now ≡ self.now.stated.cmd)) }
+        ensures refused { IfNone result (is_done self.now.reply ≡ false) }
+    {
+        match &self.reply {
+            Reply::Done => Some(self.stated.cmd()),
+            _ => None,
+        }
     }
 
     /// When the desk took it.

@@ -1,15 +1,18 @@
 //! What holds of the rules' definitions.
-ghost use Rattle.std.specs.Prelude.{◌≡◌, ◌↔◌, ℕ, List, true, false};
+ghost use Rattle.std.specs.Prelude.{◌≡◌, ◌↔◌, ◌<◌, ℕ, List, true, false, is_some};
 ghost use Rattle.std.specs.List.{All, filter_map};
+ghost use Rattle.rest_rules.specs.Rest.{rest_end};
 ghost use Rattle.desk_model.specs.declared.link.Link.{Link};
+ghost use Rattle.desk_model.specs.declared.person.Person.{Person};
 ghost use Rattle.desk_model.specs.declared.reply.Reply.TheVariants as reply;
 ghost use Rattle.desk_model.specs.Entry.{EntryValue};
 ghost use Rattle.desk_model.specs.Job.{JobValue};
 ghost use Rattle.desk_model.specs.History.{History, with_entry, steps, said};
 ghost use Rattle.desk_model.specs.Boards.{order, chain};
 ghost use Rattle.desk_model.specs.Rank.{IsByRank, IsOnce};
-ghost use Rattle.desk_model.specs.Duty.{tells, events};
+ghost use Rattle.desk_model.specs.Duty.{tells, events, in_tour};
 ghost use Rattle.desk_model.specs.Offers.{open_offer, is_to};
+ghost use Rattle.desk_model.specs.Bars.{bar_of};
 ghost use Rattle.desk_model.specs.Refusal.{changes, IsSameDesk};
 ghost use Rattle.desk_model.specs.NextAnswer.{next_answer};
 ghost use Rattle.desk_model.specs.Denials.{IsOpen, AreBarred, IsUnfilled, IsFirstClear, OffersRightly, IsUnfilledRightly, DeniesRightly, RunsAroundRightly};
@@ -88,3 +91,14 @@ pub fn each_denial_names_the_first_bar()
 pub fn each_run_around_names_the_first()
     ensures { (h : History) → IsLegal h → All RunsAroundRightly (steps h) }
 {}
+
+/// Who is in a tour of duty is barred from every job at every moment, and so is who isn't, before their rest ends. It only names
+/// the law that it rests on: its clauses are the laws.
+pub fn who_is_not_ready_is_barred()
+    ensures tour { (h : History) (m : ℕ) (job : JobValue) (p : ℕ) (person : Person) → in_tour h p ≡ true
+        → is_some (bar_of h m job p person) ≡ true }
+    ensures rest { (h : History) (m : ℕ) (job : JobValue) (p : ℕ) (person : Person) → in_tour h p ≡ false
+        → m < rest_end (events h p) → is_some (bar_of h m job p person) ≡ true }
+{
+    no_bar_where_the_law_is_kept();
+}

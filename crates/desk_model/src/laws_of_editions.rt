@@ -1,12 +1,12 @@
 //! What the second edition of the rules adds to the first, and what it leaves.
-ghost use Rattle.std.specs.Prelude.{◌≡◌, ◌≢◌, ◌≤◌, ◌<◌, ◌+◌, ℕ, true, false, None, Some, List};
+ghost use Rattle.std.specs.Prelude.{◌≡◌, ◌≢◌, ◌≤◌, ◌<◌, ◌+◌, ℕ, true, false, None, Some, List, [], ◌∷◌, max};
 ghost use Rattle.std.specs.List.{All, Contains};
 ghost use Rattle.desk_model.specs.declared.edition.Edition.TheVariants as edition;
 ghost use Rattle.desk_model.specs.declared.person.Person.{Person};
 ghost use Rattle.desk_model.specs.Job.{JobValue};
 ghost use Rattle.desk_model.specs.History.{History, Step, steps};
 ghost use Rattle.desk_model.specs.Register.{vacancy_of};
-ghost use Rattle.desk_model.specs.Held.{held, HasDeclined};
+ghost use Rattle.desk_model.specs.Held.{held, hold_end, HasDeclined};
 ghost use Rattle.desk_model.specs.Bars.{facts_of, bar_of};
 ghost use Rattle.desk_model.specs.VacancyAnswer.{vacancy_answer};
 ghost use Rattle.desk_model.specs.FirstEdition.{first_bar_in_one, vacancy_answer_in_one};
@@ -49,4 +49,11 @@ pub fn a_decline_holds_for_eight_hours()
         → (until : ℕ) × ((held h m codes p ≡ Some until) × (s.entry.moment + 480 ≤ until))) (steps h) }
     ensures bars { (h : History) (m p until : ℕ) (job : JobValue) (person : Person)
         → held h m job.chain p ≡ Some until → bar_of h m job p person ≢ None }
+{}
+
+/// A chain holds a person until the greatest of the ends by each of its boards alone. It does nothing: its clauses are the laws.
+pub fn a_hold_is_by_boards()
+    ensures none { (h : History) (p : ℕ) → hold_end h [] p ≡ 0 }
+    ensures more { (h : History) (p : ℕ) (b : List ℕ) (codes : List (List ℕ))
+        → hold_end h (b ∷ codes) p ≡ max (hold_end h (b ∷ []) p) (hold_end h codes p) }
 {}

@@ -1,11 +1,9 @@
 //! What one entry more makes of the desk.
-ghost use Rattle.std.specs.Prelude.{◌≡◌, ◌≤◌, ◌<◌, ◌↔◌, ℕ, None, Some, true, false, length};
+ghost use Rattle.std.specs.Prelude.{◌≡◌, ◌≤◌, ◌↔◌, ℕ, Some, true, false};
 ghost use Rattle.std.specs.List.{All};
 ghost use Rattle.desk_model.specs.declared.vac_state.VacState.TheVariants as state;
 ghost use Rattle.desk_model.specs.Entry.{EntryValue};
 ghost use Rattle.desk_model.specs.History.{History, with_entry, steps, said};
-ghost use Rattle.desk_model.specs.declared.limits.TheConstants.{PERSON_LIMIT};
-ghost use Rattle.desk_model.specs.Register.{enrols_any, person_of, persons};
 ghost use Rattle.desk_model.specs.Duty.{tells, may_come, events};
 ghost use Rattle.desk_base.specs.Window.{Holds};
 ghost use Rattle.duty_events.specs.declared.event.Event.{Event};
@@ -40,7 +38,8 @@ pub fn what_a_command_leaves()
 /// In a legal history a vacancy is in one state, which tells all of it: it is on offer to a person exactly where its open
 /// offer is to them, taken by one exactly where it is assigned to them, begun by one exactly where they reported for it,
 /// and annulled exactly where it was. So a person is assigned to at most one vacancy, which is taken, and a vacancy to at
-/// most one person; and a vacancy is assigned to a person exactly where it is the one that is. It does nothing: its clauses are the laws.
+/// most one person. And in every history a vacancy is assigned to a person exactly where `assigned` names it. It does nothing:
+/// its clauses are the laws.
 pub fn a_vacancy_is_in_one_state()
     ensures offered { (h : History) → IsLegal h → (v p : ℕ)
         → (is_to p (open_offer h v) ≡ true) ↔ (state_of h v ≡ state.OnOffer p) }
@@ -75,12 +74,4 @@ pub fn what_is_told_may_follow()
         → said (tells p) e ≡ Some t → Holds h.opening.window (first_minute t) }
     ensures last { (h : History) (e : EntryValue) (p : ℕ) (t : Event) → IsLegal h → IsNext h e
         → said (tells p) e ≡ Some t → Holds h.opening.window (last_minute t) }
-{}
-
-/// Who is enrolled by an entry that is right was not enrolled before, when fewer than 1,000 were. It does nothing: its
-/// clauses are the laws.
-pub fn who_is_enrolled_is_new()
-    ensures new { (h : History) (e : EntryValue) (p : ℕ) → IsNext h e → said enrols_any e ≡ Some p → person_of h p ≡ None }
-    ensures few { (h : History) (e : EntryValue) (p : ℕ) → IsNext h e → said enrols_any e ≡ Some p
-        → length (persons h) < PERSON_LIMIT }
 {}

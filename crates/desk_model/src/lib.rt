@@ -10,6 +10,7 @@ mod edition;
 mod entry;
 mod job;
 mod laws;
+mod laws_of_answers;
 mod laws_of_commands;
 mod laws_of_editions;
 mod laws_of_entries;
@@ -36,15 +37,20 @@ pub use laws::{
     a_refusal_changes_nothing, each_denial_names_the_first_bar, each_offer_is_right,
     each_run_around_names_the_first, each_unfilled_vacancy_is_one, no_event_is_left_out,
     one_offer_to_a_person, order_is_by_rank, unfilled_where_all_are_barred,
+    who_is_not_ready_is_barred,
+};
+pub use laws_of_answers::{
+    each_vacancy_ends_in_the_window, no_event_lies_ahead, what_is_done_rests_on,
+    who_is_on_a_board_is_listed,
 };
 pub use laws_of_commands::{what_persons_and_boards_change, what_vacancies_and_offers_change};
 pub use laws_of_editions::{
-    a_decline_holds_for_eight_hours, no_vacancy_plans_too_long, the_first_edition_stays_as_it_was,
+    a_decline_holds_for_eight_hours, a_hold_is_by_boards, no_vacancy_plans_too_long,
+    the_first_edition_stays_as_it_was,
 };
 pub use laws_of_entries::{
     a_vacancy_is_in_one_state, each_moment_lies_in_the_window, moments_never_fall,
     what_a_command_leaves, what_an_entry_makes_of_the_desk, what_is_told_may_follow,
-    who_is_enrolled_is_new,
 };
 pub use legal::{a_legal_history_fits, boards_and_chains_are_bounded, one_history_is_legal};
 pub use limits::{
