@@ -23,7 +23,7 @@ use Rattle.desk_model.specs.Register.{enrols, enrols_any, person_of, persons}
 use Rattle.desk_model.specs.Duty.{tells, told, may_come, events}
 use Rattle.desk_model.specs.Comes.{Comes, kept}
 use Rattle.desk_model.specs.Legal.{IsNext}
-use Rattle.desk_register.specs.Vacancies.{place_among}
+use Rattle.desk_register.specs.Among.{place_among}
 use Rattle.desk_register.proofs.PersonLemmas.{same, same_number, option_or-none}
 use Rattle.desk_register.proofs.PlaceAmongLemmas.{place-is, places-apart, place-grown}
 use Rattle.desk_duty.specs.Told.{teller, home_of, told_event}

@@ -10,7 +10,7 @@ use Rattle.desk_model.specs.Entry.{EntryValue}
 use Rattle.desk_model.specs.History.{History, is_done, said, first_of}
 use Rattle.desk_model.specs.Register.{enrols, enrols_any, person_of, persons}
 use Rattle.desk_model.specs.Legal.{answer_to, IsNext}
-use Rattle.desk_register.specs.Vacancies.{place_among}
+use Rattle.desk_register.specs.Among.{place_among}
 use Rattle.desk_register.proofs.PersonLemmas.{same, same_number}
 use Rattle.desk_register.proofs.AnswerLemmas.{known, done-answer}
 use Rattle.desk_duty.specs.Told.{teller}

@@ -8,7 +8,7 @@ use Rattle.person_clock.specs.Clock.{ClockValue, Stands, MayTake}
 use Rattle.desk_model.specs.History.{History}
 use Rattle.desk_model.specs.Register.{person_of, persons}
 use Rattle.desk_model.specs.Duty.{events}
-use Rattle.desk_register.specs.Vacancies.{place_among}
+use Rattle.desk_register.specs.Among.{place_among}
 use Rattle.desk_duty.specs.declared.duty.Duty.{Duty}
 
 -- the clocks of a desk's persons, by their places

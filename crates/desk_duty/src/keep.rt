@@ -6,7 +6,7 @@ ghost use Rattle.desk_model.specs.Opening.{OpeningValue};
 ghost use Rattle.desk_model.specs.History.{History, opened, with_entry, said};
 ghost use Rattle.desk_model.specs.Register.{persons};
 ghost use Rattle.desk_model.specs.Legal.{IsLegal, IsNext};
-ghost use Rattle.desk_register.specs.Vacancies.{place_among};
+ghost use Rattle.desk_register.specs.Among.{place_among};
 ghost use Rattle.desk_duty.specs.Told.{teller};
 ghost use Rattle.desk_duty.specs.Clocks.{clocks_of, window_of, AreClocks, Tells, Enrols};
 

@@ -25,7 +25,8 @@ use Rattle.desk_model.specs.States.{state_of}
 use Rattle.desk_model.specs.Comes.{Comes, state_after, offered_by}
 use Rattle.desk_model.specs.Legal.{answer_to, IsNext}
 use Rattle.desk_register.specs.Done.{IsDone}
-use Rattle.desk_register.specs.Vacancies.{HasPlace, place_among, has_in, IsVacancy, AreVacancies, target, turner, turner_place, had_by, IsMade, CanMake, Makes, ChangesAt, Changes, offered_vac, offered_person}
+use Rattle.desk_register.specs.Among.{place_among}
+use Rattle.desk_register.specs.Vacancies.{HasPlace, has_in, IsVacancy, AreVacancies, target, turner, turner_place, had_by, IsMade, CanMake, Makes, ChangesAt, Changes, offered_vac, offered_person}
 use Rattle.desk_register.specs.declared.kept_vacancy.KeptVacancy.{KeptVacancy}
 use Rattle.desk_register.proofs.PersonLemmas.{same, same_number}
 use Rattle.desk_register.proofs.AgreeLemmas.{said-done}

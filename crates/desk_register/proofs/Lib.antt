@@ -1,5 +1,6 @@
 pub mod PersonLemmas
 pub mod PlaceAmongLemmas
+mod AmongLemmas
 mod AgreeLemmas
 pub mod AnswerLemmas
 mod ChangeLemmas

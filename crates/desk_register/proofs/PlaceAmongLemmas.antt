@@ -7,7 +7,7 @@ use Rattle.std.proofs.lemmas.List.Quantifiers.{position-Some}
 use Rattle.std.proofs.lemmas.List.Sums.{prefix_len-le-length}
 use Rattle.std.specs.Option.{option_map_or, option_or}
 use Rattle.std.specs.List.{position_or_len}
-use Rattle.desk_register.specs.Vacancies.{place_among}
+use Rattle.desk_register.specs.Among.{place_among}
 use Rattle.desk_register.proofs.PersonLemmas.{same, same_number}
 
 pub place-lt : (numbers : List ℕ) (p i : ℕ) → place_among numbers p ≡ Some i → i < length numbers

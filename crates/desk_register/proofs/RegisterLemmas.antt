@@ -11,7 +11,8 @@ use Rattle.desk_model.specs.Legal.{IsNext}
 use Rattle.desk_register.specs.Done.{IsDone}
 use Rattle.desk_register.specs.Persons.{ArePersons}
 use Rattle.desk_register.specs.Boards.{AreBoards}
-use Rattle.desk_register.specs.Vacancies.{place_among, turner, turner_place, HasPlace, AreVacancies}
+use Rattle.desk_register.specs.Among.{place_among}
+use Rattle.desk_register.specs.Vacancies.{turner, turner_place, HasPlace, AreVacancies}
 use Rattle.desk_register.specs.declared.kept_person.KeptPerson.{KeptPerson}
 use Rattle.desk_register.specs.declared.kept_vacancy.KeptVacancy.{KeptVacancy}
 use Rattle.desk_register.proofs.ChangeLemmas.{OfNumber}

@@ -25,7 +25,8 @@ use Rattle.desk_model.specs.Comes.{Comes, state_after}
 use Rattle.desk_model.specs.Legal.{answer_to, is_within, moment, IsNext}
 use Rattle.desk_register.specs.Persons.{ArePersons}
 use Rattle.desk_register.specs.Boards.{AreBoards}
-use Rattle.desk_register.specs.Vacancies.{place_among, turned_in, has_in, IsVacancy, AreVacancies, offered_vac, offered_person, on_offer_to}
+use Rattle.desk_register.specs.Among.{place_among}
+use Rattle.desk_register.specs.Vacancies.{turned_in, has_in, IsVacancy, AreVacancies, offered_vac, offered_person, on_offer_to}
 use Rattle.desk_register.specs.declared.kept_person.KeptPerson.{KeptPerson}
 use Rattle.desk_register.specs.declared.kept_vacancy.KeptVacancy.{KeptVacancy}
 use Rattle.desk_register.proofs.PersonLemmas.{same, same_number, or_false, option_or-none}

@@ -15,7 +15,8 @@ use Rattle.desk_model.specs.TurnedDown.{turns_down, has_turned_down}
 use Rattle.desk_model.specs.Comes.{Comes, state_by, state_after}
 use Rattle.desk_register.specs.Done.{IsDone}
 use Rattle.desk_register.specs.Places.{has_place}
-use Rattle.desk_register.specs.Vacancies.{HasPlace, place_among, has_in, turned_in, IsVacancy, state_then, turner, turner_place, IsChanged, ChangesAt}
+use Rattle.desk_register.specs.Among.{place_among}
+use Rattle.desk_register.specs.Vacancies.{HasPlace, has_in, turned_in, IsVacancy, state_then, turner, turner_place, IsChanged, ChangesAt}
 use Rattle.desk_register.specs.declared.kept_vacancy.KeptVacancy.{KeptVacancy}
 use Rattle.desk_register.proofs.PlaceAmongLemmas.{place-lt, places-apart, place-grown}
 use Rattle.desk_register.proofs.PersonLemmas.{same_number, or_false, option_or-none}

@@ -1,6 +1,7 @@
 -- What is kept of vacancies, beside what a history says of them.
-use Rattle.std.specs.Prelude.{◌≡◌, ℕ, ◌≤◌, ◌<◌, Bool, true, false, ◌||◌, nat_eq, Option, None, Some, is_none, if◌then◌else◌, List, length, position}
+use Rattle.std.specs.Prelude.{◌≡◌, ℕ, ◌≤◌, ◌<◌, Bool, true, false, ◌||◌, nat_eq, Option, None, Some, is_none, if◌then◌else◌, List, length}
 use Rattle.std.specs.Option.{option_map, option_map_or, option_and_then}
+use Rattle.desk_register.specs.Among.{place_among}
 use Rattle.indexmap.specs.IndexMap.{get, keys}
 use Rattle.desk_model.specs.declared.limits.TheConstants.{VACANCY_LIMIT}
 use Rattle.desk_model.specs.Job.{JobValue}
@@ -18,10 +19,6 @@ use Rattle.desk_model.specs.TurnedDown.{has_turned_down}
 use Rattle.desk_register.specs.Places.{has_place}
 use Rattle.desk_register.specs.declared.vacancies.Vacancies.{Vacancies}
 use Rattle.desk_register.specs.declared.kept_vacancy.KeptVacancy.{KeptVacancy}
-
--- the place of a person among all, in the order in which they were enrolled
-abbrev pub place_among : List ℕ → ℕ → Option ℕ
-place_among numbers p = position (nat_eq p) numbers
 
 -- the place is kept as one whose person has turned the vacancy down, and so is this person's
 abbrev pub has_in : Option KeptVacancy → ℕ → Bool

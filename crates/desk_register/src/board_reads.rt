@@ -1,6 +1,8 @@
-ghost use Rattle.std.specs.Prelude.{◌≡◌, ◌≤◌, ◌<◌, ◌+◌, ◌++◌, ◌∷◌, [], ℕ, List, if◌then◌else◌, None, Some, IfOk, IfSome, is_some, length, position};
+ghost use Rattle.std.specs.Prelude.{◌≡◌, ◌≤◌, ◌<◌, ◌+◌, ◌++◌, ◌∷◌, [], ℕ, List, if◌then◌else◌, None, Some, IfOk, IfSome, is_some, length};
+ghost use Rattle.std.specs.List.{slice_get};
 ghost use Rattle.std.specs.Str.{bytes_eq};
 ghost use Rattle.std.specs.Option.{option_copied};
+ghost use Rattle.desk_register.specs.Among.{board_place};
 ghost use Rattle.desk_register.specs.Boards.{board_under, board_codes};
 ghost use Rattle.desk_model.specs.declared.limits.TheConstants.{BOARD_LIMIT};
 
@@ -30,11 +32,21 @@ impl Boards {
 
     /// The place of the board among all, below 64; `None` where the code is no board.
     pub fn place(&self, board: &Code) -> Option<usize>
-        ensures place { result ≡ position (bytes_eq board.now) (board_codes self.now) }
+        ensures place { result ≡ board_place (board_codes self.now) board.now }
         ensures range { IfSome result (λ i. i < BOARD_LIMIT) }
         ensures found { is_some result ≡ is_some (board_under self.now board.now) }
     {
         self.kept.get_index_of(board)
+    }
+
+    /// The code of the board at this place among all; `None` where there are fewer.
+    pub fn code(&self, place: usize) -> Option<&Code>
+        ensures { option_copied result ≡ slice_get (board_codes self.now) place }
+    {
+        match self.kept.get_index(place) {
+            Some((code, _)) => Some(code),
+            None => None,
+        }
     }
 
     /// How many there are, 64 at most.

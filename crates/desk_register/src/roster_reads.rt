@@ -1,5 +1,6 @@
-ghost use Rattle.std.specs.Prelude.{◌≡◌, ◌≤◌, ◌<◌, ◌+◌, ℕ, nat_eq, if◌then◌else◌, Option, None, Some, OnOk, is_some, IfOk, IfSome, List, [], ◌∷◌, ◌++◌, length, position};
+ghost use Rattle.std.specs.Prelude.{◌≡◌, ◌≤◌, ◌<◌, ◌+◌, ℕ, nat_eq, if◌then◌else◌, Option, None, Some, OnOk, is_some, IfOk, IfSome, List, [], ◌∷◌, ◌++◌, length};
 ghost use Rattle.std.specs.Option.{option_copied};
+ghost use Rattle.desk_register.specs.Among.{place_among};
 ghost use Rattle.desk_register.specs.Persons.{person_under, person_numbers};
 ghost use Rattle.desk_model.specs.declared.limits.TheConstants.{PERSON_LIMIT};
 
@@ -30,7 +31,7 @@ impl Roster {
 
     /// The place of this person among all, below 1,000; `None` where nobody has the number.
     pub fn place(&self, person: PersonNo) -> Option<usize>
-        ensures place { result ≡ position (nat_eq person) (person_numbers self.now) }
+        ensures place { result ≡ place_among (person_numbers self.now) person }
         ensures range { IfSome result (λ i. i < PERSON_LIMIT) }
         ensures found { is_some result ≡ is_some (person_under self.now person) }
     {
