@@ -18,11 +18,11 @@ use Rattle.desk_model.specs.declared.person.Person.{Person}
 use Rattle.desk_model.specs.declared.limits.TheConstants.{PERSON_LIMIT}
 use Rattle.desk_model.specs.Opening.{OpeningValue}
 use Rattle.desk_model.specs.Entry.{EntryValue}
-use Rattle.desk_model.specs.History.{History, opened, with_entry, steps, said}
+use Rattle.desk_model.specs.History.{History, opened, with_entry, steps, said, is_done}
 use Rattle.desk_model.specs.Register.{enrols, enrols_any, person_of, persons}
 use Rattle.desk_model.specs.Duty.{tells, told, may_come, events}
 use Rattle.desk_model.specs.Comes.{Comes, kept}
-use Rattle.desk_model.specs.Legal.{IsNext}
+use Rattle.desk_model.specs.RestsOn.{RestsOn}
 use Rattle.desk_register.specs.Among.{place_among}
 use Rattle.desk_register.proofs.PersonLemmas.{same, same_number, option_or-none}
 use Rattle.desk_register.proofs.PlaceAmongLemmas.{place-is, places-apart, place-grown}
@@ -254,9 +254,10 @@ event-keeps h e i t clocks later comes decides may first end event_is place_is t
 ]
 
 -- who is told of has a place
-pub placed : (h : History) (e : EntryValue) (t : Event) → IsNext h e → said told_event e ≡ Some t → ((p : ℕ) → said teller e ≡ Some p → None ≡ place_among (persons h) p) → ⊥
-placed h e t next event_is place_is = elim (heard e) [
+pub placed : (h : History) (e : EntryValue) (t : Event) → (is_done e.reply ≡ true → RestsOn h e.stated.cmd)
+    → ((q : ℕ) → is_some (place_among (persons h) q) ≡ is_some (person_of h q)) → said told_event e ≡ Some t → ((p : ℕ) → said teller e ≡ Some p → None ≡ place_among (persons h) p) → ⊥
+placed h e t rests places event_is place_is = elim (heard e) [
   | inl says ↦ other-event e t says.event event_is
-  | inr (inl says) ↦ false≢true (sym (teller-placed h e says.person next says.teller_is) ∙ sym (ap is_none (place_is says.person says.teller_is)))
+  | inr (inl says) ↦ false≢true (sym (teller-placed h e says.person rests places says.teller_is) ∙ sym (ap is_none (place_is says.person says.teller_is)))
   | inr (inr says) ↦ other-event e t says.event event_is
 ]

@@ -14,9 +14,10 @@ use crate::duty::Duty;
 use crate::told::{home_of, told_event};
 use desk_base::{Code, NoMemory, Window};
 use desk_model::{
-    Entry, PERSON_LIMIT, what_an_entry_makes_of_the_desk, what_is_told_may_follow,
-    who_is_enrolled_is_new,
+    Entry, PERSON_LIMIT, what_an_entry_makes_of_the_desk, what_is_done_rests_on,
+    what_is_told_may_follow,
 };
+use desk_register::who_is_enrolled_has_a_place;
 use duty_events::{Event, may_follow_in_words};
 use person_clock::PersonClock;
 use std::alloc::Global;
@@ -78,7 +79,8 @@ impl Duty {
         what_an_entry_makes_of_the_desk();
         what_is_told_may_follow();
         may_follow_in_words();
-        who_is_enrolled_is_new();
+        what_is_done_rests_on();
+        who_is_enrolled_has_a_place();
         if let Some(home) = home_of(entry) {
             self.enrol(home);
             return;

@@ -1,4 +1,5 @@
 use Rattle.std.proofs.Common.{sym, ◌∙◌}
+use Rattle.desk_duty.proofs.PlacedLemmas.{said-may}
 use Rattle.desk_duty.proofs.ClockLemmas.{home-keeps, none-keeps, event-keeps, placed}
 use Rattle.desk_duty.proofs.duty.Duty.keep.Goals as goal
 
@@ -7,7 +8,7 @@ returns-in-Some-clause-clocks c h legal next window place are =
     let e = c.args.entry.now in
     home-keeps h e c.args.self.now.window c.in-Some.home c.args.self.now.clocks.items c.enrol.new.self.clocks.items
     (c.what_an_entry_makes_of_the_desk.ensures.comes h e) window
-    (λ p told. c.who_is_enrolled_is_new.ensures.new h e p next told) (λ p told. c.who_is_enrolled_is_new.ensures.few h e p next told)
+    (λ p told. (said-may h e p (c.what_is_done_rests_on.ensures.done h e next) told).0) (λ p told. (said-may h e p (c.what_is_done_rests_on.ensures.done h e next) told).1)
     (sym c.home_of.ensures ∙ c.in-Some.is) c.enrol.ensures.clocks are
 
 pub returns-in_default-told_event-clause-clocks : goal.returns-in_default-told_event-clause-clocks
@@ -26,5 +27,6 @@ returns-clause-clocks c h legal next window place are =
 
 pub returns-in_default-place-clause-clocks : goal.returns-in_default-place-clause-clocks
 returns-in_default-place-clause-clocks c h legal next window place are =
-    absurd (placed h c.args.entry.now c.in-Some-told_event.event next (sym c.told_event.ensures ∙ c.in-Some-told_event.is)
+    absurd (placed h c.args.entry.now c.in-Some-told_event.event (c.what_is_done_rests_on.ensures.done h c.args.entry.now next)
+    (c.who_is_enrolled_has_a_place.ensures.persons h) (sym c.told_event.ensures ∙ c.in-Some-told_event.is)
     (λ p of. sym c.in_default-place.is ∙ place p of))
