@@ -2,7 +2,6 @@ ghost use Rattle.std.specs.Prelude.{◌≡◌, None, fold};
 ghost use Rattle.desk_model.specs.Assigned.{reports};
 ghost use Rattle.desk_model.specs.Comes.{assigned_by, assigned_after};
 
-use crate::history::accepted;
 use crate::offers::is_of;
 use desk_base::{PersonNo, VacNo};
 use desk_model::{Cmd, Entry};
@@ -35,7 +34,7 @@ fn assigned_by(cmd: &Cmd, person: PersonNo, was: Option<VacNo>) -> Option<VacNo>
 pub(crate) fn assigned_after(entry: &Entry, person: PersonNo, was: Option<VacNo>) -> Option<VacNo>
     ensures { result ≡ assigned_after person entry.now was }
 {
-    match accepted(entry) {
+    match entry.accepted() {
         Some(cmd) => assigned_by(cmd, person, was),
         None => was,
     }

@@ -4,7 +4,6 @@ ghost use Rattle.desk_model.specs.History.{said, last_of};
 ghost use Rattle.desk_model.specs.Register.{sets_up_any};
 ghost use Rattle.desk_model.specs.Boards.{puts};
 
-use crate::history::accepted;
 use crate::register::sets_up_any;
 use desk_base::{Code, PersonNo};
 use desk_model::{Cmd, Entry};
@@ -13,7 +12,7 @@ use desk_model::{Cmd, Entry};
 pub(crate) fn puts(entry: &Entry, person: PersonNo, board: &Code) -> Option<bool>
     ensures { result ≡ said (puts board.now person) entry.now }
 {
-    let cmd = accepted(entry)?;
+    let cmd = entry.accepted()?;
     match cmd {
         Cmd::List {
             person: listed,

@@ -4,7 +4,6 @@ ghost use Rattle.desk_model.specs.Opening.{OpeningValue};
 ghost use Rattle.desk_model.specs.History.{history_of, said, first_of};
 ghost use Rattle.desk_model.specs.Duty.{tells, events, closes};
 
-use crate::history::accepted;
 use desk_base::{Minute, PersonNo};
 use desk_model::{Cmd, Entry};
 use duty_events::{Event, Stage, may_follow};
@@ -13,7 +12,7 @@ use duty_events::{Event, Stage, may_follow};
 fn told(entry: &Entry, person: PersonNo) -> Option<Event>
     ensures { result ≡ said (tells person) entry.now }
 {
-    let cmd = accepted(entry)?;
+    let cmd = entry.accepted()?;
     match cmd {
         Cmd::Past {
             person: other,
@@ -68,7 +67,7 @@ pub(crate) fn latest(events: &[Event]) -> Option<Minute>
 fn closes(entry: &Entry, person: PersonNo) -> bool
     ensures { result ≡ is_some (said (closes person) entry.now) }
 {
-    let Some(cmd) = accepted(entry) else {
+    let Some(cmd) = entry.accepted() else {
         return false;
     };
     match cmd {

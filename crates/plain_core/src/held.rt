@@ -3,7 +3,6 @@ ghost use Rattle.desk_model.specs.Opening.{OpeningValue};
 ghost use Rattle.desk_model.specs.History.{history_of, said};
 ghost use Rattle.desk_model.specs.Held.{is_from, hold_told, hold_end, held};
 
-use crate::history::accepted;
 use crate::offers::open_offer;
 use desk_base::{Code, Minute, PersonNo};
 use desk_model::{Cmd, Edition, Entry, HOLD, Offer, Opening};
@@ -23,7 +22,7 @@ fn hold_told(before: &[Entry], entry: &Entry, boards: &[Code], person: PersonNo)
     ensures { (o : OpeningValue)
         → result ≡ said (hold_told boards.now person (history_of o before.now) entry.now.moment) entry.now }
 {
-    let cmd = accepted(entry)?;
+    let cmd = entry.accepted()?;
     match cmd {
         Cmd::Decline {
             vac,

@@ -7,7 +7,6 @@ mod boards;
 mod chains;
 mod duty;
 mod held;
-mod history;
 mod kept;
 mod lists;
 mod marks;

@@ -2,7 +2,6 @@ ghost use Rattle.std.specs.Prelude.{◌≡◌, false, unwrap_or};
 ghost use Rattle.desk_model.specs.History.{said, last_of};
 ghost use Rattle.desk_model.specs.Marks.{marks};
 
-use crate::history::accepted;
 use desk_base::PersonNo;
 use desk_model::{Cmd, Entry};
 
@@ -10,7 +9,7 @@ use desk_model::{Cmd, Entry};
 fn marks(entry: &Entry, person: PersonNo) -> Option<bool>
     ensures { result ≡ said (marks person) entry.now }
 {
-    let cmd = accepted(entry)?;
+    let cmd = entry.accepted()?;
     match cmd {
         Cmd::Enrol { person: other, .. } | Cmd::MarkOn { person: other } => {
             (*other == person).then_some(false)

@@ -4,7 +4,6 @@ ghost use Rattle.desk_model.specs.History.{history_of, said, last_of};
 ghost use Rattle.desk_model.specs.Offers.{asks_for, offer_in, is_of, settles, opens, ends, offer_said, offered_to, is_to};
 ghost use Rattle.desk_model.proofs.OnOfferLemmas.{while_open};
 
-use crate::history::accepted;
 use desk_base::{PersonNo, VacNo};
 use desk_model::{Cmd, Entry, Offer, Reply};
 
@@ -48,7 +47,7 @@ pub(crate) fn is_of(vac: VacNo, other: &Option<VacNo>) -> bool
 fn settles(entry: &Entry) -> Option<VacNo>
     ensures { result ≡ said settles entry.now }
 {
-    let cmd = accepted(entry)?;
+    let cmd = entry.accepted()?;
     match cmd {
         Cmd::Accept { vac, .. }
         | Cmd::Decline { vac, .. }

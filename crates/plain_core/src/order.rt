@@ -7,7 +7,6 @@ ghost use Rattle.desk_model.specs.Boards.{is_at, released, declined, sends, orde
 ghost use Rattle.desk_model.specs.Comes.{takes_off, without, sent_last};
 
 use crate::boards::puts;
-use crate::history::accepted;
 use crate::offers::open_offer;
 use crate::register::sets_up;
 use desk_base::{Code, PersonNo};
@@ -24,7 +23,7 @@ fn sends(
     ensures { (o : OpeningValue) → board_of (history_of o before.now) board.now ≡ setup.now
         → result ≡ said (sends board.now (history_of o before.now)) entry.now }
 {
-    let cmd = accepted(entry)?;
+    let cmd = entry.accepted()?;
     match cmd {
         Cmd::List {
             person,
@@ -82,7 +81,7 @@ fn is_at(place: &Code, board: &Option<BoardSetup>) -> bool
 fn takes_off(entry: &Entry, board: &Code) -> Option<PersonNo>
     ensures { result ≡ said (takes_off board.now) entry.now }
 {
-    let cmd = accepted(entry)?;
+    let cmd = entry.accepted()?;
     match cmd {
         Cmd::Unlist {
             person,

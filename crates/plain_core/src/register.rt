@@ -3,7 +3,6 @@ ghost use Rattle.std.specs.List.{filter_map};
 ghost use Rattle.desk_model.specs.History.{said, first_of, last_of};
 ghost use Rattle.desk_model.specs.Register.{enrols, enrols_any, gives, sets_up, sets_up_any, makes, makes_any};
 
-use crate::history::accepted;
 use desk_base::{Code, PersonNo, VacNo};
 use desk_model::{BoardSetup, Cmd, Entry, Job, Person};
 use qualifications::Quals;
@@ -12,7 +11,7 @@ use qualifications::Quals;
 fn enrols(entry: &Entry, person: PersonNo) -> Option<Person>
     ensures { result ≡ said (enrols person) entry.now }
 {
-    let cmd = accepted(entry)?;
+    let cmd = entry.accepted()?;
     let Cmd::Enrol {
         person: enrolled,
         craft,
@@ -35,7 +34,7 @@ fn enrols(entry: &Entry, person: PersonNo) -> Option<Person>
 fn gives(entry: &Entry, person: PersonNo) -> Option<Quals>
     ensures { result ≡ said (gives person) entry.now }
 {
-    let cmd = accepted(entry)?;
+    let cmd = entry.accepted()?;
     match cmd {
         Cmd::Enrol {
             person: other,
@@ -54,7 +53,7 @@ fn gives(entry: &Entry, person: PersonNo) -> Option<Quals>
 fn enrols_any(entry: &Entry) -> Option<PersonNo>
     ensures { result ≡ said enrols_any entry.now }
 {
-    let cmd = accepted(entry)?;
+    let cmd = entry.accepted()?;
     let Cmd::Enrol { person, .. } = cmd else {
         return None;
     };
@@ -65,7 +64,7 @@ fn enrols_any(entry: &Entry) -> Option<PersonNo>
 pub(crate) fn sets_up(entry: &Entry, board: &Code) -> Option<BoardSetup>
     ensures { result ≡ said (sets_up board.now) entry.now }
 {
-    let cmd = accepted(entry)?;
+    let cmd = entry.accepted()?;
     let Cmd::Board {
         board: code,
         extra,
@@ -87,7 +86,7 @@ pub(crate) fn sets_up(entry: &Entry, board: &Code) -> Option<BoardSetup>
 pub(crate) fn sets_up_any(entry: &Entry) -> Option<Code>
     ensures { result ≡ said sets_up_any entry.now }
 {
-    let cmd = accepted(entry)?;
+    let cmd = entry.accepted()?;
     let Cmd::Board { board, .. } = cmd else {
         return None;
     };
@@ -98,7 +97,7 @@ pub(crate) fn sets_up_any(entry: &Entry) -> Option<Code>
 fn makes(entry: &Entry, vac: VacNo) -> Option<Job>
     ensures { result ≡ said (makes vac) entry.now }
 {
-    let cmd = accepted(entry)?;
+    let cmd = entry.accepted()?;
     let Cmd::Vacancy(job) = cmd else {
         return None;
     };
@@ -112,7 +111,7 @@ fn makes(entry: &Entry, vac: VacNo) -> Option<Job>
 pub(crate) fn makes_any(entry: &Entry) -> Option<VacNo>
     ensures { result ≡ said makes_any entry.now }
 {
-    let cmd = accepted(entry)?;
+    let cmd = entry.accepted()?;
     let Cmd::Vacancy(job) = cmd else {
         return None;
     };

@@ -3,7 +3,6 @@ ghost use Rattle.desk_model.specs.declared.vac_state.VacState.TheVariants.{Vacan
 ghost use Rattle.desk_model.specs.Comes.{given_up, started, state_by, state_after};
 
 use crate::assigned::reports;
-use crate::history::accepted;
 use crate::offers::{asks_for, is_of, offer_in};
 use desk_base::{PersonNo, VacNo};
 use desk_model::{Cmd, Entry, VacState};
@@ -49,7 +48,7 @@ fn state_by(cmd: &Cmd, vac: VacNo, how: VacState) -> VacState
 fn state_after(entry: &Entry, vac: VacNo, how: VacState) -> VacState
     ensures { result ≡ state_after vac entry.now how }
 {
-    if let Some(cmd) = accepted(entry) {
+    if let Some(cmd) = entry.accepted() {
         return state_by(cmd, vac, how);
     }
     match offer_in(entry) {

@@ -5,7 +5,6 @@ ghost use Rattle.desk_model.specs.Assigned.{assigned};
 ghost use Rattle.desk_model.specs.TurnedDown.{turns_down, has_turned_down};
 
 use crate::assigned::assigned_after;
-use crate::history::accepted;
 use crate::offers::is_of;
 use desk_base::{PersonNo, VacNo};
 use desk_model::{Cmd, Entry};
@@ -15,7 +14,7 @@ fn turns_down(entry: &Entry, vac: VacNo, person: PersonNo, was: &Option<VacNo>) 
     ensures { (h : History) → was.now ≡ assigned h person
         → result ≡ is_some (said (turns_down vac person h) entry.now) }
 {
-    let Some(cmd) = accepted(entry) else {
+    let Some(cmd) = entry.accepted() else {
         return false;
     };
     match cmd {
