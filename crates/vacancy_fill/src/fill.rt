@@ -1,4 +1,5 @@
-ghost use Rattle.std.specs.Prelude.{◌≡◌, ◌+◌, ◌<◌, ◌≤◌, length};
+ghost use Rattle.std.specs.Prelude.{◌≡◌, ℕ, ◌+◌, ◌<◌, ◌≤◌, Option, length};
+ghost use Rattle.denial_rules.specs.declared.bar.Bar.{Bar};
 ghost use Rattle.std.specs.List.{All};
 ghost use Rattle.vacancy_fill.specs.Chain.{members_at, chain_from, first_free, BarsUnready, most_steps};
 
@@ -20,8 +21,9 @@ pub struct Found {
     pub position: u16,
 }
 
-/// The first of the chain whom nothing bars; `None` exactly where each has a bar. The chain names at most 4 boards by their
-/// indexes, and a member of these who isn't ready at the minute has a bar. The steps are nodes that searches of boards read.
+/// The first of the chain whom nothing bars; `None` exactly where each has a bar: as long as the judge says what bars each, and a
+/// member of the chain's boards who isn't ready at the minute has a bar. The chain names at most 4 boards by their indexes. The
+/// steps are nodes that searches of boards read.
 pub fn first<J: Judge, L: Ledger>(
     boards: &[Board],
     chain: &[u8],
@@ -31,9 +33,12 @@ pub fn first<J: Judge, L: Ledger>(
 ) -> Option<Found>
     requires few { length chain.now ≤ 4 }
     requires boards { All (λ index. index < length boards.now) chain.now }
-    requires unready { All (λ index. BarsUnready (J.barred judge.now) m (members_at boards.now index)) chain.now }
-    ensures first { result ≡ first_free (J.barred judge.now) (chain_from boards.now 0 chain.now) }
-    ensures cost { steps.new ≤ steps.old + most_steps (J.barred judge.now) m boards.now chain.now }
+    ensures first { (barred : ℕ → Option Bar) → J.judges judge.now barred
+        → All (λ index. BarsUnready barred m (members_at boards.now index)) chain.now
+        → result ≡ first_free barred (chain_from boards.now 0 chain.now) }
+    ensures cost { (barred : ℕ → Option Bar) → J.judges judge.now barred
+        → All (λ index. BarsUnready barred m (members_at boards.now index)) chain.now
+        → steps.new ≤ steps.old + most_steps barred m boards.now chain.now }
 {
     for link in 0..chain.len() {
         let board = &boards[usize::from(chain[link])];

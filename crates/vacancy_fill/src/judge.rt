@@ -6,10 +6,10 @@ use desk_base::PersonNo;
 
 /// What bars persons from a vacancy at a moment.
 pub trait Judge {
-    /// What bars a person, if anything does.
-    ghost barred: { Self → ℕ → Option Bar };
+    // It bars each person as this function says.
+    ghost judges: { Self → (ℕ → Option Bar) → Type 0 };
 
     /// The first bar that keeps a person from the vacancy; `None` where none does.
     fn bar(&self, person: PersonNo) -> Option<Bar>
-        ensures { result ≡ barred self.now person };
+        ensures { (barred : ℕ → Option Bar) → judges self.now barred → result ≡ barred person };
 }

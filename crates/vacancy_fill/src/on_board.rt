@@ -1,5 +1,6 @@
 //! The first of one board whom nothing bars.
-ghost use Rattle.std.specs.Prelude.{◌≡◌, ◌+◌, ◌*◌, ◌≤◌, true, length};
+ghost use Rattle.std.specs.Prelude.{◌≡◌, ℕ, ◌+◌, ◌*◌, ◌≤◌, true, Option, length};
+ghost use Rattle.denial_rules.specs.declared.bar.Bar.{Bar};
 ghost use Rattle.slot_tree.specs.Slots.{filled};
 ghost use Rattle.pool_board.specs.Members.{persons, are_distinct};
 ghost use Rattle.vacancy_fill.specs.Chain.{places, first_free, BarsUnready, passed_over};
@@ -21,10 +22,10 @@ pub(crate) fn first_on<J: Judge, L: Ledger>(
     requires length { length slots.now ≡ 1_024 }
     requires most { length (filled slots.now) ≤ 500 }
     requires distinct { are_distinct (persons (filled slots.now)) ≡ true }
-    requires unready { BarsUnready (J.barred judge.now) m (filled slots.now) }
-    ensures first { result ≡ first_free (J.barred judge.now) (places link 1 (persons (filled slots.now))) }
-    ensures cost { steps.new ≤ steps.old
-        + (passed_over (J.barred judge.now) m (filled slots.now) + 1) * (4 * (10 + 1)) }
+    ensures first { (barred : ℕ → Option Bar) → J.judges judge.now barred → BarsUnready barred m (filled slots.now)
+        → result ≡ first_free barred (places link 1 (persons (filled slots.now))) }
+    ensures cost { (barred : ℕ → Option Bar) → J.judges judge.now barred → BarsUnready barred m (filled slots.now)
+        → steps.new ≤ steps.old + (passed_over barred m (filled slots.now) + 1) * (4 * (10 + 1)) }
 {
     let mut from = 0;
     while let Some(at) = slots.first_from(from, m, steps) {

@@ -1,7 +1,6 @@
 //! Chains of boards against a reading of them place by place. The judge bars persons of odd numbers; whoever isn't ready has one.
-ghost use Rattle.std.specs.Prelude.{◌≡◌, ◌<◌, ◌≤◌, ◌%◌, ◌==◌, IfOk, true, Some, None, length, if◌then◌else◌};
+ghost use Rattle.std.specs.Prelude.{◌≡◌, ◌<◌, ◌≤◌, length};
 ghost use Rattle.std.specs.List.{All};
-ghost use Rattle.vacancy_fill.specs.Chain.{members_at, BarsUnready};
 
 use crate::{Found, Judge, first};
 use denial_rules::Bar;
@@ -16,10 +15,10 @@ use std::test::Fail;
 struct Odd;
 
 impl Judge for Odd {
-    ghost use Rattle.std.specs.Prelude.{◌%◌, ◌==◌, Some, None, if◌then◌else◌};
+    ghost use Rattle.std.specs.Prelude.{◌≡◌, ℕ, ◌%◌, ◌==◌, Some, None, if◌then◌else◌};
     ghost use Rattle.denial_rules.specs.declared.bar.Bar.TheVariants.{Answered};
 
-    ghost barred = { λ _ p. if p % 2 == 1 then Some Answered else None };
+    ghost judges = { λ _ barred. (p : ℕ) → barred p ≡ (if p % 2 == 1 then Some Answered else None) };
 
     fn bar(&self, person: PersonNo) -> Option<Bar> {
         if person.number() % 2 == 1 {
@@ -31,17 +30,12 @@ impl Judge for Odd {
 }
 
 // Whether a person is ready at the minute, or has an odd number.
-fn may_stand(person: PersonNo, ready: Minute, m: Minute) -> bool
-    ensures { result ≡ true → m < ready → (person % 2 == 1) ≡ true }
-{
+fn may_stand(person: PersonNo, ready: Minute, m: Minute) -> bool {
     ready <= m || person.number() % 2 == 1
 }
 
 // Puts a person at the bottom who may stand there and isn't listed.
-fn put(board: &mut Board, person: PersonNo, ready: Minute, m: Minute)
-    requires { BarsUnready (λ p. if p % 2 == 1 then Some Bar.Answered else None) m board.old.members }
-    ensures { BarsUnready (λ p. if p % 2 == 1 then Some Bar.Answered else None) m board.new.members }
-{
+fn put(board: &mut Board, person: PersonNo, ready: Minute, m: Minute) {
     if board.position(person).is_none() && may_stand(person, ready, m) {
         match board.list(person, ready) {
             Ok(()) => {}
@@ -50,9 +44,7 @@ fn put(board: &mut Board, person: PersonNo, ready: Minute, m: Minute)
     }
 }
 
-fn board(alloc: Global, members: &[(u32, u64)], m: Minute) -> Result<Board, Fail>
-    ensures { IfOk result (λ board. BarsUnready (λ p. if p % 2 == 1 then Some Bar.Answered else None) m board.members) }
-{
+fn board(alloc: Global, members: &[(u32, u64)], m: Minute) -> Result<Board, Fail> {
     let place = Code::read(b"HOM").ok_or("no code")?;
     let mut board = Board::new(alloc, place, false)?;
     for (number, ready) in members {
@@ -69,7 +61,6 @@ fn first_of<L: Ledger>(blank: Blank, boards: &[Board], chain: &[u8], m: Minute) 
     requires some { 0 < blank.parts }
     requires few { length chain.now ≤ 4 }
     requires boards { All (λ index. index < length boards.now) chain.now }
-    requires unready { All (λ index. BarsUnready (λ p. if p % 2 == 1 then Some Bar.Answered else None) m (members_at boards.now index)) chain.now }
 {
     let mut steps = Steps::<L>::new(blank);
     first(boards, chain, &Odd, m, &mut steps)

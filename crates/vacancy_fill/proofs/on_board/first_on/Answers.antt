@@ -13,23 +13,21 @@ pub overflow_add-result : goal.overflow_add-result
 overflow_add-result g c = omega (arith, c.before-then-is_none.ensures, before-few c.args.slots.now c.in-Some.at, c.requires.most)
 
 pub returns-then-is_none-clause-first : goal.returns-then-is_none-clause-first
-returns-then-is_none-clause-first g c =
+returns-then-is_none-clause-first g c bar judges unready =
     let slots = c.args.slots.now in
-    let bar = g.J.Judge.barred c.args.judge.now in
     let is : slot_at slots c.in-Some.at ≡ Some c.in-Some-at.held = sym c.at.ensures ∙ c.in-Some-at.is in
     let unbarred : is_some c.bar.result ≡ false = grind (arith, c.is_none.ensures, c.if-is_none.true) in
-    let free : is_none (bar c.in-Some-at.held.person) ≡ true = ap is_none (sym c.bar.ensures) ∙ is_none-from c.bar.result unbarred in
-    let barred = barred-to bar c.args.m slots c.loop-at.from c.in-Some.at c.requires.unready c.requires.distinct c.loop-at.invariant.barred c.in-Some.ensures.found in
+    let free : is_none (bar c.in-Some-at.held.person) ≡ true = ap is_none (sym (c.bar.ensures bar judges)) ∙ is_none-from c.bar.result unbarred in
+    let barred = barred-to bar c.args.m slots c.loop-at.from c.in-Some.at unready c.requires.distinct (c.loop-at.invariant.barred bar judges unready) c.in-Some.ensures.found in
     let place : 1 + length (filled (take c.in-Some.at slots)) ≡ c.before-then-is_none.result + 1 = omega (arith, c.before-then-is_none.ensures) in
     sym (first_free-there bar c.args.link 1 slots c.in-Some.at c.in-Some-at.held barred is free
     ∙ ap (λ n. let f : Found = record { link = c.args.link; person = c.in-Some-at.held.person; position = n } in Some f) place)
 
 pub returns-then-is_none-clause-cost : goal.returns-then-is_none-clause-cost
-returns-then-is_none-clause-cost g c =
-    let bar = g.J.Judge.barred c.args.judge.now in
+returns-then-is_none-clause-cost g c bar judges unready =
     omega (
       arith,
-      c.loop-at.invariant.cost,
+      c.loop-at.invariant.cost bar judges unready,
       c.in-Some.ensures.cost 10 c.requires.length,
       passed_over-most bar c.args.m c.args.slots.now c.loop-at.from (omega (arith, c.loop-at.invariant.within, c.requires.length)),
     )
@@ -37,34 +35,33 @@ returns-then-is_none-clause-cost g c =
 pub loop-at-preserved : goal.loop-at-preserved
 loop-at-preserved g c =
     let slots = c.args.slots.now in
-    let bar = g.J.Judge.barred c.args.judge.now in
     let is : slot_at slots c.in-Some.at ≡ Some c.in-Some-at.held = sym c.at.ensures ∙ c.in-Some-at.is in
     let some : is_some c.bar.result ≡ true = grind (arith, c.is_none.ensures, c.if-is_none.false) in
-    let here : is_some (bar c.in-Some-at.held.person) ≡ true = ap is_some (sym c.bar.ensures) ∙ some in
-    let barred = barred-to bar c.args.m slots c.loop-at.from c.in-Some.at c.requires.unready c.requires.distinct c.loop-at.invariant.barred c.in-Some.ensures.found in
     record {
       within = omega (arith, slot_at-within slots c.in-Some.at (ap is_some is), c.requires.length);
-      barred = barred-next bar slots c.in-Some.at c.in-Some-at.held barred is here;
-      cost = omega (
+      barred = λ bar judges unready.
+          barred-next bar slots c.in-Some.at c.in-Some-at.held
+          (barred-to bar c.args.m slots c.loop-at.from c.in-Some.at unready c.requires.distinct (c.loop-at.invariant.barred bar judges unready) c.in-Some.ensures.found)
+          is (ap is_some (sym (c.bar.ensures bar judges)) ∙ some);
+      cost = λ bar judges unready. omega (
         arith,
-        c.loop-at.invariant.cost,
+        c.loop-at.invariant.cost bar judges unready,
         c.in-Some.ensures.cost 10 c.requires.length,
-        passed_over-next bar c.args.m slots c.loop-at.from c.in-Some.at c.in-Some-at.held c.in-Some.ensures.found.behind is c.in-Some.ensures.found.ready here,
+        passed_over-next bar c.args.m slots c.loop-at.from c.in-Some.at c.in-Some-at.held c.in-Some.ensures.found.behind is c.in-Some.ensures.found.ready
+            (ap is_some (sym (c.bar.ensures bar judges)) ∙ some),
       );
     }
 
 pub returns-clause-first : goal.returns-clause-first
-returns-clause-first g c =
-    let bar = g.J.Judge.barred c.args.judge.now in
+returns-clause-first g c bar judges unready =
     sym (first_free-none bar c.args.link 1 c.args.slots.now
-    (barred-all bar c.args.m c.args.slots.now c.loop-at.from c.requires.unready c.requires.distinct c.loop-at.invariant.barred c.in_default.ensures.found))
+    (barred-all bar c.args.m c.args.slots.now c.loop-at.from unready c.requires.distinct (c.loop-at.invariant.barred bar judges unready) c.in_default.ensures.found))
 
 pub returns-clause-cost : goal.returns-clause-cost
-returns-clause-cost g c =
-    let bar = g.J.Judge.barred c.args.judge.now in
+returns-clause-cost g c bar judges unready =
     omega (
       arith,
-      c.loop-at.invariant.cost,
+      c.loop-at.invariant.cost bar judges unready,
       c.in_default.ensures.cost 10 c.requires.length,
       passed_over-most bar c.args.m c.args.slots.now c.loop-at.from (omega (arith, c.loop-at.invariant.within, c.requires.length)),
     )

@@ -1,6 +1,7 @@
-use Rattle.std.proofs.Common.{◌+◌, ◌-◌, ◌*◌, ◌≤◌, take}
+use Rattle.std.proofs.Common.{ℕ, ◌+◌, ◌-◌, ◌*◌, ◌≤◌, Option, take}
+use Rattle.denial_rules.specs.declared.bar.Bar.{Bar}
 use Rattle.slot_tree.specs.Slots.{filled}
-use Rattle.vacancy_fill.specs.Chain.{passed_over}
+use Rattle.vacancy_fill.specs.Chain.{BarsUnready, passed_over}
 use Rattle.vacancy_fill.proofs.ChainLemmas.{AreBarred}
 use Rattle.vacancy_fill.proofs.on_board.first_on.Given as goal
 
@@ -8,8 +9,8 @@ use Rattle.vacancy_fill.proofs.on_board.first_on.Given as goal
 abbrev pub invariant-loop-at : goal.invariant-loop-at
 invariant-loop-at g l = record {
   within : l.from ≤ 1_024;
-  barred : AreBarred (g.J.Judge.barred l.judge) l.slots l.from;
-  cost : l.steps ≤ l.fn.steps + passed_over (g.J.Judge.barred l.judge) l.m (filled (take l.from l.slots)) * 44;
+  barred : (bar : ℕ → Option Bar) → g.J.Judge.judges l.judge bar → BarsUnready bar l.m (filled l.slots) → AreBarred bar l.slots l.from;
+  cost : (bar : ℕ → Option Bar) → g.J.Judge.judges l.judge bar → BarsUnready bar l.m (filled l.slots) → l.steps ≤ l.fn.steps + passed_over bar l.m (filled (take l.from l.slots)) * 44;
 }
 
 abbrev pub decreases-loop-at : goal.decreases-loop-at
