@@ -2,7 +2,7 @@ ghost use Rattle.std.specs.Prelude.{◌≡◌, ◌≤◌};
 ghost use Rattle.desk_model.specs.declared.limits.TheConstants.{LAST_CALLER};
 ghost use Rattle.desk_model.specs.Fits.{IsStated};
 ghost use Rattle.desk_model.specs.History.{History};
-ghost use Rattle.desk_model.specs.Legal.{moment, answer_to, answer, next};
+ghost use Rattle.desk_model.specs.Legal.{last_moment, moment, answer_to, answer, next};
 
 use crate::Reads;
 use crate::board_answer::board_answer;
@@ -26,7 +26,8 @@ use desk_model::{Cmd, Entry, LAST_CALLER, Reply, Stated};
 // The answer to a command at a moment.
 fn answer_to<R: Reads>(reads: &R, work: &mut R::Work, moment: Minute, cmd: &Cmd) -> Reply
     requires { R.suits reads.now work.old }
-    ensures answer { (h : History) → R.tells reads.now h → result ≡ answer_to h moment cmd.now }
+    ensures answer { (h : History) → R.tells reads.now h → last_moment h ≤ moment
+        → result ≡ answer_to h moment cmd.now }
     ensures suits { R.suits reads.now work.new }
 {
     match cmd {

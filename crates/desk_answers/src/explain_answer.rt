@@ -1,7 +1,9 @@
-ghost use Rattle.std.specs.Prelude.{◌≡◌};
+ghost use Rattle.std.specs.Prelude.{◌≡◌, ◌≤◌, ℕ, Some, IfOk};
 ghost use Rattle.desk_model.specs.declared.reply.Reply.{Reply};
 ghost use Rattle.desk_model.specs.declared.link.Link.{Link};
 ghost use Rattle.desk_model.specs.History.{History};
+ghost use Rattle.desk_model.specs.Register.{person_of, vacancy_of};
+ghost use Rattle.desk_model.specs.Legal.{last_moment};
 ghost use Rattle.desk_model.specs.ExplainAnswer.{judged_by, explain_answer};
 ghost use Rattle.desk_answers.specs.Answered.{answered};
 
@@ -20,8 +22,10 @@ pub(crate) fn judge<R: Reads>(
     person: &Person,
 ) -> Result<Link, Reply>
     requires { R.suits reads.now work.old }
-    ensures answer { (h : History) → R.tells reads.now h → (rest : Link → Reply)
+    ensures answer { (h : History) → R.tells reads.now h → (v : ℕ) → vacancy_of h v ≡ Some job.now
+        → last_moment h ≤ moment → person_of h number ≡ Some person.now → (rest : Link → Reply)
         → answered rest result ≡ judged_by h moment job.now number rest person.now }
+    ensures in_time { IfOk result (λ _. moment ≤ job.now.report) }
     ensures suits { R.suits reads.now work.new }
 {
     if job.report() < moment {
@@ -45,7 +49,8 @@ pub(crate) fn explain_answer<R: Reads>(
     number: PersonNo,
 ) -> Reply
     requires { R.suits reads.now work.old }
-    ensures answer { (h : History) → R.tells reads.now h → result ≡ explain_answer h moment vac number }
+    ensures answer { (h : History) → R.tells reads.now h → last_moment h ≤ moment
+        → result ≡ explain_answer h moment vac number }
     ensures suits { R.suits reads.now work.new }
 {
     let Some(job) = &reads.vacancy(vac) else {

@@ -1,6 +1,8 @@
-ghost use Rattle.std.specs.Prelude.{◌≡◌, unwrap_or};
+ghost use Rattle.std.specs.Prelude.{◌≡◌, ◌≤◌, ℕ, Some, unwrap_or};
 ghost use Rattle.desk_model.specs.declared.reply.Reply.{Reply};
 ghost use Rattle.desk_model.specs.History.{History};
+ghost use Rattle.desk_model.specs.Register.{vacancy_of};
+ghost use Rattle.desk_model.specs.Legal.{last_moment};
 ghost use Rattle.desk_model.specs.NextAnswer.{vacant_answer, unless_closed, next_answer};
 
 use crate::Reads;
@@ -21,7 +23,8 @@ pub(crate) fn closed(state: VacState) -> Option<Reply>
 // The answer where the vacancy is vacant.
 fn vacant_answer<R: Reads>(reads: &R, work: &mut R::Work, moment: Minute, job: &Job) -> Reply
     requires { R.suits reads.now work.old }
-    ensures answer { (h : History) → R.tells reads.now h → result ≡ vacant_answer h moment job.now }
+    ensures answer { (h : History) → R.tells reads.now h → (v : ℕ) → vacancy_of h v ≡ Some job.now
+        → last_moment h ≤ moment → result ≡ vacant_answer h moment job.now }
     ensures suits { R.suits reads.now work.new }
 {
     if job.report() < moment {
@@ -47,7 +50,8 @@ pub(crate) fn next_answer<R: Reads>(
     vac: VacNo,
 ) -> Reply
     requires { R.suits reads.now work.old }
-    ensures answer { (h : History) → R.tells reads.now h → result ≡ next_answer h moment vac }
+    ensures answer { (h : History) → R.tells reads.now h → last_moment h ≤ moment
+        → result ≡ next_answer h moment vac }
     ensures suits { R.suits reads.now work.new }
 {
     let Some(job) = &reads.vacancy(vac) else {

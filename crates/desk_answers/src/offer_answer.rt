@@ -1,5 +1,6 @@
-ghost use Rattle.std.specs.Prelude.{◌≡◌};
+ghost use Rattle.std.specs.Prelude.{◌≡◌, ◌≤◌};
 ghost use Rattle.desk_model.specs.History.{History};
+ghost use Rattle.desk_model.specs.Legal.{last_moment};
 ghost use Rattle.desk_model.specs.OfferAnswer.{named_answer, offer_answer};
 
 use crate::Reads;
@@ -32,7 +33,8 @@ pub(crate) fn offer_answer<R: Reads>(
     number: PersonNo,
 ) -> Reply
     requires { R.suits reads.now work.old }
-    ensures answer { (h : History) → R.tells reads.now h → result ≡ offer_answer h moment vac number }
+    ensures answer { (h : History) → R.tells reads.now h → last_moment h ≤ moment
+        → result ≡ offer_answer h moment vac number }
     ensures suits { R.suits reads.now work.new }
 {
     let Some(job) = &reads.vacancy(vac) else {

@@ -1,4 +1,4 @@
-ghost use Rattle.std.specs.Prelude.{◌≡◌, IfSome, length};
+ghost use Rattle.std.specs.Prelude.{◌≡◌, true, Some, IfSome, length};
 ghost use Rattle.desk_base.specs.Minute.{IsInYears};
 ghost use Rattle.duty_events.specs.Allowed.{judge};
 ghost use Rattle.duty_events.specs.Lists.{stage_of, latest};
@@ -14,7 +14,9 @@ ghost use Rattle.desk_model.specs.States.{state_of};
 ghost use Rattle.desk_model.specs.Bars.{bar_of, first_free};
 ghost use Rattle.desk_model.specs.ExplainAnswer.{place_in};
 ghost use Rattle.desk_model.specs.LookAnswer.{member_at};
+ghost use Rattle.desk_model.specs.HoursAnswer.{has_month};
 ghost use Rattle.desk_model.specs.Legal.{last_moment};
+ghost use Rattle.desk_answers.specs.Asked.{IsAsked};
 
 use denial_rules::Bar;
 use desk_base::{Code, Minute, Month, PersonNo, VacNo};
@@ -24,12 +26,16 @@ use duty_events::{Event, EventFault, Stage};
 /// What can tell of the history that it stands for. It may want memory to work in.
 pub trait Reads {
     ghost use Rattle.desk_model.specs.History.{History};
+    ghost use Rattle.desk_model.specs.Legal.{IsLegal};
 
     /// The memory that it works in.
     type Work;
 
     // It stands for this history.
     ghost tells: { Self → History → Type 0 };
+
+    // What it stands for is legal.
+    ghost legal: { (reads : Self) (h : History) → tells reads h → IsLegal h };
 
     // The memory has room enough for it.
     ghost suits: { Self → Self.Work → Type 0 };
@@ -123,19 +129,22 @@ pub trait Reads {
             → result ≡ judge (stage_of (events h person)) event.now (latest (events h person)) }
         ensures suits { suits self.now work.new };
 
-    /// How many minutes of the month the person worked.
+    /// How many minutes of a month of the window the person worked.
     fn used(&self, work: &mut Self::Work, person: PersonNo, month: Month) -> u32
         requires { suits self.now work.old }
-        ensures answer { (h : History) → tells self.now h → result ≡ used (events h person) month }
+        ensures answer { (h : History) → tells self.now h → has_month h.opening.window month ≡ true
+            → result ≡ used (events h person) month }
         ensures suits { suits self.now work.new };
 
-    /// How many of the person's minutes of limbo in the month are capped.
+    /// How many of the person's minutes of limbo in a month of the window are capped.
     fn capped(&self, work: &mut Self::Work, person: PersonNo, month: Month) -> u32
         requires { suits self.now work.old }
-        ensures answer { (h : History) → tells self.now h → result ≡ capped (events h person) month }
+        ensures answer { (h : History) → tells self.now h → has_month h.opening.window month ≡ true
+            → result ≡ capped (events h person) month }
         ensures suits { suits self.now work.new };
 
-    /// The first bar that keeps an enrolled person from the job at this moment; `None` where nothing does.
+    /// The first bar that keeps an enrolled person from the job of a vacancy that was made, at this moment, which isn't past its
+    /// report; `None` where nothing does.
     fn bar(
         &self,
         work: &mut Self::Work,
@@ -145,14 +154,16 @@ pub trait Reads {
         person: &Person,
     ) -> Option<Bar>
         requires { suits self.now work.old }
-        ensures answer { (h : History) → tells self.now h
-            → result ≡ bar_of h moment job.now number person.now }
+        ensures answer { (h : History) → tells self.now h → IsAsked h moment job.now
+            → person_of h number ≡ Some person.now → result ≡ bar_of h moment job.now number person.now }
         ensures suits { suits self.now work.new };
 
-    /// The first place of the job's chain whose person nothing bars from it at this moment; `None` where all are barred.
+    /// The first place of the chain of a vacancy that was made whose person nothing bars from it at this moment, which isn't past
+    /// its report; `None` where all are barred.
     fn first_free(&self, work: &mut Self::Work, moment: Minute, job: &Job) -> Option<Link>
         requires { suits self.now work.old }
-        ensures answer { (h : History) → tells self.now h → result ≡ first_free h moment job.now }
+        ensures answer { (h : History) → tells self.now h → IsAsked h moment job.now
+            → result ≡ first_free h moment job.now }
         ensures suits { suits self.now work.new };
 
     /// The first place of the chain that is this person's; `None` where none is.

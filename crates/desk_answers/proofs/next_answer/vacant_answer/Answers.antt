@@ -1,0 +1,11 @@
+use Rattle.std.proofs.Common.{rules}
+use Rattle.desk_answers.proofs.AskedLemmas.{asked}
+use Rattle.desk_answers.proofs.next_answer.vacant_answer.Goals as goal
+
+pub returns-in-Some-clause-answer : goal.returns-in-Some-clause-answer
+returns-in-Some-clause-answer g c h tells v made late =
+    let first = c.first_free.ensures.answer h tells (asked h c.args.moment c.args.job.now v _ _ made late c.report.ensures.value c.lt.ensures c.if-lt.false) in search rules
+
+pub returns-in-None-clause-answer : goal.returns-in-None-clause-answer
+returns-in-None-clause-answer g c h tells v made late =
+    let first = c.first_free.ensures.answer h tells (asked h c.args.moment c.args.job.now v _ _ made late c.report.ensures.value c.lt.ensures c.if-lt.false) in search rules
