@@ -1,8 +1,9 @@
-ghost use Rattle.std.specs.Prelude.{◌≡◌, ◌≤◌};
+ghost use Rattle.std.specs.Prelude.{◌≡◌, ◌≤◌, ◌+◌};
 ghost use Rattle.desk_model.specs.declared.limits.TheConstants.{LAST_CALLER};
 ghost use Rattle.desk_model.specs.Fits.{IsStated};
 ghost use Rattle.desk_model.specs.History.{History};
 ghost use Rattle.desk_model.specs.Legal.{last_moment, moment, answer_to, answer, next};
+ghost use Rattle.desk_answers.specs.Searched.{most_steps};
 
 use crate::Reads;
 use crate::board_answer::board_answer;
@@ -29,6 +30,8 @@ fn answer_to<R: Reads>(reads: &R, work: &mut R::Work, moment: Minute, cmd: &Cmd)
     ensures answer { (h : History) → R.tells reads.now h → last_moment h ≤ moment
         → result ≡ answer_to h moment cmd.now }
     ensures suits { R.suits reads.now work.new }
+    ensures steps { (h : History) → R.tells reads.now h → last_moment h ≤ moment
+        → R.steps work.new ≤ R.steps work.old + most_steps (R.most reads.now h) h moment cmd.now }
 {
     match cmd {
         Cmd::Enrol { person, .. } => enrol_answer(reads, *person),
@@ -62,6 +65,8 @@ fn answer<R: Reads>(reads: &R, work: &mut R::Work, taken: Minute, stated: &State
     ensures answer { (h : History) → R.tells reads.now h → taken ≡ moment h stated.now.minute
         → result ≡ answer h stated.now }
     ensures suits { R.suits reads.now work.new }
+    ensures steps { (h : History) → R.tells reads.now h → taken ≡ moment h stated.now.minute
+        → R.steps work.new ≤ R.steps work.old + most_steps (R.most reads.now h) h taken stated.now.cmd }
 {
     if is_within(&reads.opening().window(), stated.minute()) {
         answer_to(reads, work, taken, stated.cmd())
@@ -77,6 +82,8 @@ pub fn next_entry<R: Reads>(reads: &R, work: &mut R::Work, caller: u8, stated: S
     ensures entry { (h : History) → R.tells reads.now h → result ≡ next h caller stated }
     ensures stated { IsStated stated }
     ensures suits { R.suits reads.now work.new }
+    ensures steps { (h : History) → R.tells reads.now h
+        → R.steps work.new ≤ R.steps work.old + most_steps (R.most reads.now h) h (moment h stated.minute) stated.cmd }
 {
     let taken = moment(reads, stated.minute());
     let reply = answer(reads, work, taken, &stated);

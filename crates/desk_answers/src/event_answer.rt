@@ -21,6 +21,7 @@ fn told_answer<R: Reads>(
     ensures answer { (h : History) → R.tells reads.now h
         → result ≡ told_answer h.opening (events h person) moment event.now }
     ensures suits { R.suits reads.now work.new }
+    ensures steps { R.steps work.new ≡ R.steps work.old }
 {
     if event.first_minute() < reads.opening().window().start() {
         return Reply::OutsideWindow;
@@ -46,6 +47,7 @@ pub(crate) fn past_answer<R: Reads>(
     ensures answer { (h : History) → R.tells reads.now h
         → result ≡ past_answer h moment person event.now }
     ensures suits { R.suits reads.now work.new }
+    ensures steps { R.steps work.new ≡ R.steps work.old }
 {
     if reads.person(person).is_none() {
         Reply::UnknownPerson
@@ -78,6 +80,7 @@ pub(crate) fn event_answer<R: Reads>(
     ensures answer { (h : History) → R.tells reads.now h
         → result ≡ event_answer h moment person event.now }
     ensures suits { R.suits reads.now work.new }
+    ensures steps { R.steps work.new ≡ R.steps work.old }
 {
     if reads.person(person).is_none() {
         return Reply::UnknownPerson;

@@ -27,6 +27,7 @@ pub(crate) fn judge<R: Reads>(
         → answered rest result ≡ judged_by h moment job.now number rest person.now }
     ensures in_time { IfOk result (λ _. moment ≤ job.now.report) }
     ensures suits { R.suits reads.now work.new }
+    ensures steps { R.steps work.new ≡ R.steps work.old }
 {
     if job.report() < moment {
         return Err(Reply::Lapsed(job.report()));
@@ -52,6 +53,7 @@ pub(crate) fn explain_answer<R: Reads>(
     ensures answer { (h : History) → R.tells reads.now h → last_moment h ≤ moment
         → result ≡ explain_answer h moment vac number }
     ensures suits { R.suits reads.now work.new }
+    ensures steps { R.steps work.new ≡ R.steps work.old }
 {
     let Some(job) = &reads.vacancy(vac) else {
         return Reply::UnknownVacancy;

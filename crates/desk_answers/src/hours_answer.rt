@@ -24,6 +24,7 @@ pub(crate) fn hours_answer<R: Reads>(
     requires { R.suits reads.now work.old }
     ensures answer { (h : History) → R.tells reads.now h → result ≡ hours_answer h person month }
     ensures suits { R.suits reads.now work.new }
+    ensures steps { R.steps work.new ≡ R.steps work.old }
 {
     if reads.person(person).is_none() {
         return Reply::UnknownPerson;

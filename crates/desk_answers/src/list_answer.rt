@@ -16,6 +16,7 @@ pub(crate) fn list_answer<R: Reads>(
     requires { R.suits reads.now work.old }
     ensures answer { (h : History) → R.tells reads.now h → result ≡ list_answer h person board.now }
     ensures suits { R.suits reads.now work.new }
+    ensures steps { R.steps work.new ≡ R.steps work.old }
 {
     if reads.person(person).is_none() {
         Reply::UnknownPerson

@@ -11,6 +11,7 @@ pub(crate) fn at_answer<R: Reads>(reads: &R, work: &mut R::Work, board: &Code, p
     requires { R.suits reads.now work.old }
     ensures answer { (h : History) → R.tells reads.now h → result ≡ at_answer h board.now place }
     ensures suits { R.suits reads.now work.new }
+    ensures steps { R.steps work.new ≡ R.steps work.old }
 {
     if reads.board(board).is_none() {
         return Reply::UnknownBoard(*board);

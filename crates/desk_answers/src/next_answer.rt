@@ -1,9 +1,10 @@
-ghost use Rattle.std.specs.Prelude.{◌≡◌, ◌≤◌, ℕ, Some, unwrap_or};
+ghost use Rattle.std.specs.Prelude.{◌≡◌, ◌≤◌, ◌+◌, ℕ, Some, unwrap_or};
 ghost use Rattle.desk_model.specs.declared.reply.Reply.{Reply};
 ghost use Rattle.desk_model.specs.History.{History};
 ghost use Rattle.desk_model.specs.Register.{vacancy_of};
 ghost use Rattle.desk_model.specs.Legal.{last_moment};
 ghost use Rattle.desk_model.specs.NextAnswer.{vacant_answer, unless_closed, next_answer};
+ghost use Rattle.desk_answers.specs.Searched.{steps_of};
 
 use crate::Reads;
 use desk_base::{Minute, VacNo};
@@ -26,6 +27,8 @@ fn vacant_answer<R: Reads>(reads: &R, work: &mut R::Work, moment: Minute, job: &
     ensures answer { (h : History) → R.tells reads.now h → (v : ℕ) → vacancy_of h v ≡ Some job.now
         → last_moment h ≤ moment → result ≡ vacant_answer h moment job.now }
     ensures suits { R.suits reads.now work.new }
+    ensures steps { (h : History) → R.tells reads.now h → (v : ℕ) → vacancy_of h v ≡ Some job.now
+        → last_moment h ≤ moment → R.steps work.new ≤ R.steps work.old + R.most reads.now h moment job.now }
 {
     if job.report() < moment {
         return Reply::Lapsed(job.report());
@@ -53,6 +56,8 @@ pub(crate) fn next_answer<R: Reads>(
     ensures answer { (h : History) → R.tells reads.now h → last_moment h ≤ moment
         → result ≡ next_answer h moment vac }
     ensures suits { R.suits reads.now work.new }
+    ensures steps { (h : History) → R.tells reads.now h → last_moment h ≤ moment
+        → R.steps work.new ≤ R.steps work.old + steps_of (R.most reads.now h moment) (vacancy_of h vac) }
 {
     let Some(job) = &reads.vacancy(vac) else {
         return Reply::UnknownVacancy;

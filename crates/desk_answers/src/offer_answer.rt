@@ -1,7 +1,9 @@
-ghost use Rattle.std.specs.Prelude.{◌≡◌, ◌≤◌};
+ghost use Rattle.std.specs.Prelude.{◌≡◌, ◌≤◌, ◌+◌};
 ghost use Rattle.desk_model.specs.History.{History};
 ghost use Rattle.desk_model.specs.Legal.{last_moment};
 ghost use Rattle.desk_model.specs.OfferAnswer.{named_answer, offer_answer};
+ghost use Rattle.desk_model.specs.Register.{vacancy_of};
+ghost use Rattle.desk_answers.specs.Searched.{steps_of};
 
 use crate::Reads;
 use crate::explain_answer::judge;
@@ -36,6 +38,8 @@ pub(crate) fn offer_answer<R: Reads>(
     ensures answer { (h : History) → R.tells reads.now h → last_moment h ≤ moment
         → result ≡ offer_answer h moment vac number }
     ensures suits { R.suits reads.now work.new }
+    ensures steps { (h : History) → R.tells reads.now h → last_moment h ≤ moment
+        → R.steps work.new ≤ R.steps work.old + steps_of (R.most reads.now h moment) (vacancy_of h vac) }
 {
     let Some(job) = &reads.vacancy(vac) else {
         return Reply::UnknownVacancy;

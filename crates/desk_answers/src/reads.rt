@@ -1,4 +1,4 @@
-ghost use Rattle.std.specs.Prelude.{◌≡◌, true, Some, IfSome, length};
+ghost use Rattle.std.specs.Prelude.{◌≡◌, ◌≤◌, ◌+◌, true, Some, IfSome, length};
 ghost use Rattle.desk_base.specs.Minute.{IsInYears};
 ghost use Rattle.duty_events.specs.Allowed.{judge};
 ghost use Rattle.duty_events.specs.Lists.{stage_of, latest};
@@ -25,6 +25,8 @@ use duty_events::{Event, EventFault, Stage};
 
 /// What can tell of the history that it stands for. It may want memory to work in.
 pub trait Reads {
+    ghost use Rattle.std.specs.Prelude.{ℕ};
+    ghost use Rattle.desk_model.specs.Job.{JobValue};
     ghost use Rattle.desk_model.specs.History.{History};
     ghost use Rattle.desk_model.specs.Legal.{IsLegal};
 
@@ -39,6 +41,12 @@ pub trait Reads {
 
     // The memory has room enough for it.
     ghost suits: { Self → Self.Work → Type 0 };
+
+    // How many steps were taken in the memory, each of a search of boards.
+    ghost steps: { Self.Work → ℕ };
+
+    // At most so many does a search of a job's chain take at a moment.
+    ghost most: { Self → History → ℕ → JobValue → ℕ };
 
     /// How the desk was opened.
     fn opening(&self) -> Opening
@@ -88,13 +96,15 @@ pub trait Reads {
     fn member_count(&self, work: &mut Self::Work, board: &Code) -> u16
         requires { suits self.now work.old }
         ensures answer { (h : History) → tells self.now h → result ≡ length (order h board.now) }
-        ensures suits { suits self.now work.new };
+        ensures suits { suits self.now work.new }
+        ensures steps { steps work.new ≡ steps work.old };
 
     /// Who stands at this place of the board, from 1; `None` where nobody does.
     fn member_at(&self, work: &mut Self::Work, board: &Code, place: u16) -> Option<PersonNo>
         requires { suits self.now work.old }
         ensures answer { (h : History) → tells self.now h → result ≡ member_at h board.now place }
-        ensures suits { suits self.now work.new };
+        ensures suits { suits self.now work.new }
+        ensures steps { steps work.new ≡ steps work.old };
 
     /// Whether the person is marked off.
     fn is_marked_off(&self, person: PersonNo) -> bool
@@ -127,21 +137,24 @@ pub trait Reads {
         requires { suits self.now work.old }
         ensures answer { (h : History) → tells self.now h
             → result ≡ judge (stage_of (events h person)) event.now (latest (events h person)) }
-        ensures suits { suits self.now work.new };
+        ensures suits { suits self.now work.new }
+        ensures steps { steps work.new ≡ steps work.old };
 
     /// How many minutes of a month of the window the person worked.
     fn used(&self, work: &mut Self::Work, person: PersonNo, month: Month) -> u32
         requires { suits self.now work.old }
         ensures answer { (h : History) → tells self.now h → has_month h.opening.window month ≡ true
             → result ≡ used (events h person) month }
-        ensures suits { suits self.now work.new };
+        ensures suits { suits self.now work.new }
+        ensures steps { steps work.new ≡ steps work.old };
 
     /// How many of the person's minutes of limbo in a month of the window are capped.
     fn capped(&self, work: &mut Self::Work, person: PersonNo, month: Month) -> u32
         requires { suits self.now work.old }
         ensures answer { (h : History) → tells self.now h → has_month h.opening.window month ≡ true
             → result ≡ capped (events h person) month }
-        ensures suits { suits self.now work.new };
+        ensures suits { suits self.now work.new }
+        ensures steps { steps work.new ≡ steps work.old };
 
     /// The first bar that keeps an enrolled person from the job of a vacancy that was made, at this moment, which isn't past its
     /// report; `None` where nothing does.
@@ -156,7 +169,8 @@ pub trait Reads {
         requires { suits self.now work.old }
         ensures answer { (h : History) → tells self.now h → IsAsked h moment job.now
             → person_of h number ≡ Some person.now → result ≡ bar_of h moment job.now number person.now }
-        ensures suits { suits self.now work.new };
+        ensures suits { suits self.now work.new }
+        ensures steps { steps work.new ≡ steps work.old };
 
     /// The first place of the chain of a vacancy that was made whose person nothing bars from it at this moment, which isn't past
     /// its report; `None` where all are barred.
@@ -164,18 +178,22 @@ pub trait Reads {
         requires { suits self.now work.old }
         ensures answer { (h : History) → tells self.now h → IsAsked h moment job.now
             → result ≡ first_free h moment job.now }
-        ensures suits { suits self.now work.new };
+        ensures suits { suits self.now work.new }
+        ensures steps { (h : History) → tells self.now h → IsAsked h moment job.now
+            → steps work.new ≤ steps work.old + most self.now h moment job.now };
 
     /// The first place of the chain that is this person's; `None` where none is.
     fn place_in(&self, work: &mut Self::Work, boards: &Chain, person: PersonNo) -> Option<Link>
         requires { suits self.now work.old }
         ensures answer { (h : History) → tells self.now h
             → result ≡ place_in (chain h boards.now) person }
-        ensures suits { suits self.now work.new };
+        ensures suits { suits self.now work.new }
+        ensures steps { steps work.new ≡ steps work.old };
 
     /// How many places the chain has.
     fn listed(&self, work: &mut Self::Work, boards: &Chain) -> u16
         requires { suits self.now work.old }
         ensures answer { (h : History) → tells self.now h → result ≡ length (chain h boards.now) }
-        ensures suits { suits self.now work.new };
+        ensures suits { suits self.now work.new }
+        ensures steps { steps work.new ≡ steps work.old };
 }

@@ -81,7 +81,14 @@ impl Reads for Kept {
 
     ghost tells = { λ kept h. IsKept kept.opening kept.entries.items h };
 
+    ghost legal = { λ kept h is. is.legal };
+
     ghost suits = { λ kept lists. HasRoom (vec_capacity kept.entries) lists };
+
+    // Its searches count no steps.
+    ghost steps = { λ _. 0 };
+
+    ghost most = { λ _ _ _ _. 0 };
 
     fn opening(&self) -> Opening {
         self.opening
