@@ -14,7 +14,7 @@ use crate::journal::write_journal;
 use crate::limits::BYTE_LIMIT;
 use desk_base::NoMemory;
 use desk_io::{Sink, Source, Status, put_all, take_all};
-use desk_model::{DeskCore, one_history_is_legal};
+use desk_model::{Entry, one_history_is_legal};
 use desk_text::{DayFault, DayFile, read_day, write_tally, write_wrong};
 use plain_core::PlainCore;
 use std::alloc::Global;
@@ -117,15 +117,15 @@ fn print_day<K: Sink>(alloc: Global, form: DayForm, day: &DayFile, sink: &mut K)
     ensures only { (result ≡ Status.Fine)
         ⊎ ((result ≡ Status.WriteFault) ⊎ (result ≡ Status.NoMemory)) }
 {
-    let Ok(core) = answered_desk(alloc, day) else {
+    let Ok(entries) = answers_of(alloc, day) else {
         return Status::NoMemory;
     };
     let Ok(mut buffer) = Vec::with_capacity(alloc, BUFFER_BYTES) else {
         return Status::NoMemory;
     };
     let whole = match form {
-        DayForm::Replay => write_journal(&day.opening, core.entries(), &mut buffer, sink),
-        DayForm::Tally => put_all(sink, write_tally(&day.opening, core.entries()).as_slice()),
+        DayForm::Replay => write_journal(&day.opening, &entries, &mut buffer, sink),
+        DayForm::Tally => put_all(sink, write_tally(&day.opening, &entries).as_slice()),
     };
     if whole {
         Status::Fine
@@ -134,12 +134,13 @@ fn print_day<K: Sink>(alloc: Global, form: DayForm, day: &DayFile, sink: &mut K)
     }
 }
 
-// A new desk that has answered the day file's commands.
-fn answered_desk(alloc: Global, day: &DayFile) -> Result<PlainCore, NoMemory>
-    ensures { IfOk result (λ core. ⟦<PlainCore as DeskCore>⟧.stands core
-        (day_history day.now.opening day.now.commands.items)) }
+// What a new desk answers to the day file's commands.
+fn answers_of(alloc: Global, day: &DayFile) -> Result<Vec<Entry>, NoMemory>
+    ensures { IfOk result (λ entries. entries.items
+        ≡ (day_history day.now.opening day.now.commands.items).entries) }
 {
+    let mut entries = Vec::with_capacity(alloc, day.commands.len())?;
     let mut core = PlainCore::new(alloc, day.opening, day.commands.len() as u64)?;
-    answer_all(&mut core, &day.commands);
-    Ok(core)
+    answer_all(&mut core, &day.commands, &mut entries);
+    Ok(entries)
 }
