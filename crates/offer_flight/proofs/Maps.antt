@@ -1,6 +1,7 @@
 -- Offers that are kept in two lists are one map, and what is found after one is put in or taken out.
-use Rattle.std.proofs.Common.{◌≡◌, ℕ, suc, ◌<◌, Bool, true, false, cond, ◌==◌, None, Some, List, [], ◌∷◌, length, get_or, refl, sym, ap, subst, ◌∙◌, arith}
-use Rattle.std.specs.List.{insert, remove}
+use Rattle.std.proofs.Common.{◌≡◌, ◌≢◌, ℕ, suc, ◌<◌, Bool, true, false, cond, ◌==◌, nat_eq, None, Some, List, [], ◌∷◌, length, get_or, map, refl, sym, ap, subst, ◌∙◌, arith}
+use Rattle.std.specs.List.{insert, remove, AllByRecursion, IsDistinct}
+use Rattle.std.proofs.lemmas.Bool.Decides.{nat_tests}
 use Rattle.std.proofs.lemmas.List.Edits.{length-insert, length-remove}
 use Rattle.offer_flight.specs.declared.flight.TheConstants.{OFFERS}
 use Rattle.offer_flight.specs.declared.in_flight.InFlight.{InFlight}
@@ -43,6 +44,20 @@ one-map l rising apart = record {
   person = look-has person_of l;
   both = λ offer. (found-too vac_of person_of l (vac_of offer) offer apart, found-too person_of vac_of l (person_of offer) offer (rising-apart vac_of l rising));
 }
+
+-- numbers that differ are all different
+others-differ : (number : InFlight → ℕ) (x : InFlight) (l : List InFlight) → ((i : ℕ) → i < length l → number x ≢ number_at number l i)
+    → AllByRecursion (λ y. nat_eq (number x) y ≡ false) (map number l)
+others-differ number x [] apart = tt
+others-differ number x (y ∷ l) apart = (grind (arith, nat_tests, apart 0 (omega arith)), others-differ number x l (λ i within. apart (suc i) (omega (arith, within))))
+
+pub distinct : (number : InFlight → ℕ) (l : List InFlight) → AreApart number l → IsDistinct nat_eq (map number l)
+unfolding IsDistinct
+distinct number [] apart = tt
+distinct number (x ∷ l) apart = (
+  others-differ number x l (λ i within. apart 0 (suc i) (omega arith) (omega (arith, within))),
+  distinct number l (λ i j order within. apart (suc i) (suc j) (omega (arith, order)) (omega (arith, within))),
+)
 
 -- ---- an offer more
 

@@ -1,5 +1,5 @@
 -- The offers that are open, as a list.
-use Rattle.std.specs.Prelude.{◌≡◌, ◌==◌, ◌↔◌, ℕ, Option, Some, List}
+use Rattle.std.specs.Prelude.{◌≡◌, ◌==◌, ◌↔◌, ℕ, Option, Some, List, map}
 use Rattle.std.specs.List.{find}
 use Rattle.offer_flight.specs.declared.in_flight.InFlight.{InFlight}
 
@@ -9,6 +9,10 @@ of_vacancy offers vac = find (λ offer. offer.vac == vac) offers
 
 abbrev pub of_person : List InFlight → ℕ → Option InFlight
 of_person offers person = find (λ offer. offer.person == person) offers
+
+-- to whom offers are open
+abbrev pub persons_of : List InFlight → List ℕ
+persons_of offers = map (λ offer. offer.person) offers
 
 -- an offer is its vacancy's just where it is its person's
 pub record IsOneMap (offers : List InFlight) : Type 0 where

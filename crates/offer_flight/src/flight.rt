@@ -1,5 +1,6 @@
-ghost use Rattle.std.specs.Prelude.{◌≡◌, ◌+◌, ◌<◌, ◌≤◌, ◌==◌, ℕ, None, Some, IfOk, IfSome, if◌then◌else◌, [], length};
-ghost use Rattle.offer_flight.specs.Flight.{of_vacancy, of_person, IsOneMap};
+ghost use Rattle.std.specs.Prelude.{◌≡◌, ◌+◌, ◌<◌, ◌≤◌, ◌==◌, ℕ, nat_eq, None, Some, IfOk, IfSome, if◌then◌else◌, [], length};
+ghost use Rattle.std.specs.List.{IsDistinct};
+ghost use Rattle.offer_flight.specs.Flight.{of_vacancy, of_person, persons_of, IsOneMap};
 
 use crate::InFlight;
 use crate::places::{copy_of, place_of_person, place_of_vacancy, put_in};
@@ -117,10 +118,11 @@ impl Flight {
         }
     }
 
-    /// An offer is its vacancy's just where it is its person's, so that no person and no vacancy stands twice. It changes
-    /// nothing: its clause is the law.
+    /// An offer is its vacancy's just where it is its person's, so that no person and no vacancy stands twice; and those to
+    /// whom offers are open are all different. It changes nothing: its clauses are the law.
     pub fn no_person_stands_twice(&self)
-        ensures { IsOneMap self.now }
+        ensures one_map { IsOneMap self.now }
+        ensures apart { IsDistinct nat_eq (persons_of self.now) }
     {
         let _kept = &self.by_vacancy;
     }

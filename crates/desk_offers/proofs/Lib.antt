@@ -1,0 +1,5 @@
+mod PlaceLemmas
+mod HearLemmas
+mod HoldLemmas
+mod FlightLemmas
+mod KeepLemmas

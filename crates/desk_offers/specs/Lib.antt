@@ -1,0 +1,4 @@
+pub mod Told
+pub mod OpenOffers
+pub mod Holds
+pub mod Keeps

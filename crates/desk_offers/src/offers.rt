@@ -1,0 +1,10 @@
+use crate::holds::Holds;
+use offer_flight::Flight;
+
+/// The open offers of a desk and the holds after declines, with memory for all that it may come to keep.
+#[derive(Drop)]
+pub struct Offers {
+    pub(crate) flight: Flight,
+    pub(crate) holds: Holds,
+    pub(crate) answer: u8,
+}
