@@ -1,0 +1,7 @@
+mod BitLemmas
+mod ListLemmas
+mod LawLemmas
+mod PlacedLemmas
+mod BoardLemmas
+mod CommandLemmas
+mod KeepLemmas
