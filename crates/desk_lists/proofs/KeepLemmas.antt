@@ -18,13 +18,14 @@ use Rattle.desk_model.specs.Opening.{OpeningValue}
 use Rattle.desk_model.specs.Entry.{EntryValue}
 use Rattle.desk_model.specs.History.{History, opened, with_entry, is_done, said}
 use Rattle.desk_model.specs.Register.{enrols_any, sets_up, sets_up_any, person_of, board_of, persons, boards}
-use Rattle.desk_model.specs.Boards.{is_on, order, puts}
-use Rattle.desk_model.specs.Comes.{Comes}
+use Rattle.desk_model.specs.Boards.{is_on, order, puts, sends}
+use Rattle.desk_model.specs.Duty.{tells}
+use Rattle.desk_model.specs.Comes.{Comes, takes_off, left_by, order_by}
 use Rattle.desk_register.specs.Among.{place_among, board_place}
 use Rattle.desk_register.specs.Done.{IsDone}
 use Rattle.desk_register.proofs.PersonLemmas.{same, same_number}
 use Rattle.desk_lists.specs.Lists.{ready_minute, KeepsLists}
-use Rattle.desk_lists.proofs.LawLemmas.{Laws, may-enrol, enrols-on, may-set_up, set_up-on, set_up-order, nobody-on, nowhere-on}
+use Rattle.desk_lists.proofs.LawLemmas.{Laws, ready-same, may-enrol, enrols-on, may-set_up, set_up-on, set_up-order, nobody-on, nowhere-on}
 use Rattle.desk_lists.proofs.ListLemmas.{get-within}
 use Rattle.desk_lists.proofs.PlacedLemmas.{get-grown, place-grew, length-grown, length-grows}
 
@@ -114,7 +115,38 @@ follows-keep kept later was listed h e laws keeps follows = record {
     behind : (j : ℕ) → length (boards (with_entry h e)) ≤ j → length (boards h) ≤ j
     behind j past = length-grows (boards h) (said sets_up_any e) j (subst (λ ns. length ns ≤ j) laws.comes.boards past)
 
--- ---- an entry that changes nothing of it
+-- ---- an entry that is refused, and a desk that was opened
 
-members-get : (later : List BoardValue) (j : ℕ) (x : BoardValue) → slice_get later j ≡ Some x → members_at later j ≡ x.members
-members-get later j x at = ap members_of at
+quiet : {X : Type 0} (f : Cmd → Option X) (e : EntryValue) → is_done e.reply ≡ false → said f e ≡ None
+quiet f e refused = rw refused refl
+
+pub refused-keep : (kept : List BoardValue) (listed : ℕ → ℕ → Bool) (h : History) (e : EntryValue) → Laws h e → is_done e.reply ≡ false → KeepsLists kept listed h
+    → KeepsLists kept listed (with_entry h e)
+refused-keep kept listed h e laws refused keeps = follows-keep kept kept listed listed h e laws keeps record {
+  many = keeps.many;
+  order_is = λ j b at. keeps.order j b at ∙ sym (laws.comes.order b ∙ ap (λ o. order_by e b o (order h b)) (quiet (sends b h) e refused)
+      ∙ ap (λ o. left_by o (order h b)) (quiet (takes_off b) e refused));
+  empty = keeps.empty;
+  ready = λ j p r at. keeps.ready j p r at ∙ sym (ready-same h e p laws.comes (quiet (tells p) e refused));
+  place = keeps.place;
+  new_place = λ b is. absurd (false≢true (ap is_some (sym (quiet sets_up_any e refused) ∙ is)));
+  on = λ p i j b placed at. keeps.on p i j b placed at ∙ sym (laws.comes.on p b ∙ ap (λ o. unwrap_or o (is_on h p b)) (quiet (puts b p) e refused));
+  nobody = keeps.nobody;
+  nowhere = keeps.nowhere;
+}
+
+pub opened-keep : (o : OpeningValue) (kept : List BoardValue) (listed : ℕ → ℕ → Bool) → length kept ≡ BOARD_LIMIT → ((j : ℕ) → members_at kept j ≡ [])
+    → ((i j : ℕ) → listed i j ≡ false) → KeepsLists kept listed (opened o)
+opened-keep o kept listed many empty off = record {
+  many = many;
+  few_persons = omega arith;
+  few_boards = omega arith;
+  order = λ j b at. absurd (false≢true (ap is_some at));
+  empty = λ j past. empty j;
+  ready = λ j p r at. absurd (false≢true (ap is_some (ap (ready_of p) (sym (empty j)) ∙ at)));
+  place = λ j b at. absurd (false≢true (ap is_some at));
+  on = λ p i j b placed at. absurd (false≢true (ap is_some at));
+  nobody = λ i j past. off i j;
+  nowhere = λ i j past. off i j;
+  apart = λ i j b one two. absurd (false≢true (ap is_some one));
+}

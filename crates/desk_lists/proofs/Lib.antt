@@ -5,3 +5,5 @@ mod PlacedLemmas
 mod BoardLemmas
 mod CommandLemmas
 mod KeepLemmas
+mod DoneLemmas
+mod ReadLemmas
