@@ -306,7 +306,7 @@ command-makes h e (cmd.Decline vac p) n words kept word j v x laws is names keep
     moves-row h e (cmd.Decline vac p) n words kept word p j (is_of j n.board) v x laws is names keeps word_is refl (laws.persons_placed p ∙ rests.enrolled)
     (λ q other. refl) before
     (λ b at. decline-ordered h vac p offer.0 b (is_of j n.board) (members_in v.members) offer.1
-        (ap (is_of j) whose ∙ place-tells h e offer.0.board b (board_place (boards h) offer.0.board) j v.place laws kept (is_in words) keeps refl at (before.place b at))) becomes
+    (ap (is_of j) whose ∙ place-tells h e offer.0.board b (board_place (boards h) offer.0.board) j v.place laws kept (is_in words) keeps refl at (before.place b at))) becomes
 command-makes h e (cmd.Past p t) n words kept word j v x laws is names keeps word_is before becomes =
     moves-row h e (cmd.Past p t) n words kept word p j false v x laws is names keeps word_is refl (laws.persons_placed p ∙ rests-done h e (cmd.Past p t) laws is)
     (λ q other. rw other refl) before (λ b at. refl) becomes

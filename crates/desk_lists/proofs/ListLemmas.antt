@@ -40,8 +40,7 @@ upto-more Becomes i old now y z each here becomes k b at = go (nat_eq k i) refl 
         let before : nat_lt k i ≡ false = grind (arith, nat_tests, this) in
         let after : nat_lt k (i + 1) ≡ true = grind (arith, nat_tests, this) in
         let stays : was.0 ≡ b = subst (λ t. IsThen t (Becomes k) b was.0) before was.1.1 in
-        let whose : y ≡ b = same_Some y was.0 (sym here ∙ ap (slice_get now) is ∙ was.1.0) ∙ stays in
-        (
+        let whose : y ≡ b = same_Some y was.0 (sym here ∙ ap (slice_get now) is ∙ was.1.0) ∙ stays in (
           z,
           (
             subst (λ n. slice_get (slice_set now i z) n ≡ Some z) is (get-set_same now i z (slice_get_within now i y here)),

@@ -2,12 +2,15 @@
 #![tactic(auto)]
 
 mod board_changes;
+mod listings;
 mod lists;
 mod lists_keep;
 mod lists_reads;
-mod listings;
 mod named;
 mod orders;
 
 pub use lists::Lists;
 pub use named::{NEVER, Named};
+
+#[cfg(test)]
+mod tests;

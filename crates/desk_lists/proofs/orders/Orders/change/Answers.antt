@@ -10,11 +10,10 @@ loop-place-preserved c =
     let i = c.loop-place.place in
     let now = c.loop-place.self.boards.items in
     let y = c.index_mut.result.now in
-    let within : i < length now = omega (arith, c.loop-place.invariant.0) in
-    (
+    let within : i < length now = omega (arith, c.loop-place.invariant.0) in (
       length-set now i c.change_board.new.board ∙ c.loop-place.invariant.0,
       upto-more (BecomesBy c.args.cmd.now c.args.named.now c.args.word) i c.args.self.now.boards.items now y c.change_board.new.board c.loop-place.invariant.1
-      (slice_get_read now (length now) i y refl within c.index_mut.ensures.value) c.change_board.ensures,
+          (slice_get_read now (length now) i y refl within c.index_mut.ensures.value) c.change_board.ensures,
     )
 
 pub returns-clause-each : goal.returns-clause-each
