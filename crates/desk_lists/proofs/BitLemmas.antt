@@ -1,0 +1,53 @@
+-- Boards as the bits of a word.
+use Rattle.std.proofs.Common.{◌≡◌, ◌≢◌, ◌<◌, ◌^◌, ◌*◌, ◌%◌, ◌&&◌, ◌==◌, ℕ, zero, suc, replicate, Bool, true, false, cond, List, length, nat_eq, nat_lt, slice_index_or, slice_set, bit_or, bit_and, refl, sym, ap, ◌∙◌, arith, w64}
+use Rattle.std.specs.Prelude.{if◌then◌else◌}
+use Rattle.std.proofs.lemmas.Bool.Decides.{nat_tests}
+use Rattle.std.proofs.lemmas.List.{get_or-set_same, get_or-set_other}
+use Rattle.std.proofs.lemmas.Nat.Bits.{bit_at_set_same, bit_at_set_other, bit_at_clear_same, bit_at_clear_other, bit_at-zero}
+use Rattle.std.specs.Int.{bit_at, bit_not}
+use Rattle.desk_model.specs.declared.limits.TheConstants.{BOARD_LIMIT}
+use Rattle.desk_lists.specs.Places.{has_board, is_in, set_at}
+
+pub no-board : (j : ℕ) → has_board 0 j ≡ false
+no-board j = go (nat_lt j BOARD_LIMIT)
+  where
+    go : (b : Bool) → (b && (bit_at 0 j == 1)) ≡ false
+    go true = rw (bit_at-zero j) refl
+    go false = refl
+
+-- a word of which one bit was written
+changed : (word later k j : ℕ) (to : Bool) → k < 64 → (bit_at later k == 1) ≡ to → ((i : ℕ) → i < 64 → i ≢ k → bit_at later i ≡ bit_at word i)
+    → has_board later j ≡ (if nat_eq k j then to else has_board word j)
+changed word later k j to within this others = go (nat_eq k j) (nat_lt j BOARD_LIMIT) refl refl
+  where
+    go : (here inside : Bool) → nat_eq k j ≡ here → nat_lt j BOARD_LIMIT ≡ inside → (inside && (bit_at later j == 1)) ≡ cond here to (inside && (bit_at word j == 1))
+    go true true x y = let is : j ≡ k = grind (arith, nat_tests, x) in rw is this
+    go true false x y = absurd grind (arith, nat_tests, x, y, within)
+    go false true x y = ap (λ b. b == 1) (others j grind (arith, nat_tests, y) grind (arith, nat_tests, x))
+    go false false x y = refl
+
+pub set-board : (word k j : ℕ) → k < 64 → has_board (bit_or word (1 * 2 ^ k % 18446744073709551616)) j ≡ (if nat_eq k j then true else has_board word j)
+set-board word k j within = changed word (bit_or word (1 * 2 ^ k % 18446744073709551616)) k j true within (ap (λ x. x == 1) (bit_at_set_same w64 word k within)) (λ i low apart. bit_at_set_other w64 word k within i apart)
+
+pub clear-board : (word k j : ℕ) → k < 64 → has_board (bit_and word (bit_not w64 (1 * 2 ^ k % 18446744073709551616))) j ≡ (if nat_eq k j then false else has_board word j)
+clear-board word k j within = changed word (bit_and word (bit_not w64 (1 * 2 ^ k % 18446744073709551616))) k j false within (ap (λ x. x == 1) (bit_at_clear_same w64 word k within))
+    (λ i low apart. bit_at_clear_other w64 word k within i low apart)
+
+-- words of which one was written
+pub set-word : (words : List ℕ) (person board later i j : ℕ) (to : Bool) → person < length words
+    → ((k : ℕ) → has_board later k ≡ (if nat_eq board k then to else has_board (slice_index_or words person 0) k))
+    → is_in (slice_set words person later) i j ≡ set_at person board to i j (is_in words i j)
+set-word words person board later i j to within later_is = go (nat_eq person i) refl
+  where
+    go : (here : Bool) → nat_eq person i ≡ here → is_in (slice_set words person later) i j ≡ cond (here && nat_eq board j) to (is_in words i j)
+    go true here = let is : i ≡ person = grind (arith, nat_tests, here) in rw (is, get_or-set_same words person later 0 within) (later_is j)
+    go false here = let apart : i ≢ person = grind (arith, nat_tests, here) in rw (get_or-set_other words person i later 0 apart) refl
+
+-- words of no board
+no-word : (n i : ℕ) → slice_index_or {A = ℕ} (replicate n 0) i 0 ≡ 0
+no-word zero i = refl
+no-word (suc n) zero = refl
+no-word (suc n) (suc i) = no-word n i
+
+pub no-words : (n i j : ℕ) → is_in (replicate n 0) i j ≡ false
+no-words n i j = ap (λ w. has_board w j) (no-word n i) ∙ no-board j

@@ -1,0 +1,9 @@
+mod BitLemmas
+mod ListLemmas
+mod LawLemmas
+mod PlacedLemmas
+mod BoardLemmas
+mod CommandLemmas
+mod KeepLemmas
+mod DoneLemmas
+mod ReadLemmas

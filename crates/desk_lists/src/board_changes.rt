@@ -1,0 +1,101 @@
+//! What a command makes of one board.
+ghost use Rattle.std.specs.Prelude.{◌≡◌};
+ghost use Rattle.desk_model.specs.Offers.{is_of};
+ghost use Rattle.desk_lists.specs.Places.{has_board};
+ghost use Rattle.desk_lists.specs.Changes.{is_final_at, IsThen, SetsUp, TakesOn, LetsGo, Moves, BecomesBy};
+
+use crate::named::Named;
+use desk_base::{Code, Minute, PersonNo};
+use desk_model::{BOARD_LIMIT, Cmd};
+use duty_events::Event;
+use pool_board::Board;
+
+// Whether this is the place.
+fn is_here(place: usize, named: Option<usize>) -> bool
+    ensures { result ≡ is_of place named }
+{
+    match named {
+        Some(other) => other == place,
+        None => false,
+    }
+}
+
+/// Whether the word has the board at this place.
+pub(crate) fn has_board(word: u64, place: usize) -> bool
+    ensures { result ≡ has_board word place }
+{
+    place < BOARD_LIMIT && (word >> place) & 1 == 1
+}
+
+// Whether the event is a final release at this place.
+fn is_final_at(event: &Event, place: Code) -> bool
+    ensures { result ≡ is_final_at place event.now }
+{
+    match event {
+        Event::Final(_, at) => place == *at,
+        _ => false,
+    }
+}
+
+// Sets the board up here, where it has no members.
+fn set_up(board: &mut Board, here: bool, place: Code, extra: bool)
+    ensures { IsThen here (SetsUp place) board.old board.new }
+{
+    if here && board.length() == 0 {
+        board.restart(place, extra);
+    }
+}
+
+// Puts the person at its bottom here, where they aren't listed.
+fn take_on(board: &mut Board, here: bool, person: PersonNo, ready: Minute)
+    ensures { IsThen here (TakesOn person ready) board.old board.new }
+{
+    if here && board.position(person).is_none() {
+        let _full = board.list(person, ready);
+    }
+}
+
+// Takes the person off here.
+fn let_go(board: &mut Board, here: bool, person: PersonNo)
+    ensures { IsThen here (LetsGo person) board.old board.new }
+{
+    if here && board.position(person).is_some() {
+        board.unlist(person);
+    }
+}
+
+// Makes the person ready from the minute here, and sends them to the bottom if so asked.
+fn move_on(board: &mut Board, here: bool, last: bool, person: PersonNo, ready: Minute)
+    ensures { IsThen here (Moves last person ready) board.old board.new }
+{
+    if !here || board.position(person).is_none() {
+        return;
+    }
+    board.set_ready(person, ready);
+    if last {
+        board.to_bottom(person);
+    }
+}
+
+/// Makes of the board at this place what a command makes of it that was done; `word` has the boards of the person whom it
+/// names.
+pub(crate) fn change_board(board: &mut Board, place: usize, cmd: &Cmd, named: &Named, word: u64)
+    ensures { BecomesBy cmd.now named.now word place board.old board.new }
+{
+    let here = is_here(place, named.board);
+    let theirs = has_board(word, place);
+    let ready = named.ready;
+    match cmd {
+        Cmd::Board { extra, place, .. } => set_up(board, here, *place, *extra),
+        Cmd::List { person, .. } => take_on(board, here, *person, ready),
+        Cmd::Unlist { person, .. } => let_go(board, here, *person),
+        Cmd::MarkOn { person } => move_on(board, theirs, true, *person, ready),
+        Cmd::Decline { person, .. } => move_on(board, theirs, here, *person, ready),
+        Cmd::Past { person, .. } => move_on(board, theirs, false, *person, ready),
+        Cmd::Happened { person, event } => {
+            let last = is_final_at(event, board.place());
+            move_on(board, theirs, last, *person, ready);
+        }
+        _ => {}
+    }
+}

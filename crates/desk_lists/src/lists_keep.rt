@@ -1,0 +1,62 @@
+ghost use Rattle.std.specs.Prelude.{◌≡◌, IfOk};
+ghost use Rattle.desk_model.specs.Opening.{OpeningValue};
+ghost use Rattle.desk_model.specs.Entry.{EntryValue};
+ghost use Rattle.desk_model.specs.History.{History, opened, with_entry};
+ghost use Rattle.desk_model.specs.Legal.{IsLegal, IsNext};
+ghost use Rattle.desk_register.specs.Done.{IsDone};
+ghost use Rattle.desk_lists.specs.Lists.{Keeps, Names};
+
+use crate::listings::Listings;
+use crate::lists::Lists;
+use crate::named::Named;
+use crate::orders::Orders;
+use desk_base::NoMemory;
+use desk_model::{
+    Cmd, Entry, order_is_by_rank, what_an_entry_makes_of_the_desk, what_is_done_rests_on,
+    who_is_on_a_board_is_listed,
+};
+use desk_register::who_is_enrolled_has_a_place;
+use std::alloc::Global;
+
+impl Lists {
+    /// Those of a desk that has answered nothing yet, with memory for 64 boards and 1,000 persons; `NoMemory` where there is
+    /// none for them.
+    pub fn new(alloc: Global) -> Result<Lists, NoMemory>
+        ensures { IfOk result (λ l. (o : OpeningValue) → Keeps l (opened o)) }
+    {
+        let orders = Orders::new(alloc)?;
+        let listings = Listings::new(alloc)?;
+        Ok(Lists { orders, listings })
+    }
+
+    // Keeps what a command changes that was done.
+    fn change(&mut self, cmd: &Cmd, named: &Named)
+        ensures { (h : History) (e : EntryValue) → IsLegal h → IsNext h e → IsDone e cmd.now → Names h e named.now
+            → Keeps self.old h → Keeps self.new (with_entry h e) }
+    {
+        what_an_entry_makes_of_the_desk();
+        what_is_done_rests_on();
+        who_is_on_a_board_is_listed();
+        order_is_by_rank();
+        who_is_enrolled_has_a_place();
+        let word = self.listings.of(named.person);
+        self.orders.change(cmd, named, word);
+        self.listings.change(cmd, named);
+    }
+
+    /// Keeps what an entry changes, the next one of a legal history, where what it names is named by its places; of any other
+    /// entry nothing is promised.
+    pub fn keep(&mut self, entry: &Entry, named: &Named)
+        ensures { (h : History) → IsLegal h → IsNext h entry.now → Names h entry.now named.now
+            → Keeps self.old h → Keeps self.new (with_entry h entry.now) }
+    {
+        what_an_entry_makes_of_the_desk();
+        what_is_done_rests_on();
+        who_is_on_a_board_is_listed();
+        order_is_by_rank();
+        who_is_enrolled_has_a_place();
+        if let Some(cmd) = entry.accepted() {
+            self.change(cmd, named);
+        }
+    }
+}

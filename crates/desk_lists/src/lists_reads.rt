@@ -1,0 +1,76 @@
+ghost use Rattle.std.specs.Prelude.{◌≡◌, ℕ, List, Some, length, nat_eq};
+ghost use Rattle.std.specs.List.{find, slice_get};
+ghost use Rattle.std.specs.Option.{option_map, option_copied};
+ghost use Rattle.desk_model.specs.History.{History};
+ghost use Rattle.desk_model.specs.Register.{persons, boards};
+ghost use Rattle.desk_model.specs.Boards.{is_on, boards_of, links, order};
+ghost use Rattle.desk_model.specs.LookAnswer.{member_at};
+ghost use Rattle.desk_register.specs.Among.{place_among, board_place};
+ghost use Rattle.desk_lists.specs.Lists.{boards_kept, Keeps};
+
+use crate::board_changes::has_board;
+use crate::lists::Lists;
+use desk_base::PersonNo;
+use desk_model::order_is_by_rank;
+use pool_board::Board;
+
+impl Lists {
+    /// The 64 boards, of which the first are those that were set up, for a search among their members.
+    pub fn boards(&self) -> &[Board]
+        ensures { result.now ≡ boards_kept self.now }
+    {
+        &self.orders.boards
+    }
+
+    // The board at this place among all.
+    fn board(&self, place: usize) -> Option<&Board>
+        ensures { option_copied result ≡ slice_get (boards_kept self.now) place }
+    {
+        self.orders.boards.get(place)
+    }
+
+    /// Whether the person at one place among all is on the board at another.
+    pub fn is_on(&self, person: usize, board: usize) -> bool
+        ensures { (h : History) (p : ℕ) (b : List ℕ) → Keeps self.now h → place_among (persons h) p ≡ Some person
+            → board_place (boards h) b ≡ Some board → result ≡ is_on h p b }
+    {
+        has_board(self.listings.of(Some(person)), board)
+    }
+
+    /// On how many boards the person at this place among all is.
+    pub fn list_count(&self, person: usize) -> usize
+        ensures { (h : History) (p : ℕ) → Keeps self.now h → place_among (persons h) p ≡ Some person
+            → result ≡ length (boards_of h p) }
+    {
+        self.listings.of(Some(person)).count_ones() as usize
+    }
+
+    /// How many persons are on the board at this place among all.
+    pub fn member_count(&self, board: usize) -> u16
+        ensures { (h : History) (b : List ℕ) → Keeps self.now h → board_place (boards h) b ≡ Some board
+            → result ≡ length (order h b) }
+    {
+        match self.board(board) {
+            Some(found) => found.length(),
+            None => 0,
+        }
+    }
+
+    /// Who stands at a place of the board, from 1; 0 tells the same as 1. `None` where nobody does.
+    pub fn member_at(&self, board: usize, place: u16) -> Option<PersonNo>
+        ensures { (h : History) (b : List ℕ) → Keeps self.now h → board_place (boards h) b ≡ Some board
+            → result ≡ member_at h b place }
+    {
+        self.board(board)?.at(place.max(1))
+    }
+
+    /// At which place of the board, from 1, the person stands; `None` where they aren't on it.
+    pub fn position(&self, person: PersonNo, board: usize) -> Option<u16>
+        ensures { (h : History) (b : List ℕ) → Keeps self.now h → board_place (boards h) b ≡ Some board
+            → find (λ link. nat_eq link.person person) (links b 1 (order h b))
+            ≡ option_map (λ k. record { board = b; position = k; person = person }) result }
+    {
+        order_is_by_rank();
+        self.board(board)?.position(person)
+    }
+}

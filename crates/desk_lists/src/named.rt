@@ -1,0 +1,16 @@
+use desk_base::Minute;
+
+/// The number of the last minute that there is: who is in a tour of duty isn't ready before it.
+pub const NEVER: u64 = 268_435_455;
+
+/// Whom and what an entry names, by their places, and when the person is ready after it.
+#[derive(Clone, Copy, Debug)]
+pub struct Named {
+    /// The place among all persons of the one whom the command names.
+    pub person: Option<usize>,
+    /// The place among all boards of the one that the command names, or that the offer was made from which it declines, or
+    /// that it sets up.
+    pub board: Option<usize>,
+    /// The minute from which the person is ready after the entry.
+    pub ready: Minute,
+}

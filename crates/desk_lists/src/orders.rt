@@ -1,0 +1,43 @@
+ghost use Rattle.std.specs.Prelude.{◌≡◌, ℕ, [], IfOk, length};
+ghost use Rattle.desk_model.specs.declared.limits.TheConstants.{BOARD_LIMIT};
+ghost use Rattle.vacancy_fill.specs.Chain.{members_at};
+ghost use Rattle.desk_lists.specs.Changes.{BecomesBy, EachBecomes};
+
+use crate::board_changes::change_board;
+use crate::named::Named;
+use desk_base::{Code, NoMemory};
+use desk_model::{BOARD_LIMIT, Cmd};
+use pool_board::Board;
+use std::alloc::Global;
+
+/// 64 boards, of which the first are those that were set up.
+#[derive(Drop)]
+pub struct Orders {
+    pub(crate) boards: Vec<Board>,
+}
+
+impl Orders {
+    /// Boards with no members; `NoMemory` where there is none for them.
+    pub(crate) fn new(alloc: Global) -> Result<Orders, NoMemory>
+        ensures many { IfOk result (λ o. length o.boards.items ≡ BOARD_LIMIT) }
+        ensures empty { IfOk result (λ o. (j : ℕ) → members_at o.boards.items j ≡ []) }
+    {
+        // the place of a board that isn't set up, which nothing reads
+        let place = Code::read(b"0").ok_or(NoMemory)?;
+        let mut boards = Vec::with_capacity(alloc, BOARD_LIMIT)?;
+        for _ in 0..BOARD_LIMIT {
+            boards.push_reserved(Board::new(alloc, place, false)?);
+        }
+        Ok(Orders { boards })
+    }
+
+    /// Makes of each board what a command makes of it that was done; `word` has the boards of the person whom it names.
+    pub(crate) fn change(&mut self, cmd: &Cmd, named: &Named, word: u64)
+        ensures many { length self.new.boards.items ≡ length self.old.boards.items }
+        ensures each { EachBecomes (BecomesBy cmd.now named.now word) self.old.boards.items self.new.boards.items }
+    {
+        for place in 0..self.boards.len() {
+            change_board(&mut self.boards[place], place, cmd, named, word);
+        }
+    }
+}
