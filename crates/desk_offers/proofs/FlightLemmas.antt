@@ -130,10 +130,13 @@ offers-ended h e flight later minutes vac done comes to settled one found vacanc
     ∙ ap (left_open (Some vac)) (are.to p) ∙ sym (to p ∙ settled-to e vac p (on_offer h p) settled))
     (λ p has. are.enrolled p (kept-ended (nat_eq done.person p) (of_person flight p) (sym (ap is_some (persons_are p)) ∙ has)))
 
--- one whose vacancy had none
+-- one whose vacancy had none: none of it is kept
 idle-offer : (codes : List (List ℕ)) (minutes : ℕ) (offer : Option Offer) → IsOffer codes minutes None offer → offer ≡ None
 idle-offer codes minutes None is = refl
 idle-offer codes minutes (Some offer) is = absurd is
+
+pub closed-vacancy : (h : History) (flight : List InFlight) (minutes vac : ℕ) → AreOffers flight minutes h → of_vacancy flight vac ≡ None → open_offer h vac ≡ None
+closed-vacancy h flight minutes vac are none = idle-offer (boards h) minutes (open_offer h vac) (subst (λ o. IsOffer (boards h) minutes o (open_offer h vac)) none (are.each vac))
 
 pub offers-idle : (h : History) (e : EntryValue) (flight : List InFlight) (minutes vac : ℕ) → Comes h e
     → ((p : ℕ) → on_offer (with_entry h e) p ≡ on_offer_after p e (on_offer h p)) → said settles e ≡ Some vac → IsOneMap flight → of_vacancy flight vac ≡ None
@@ -143,11 +146,8 @@ offers-idle h e flight minutes vac comes to settled one found are = offers-go_on
     (λ p. are.to p ∙ sym (to p ∙ settled-to e vac p (on_offer h p) settled ∙ ap (left_open (Some vac)) (sym (are.to p)) ∙ sym (to-idle flight one vac p (of_person flight p) found refl) ∙ are.to p))
     are.enrolled
   where
-    closed : open_offer h vac ≡ None
-    closed = idle-offer (boards h) minutes (open_offer h vac) (subst (λ o. IsOffer (boards h) minutes o (open_offer h vac)) found (are.each vac))
-
     same_offer : (v : ℕ) (here : Bool) → nat_eq vac v ≡ here → cond here None (open_offer h v) ≡ open_offer h v
-    same_offer v true x = sym (ap (open_offer h) (sym (same_number vac v x)) ∙ closed)
+    same_offer v true x = sym (ap (open_offer h) (sym (same_number vac v x)) ∙ closed-vacancy h flight minutes vac are found)
     same_offer v false x = refl
 
 -- ---- one that offers

@@ -17,7 +17,7 @@ use Rattle.desk_model.specs.Comes.{Comes}
 use Rattle.desk_register.specs.Among.{place_among, board_place}
 use Rattle.desk_register.proofs.PersonLemmas.{same, same_number}
 use Rattle.desk_offers.specs.Told.{decliner}
-use Rattle.desk_offers.specs.Holds.{end_of, AreHolds}
+use Rattle.desk_offers.specs.Holds.{end_for, AreHolds}
 use Rattle.desk_offers.proofs.PlaceLemmas.{position-stays, position-new, position-lt, places-differ, placed-differ}
 use Rattle.desk_offers.proofs.HearLemmas.{Declines, no-hold, hold-told}
 
@@ -26,37 +26,33 @@ number-decides a b = (same_number a b, λ is. subst (λ x. nat_eq a x ≡ true) 
 
 -- ---- one person more, or one board
 
-no-end : (ends : ℕ → ℕ → ℕ) (person : Option ℕ) → end_of ends person None ≡ 0
-no-end ends None = refl
-no-end ends (Some i) = refl
-
 persons-grown : {X : Type 0} (ends : ℕ → ℕ → ℕ) (test : X → Bool) (xs : List X) (more : Option X) (board : Option ℕ) → ((i j : ℕ) → length xs ≤ i → ends i j ≡ 0)
-    → end_of ends (position test (xs ++ cons_option more [])) board ≡ end_of ends (position test xs) board
+    → end_for ends (position test (xs ++ cons_option more [])) board ≡ end_for ends (position test xs) board
 persons-grown ends test xs more board behind = go (position test xs) (position test (xs ++ cons_option more [])) board refl refl
   where
-    go : (was is : Option ℕ) (board : Option ℕ) → position test xs ≡ was → position test (xs ++ cons_option more []) ≡ is → end_of ends is board ≡ end_of ends was board
-    go (Some i) is board x y = ap (λ o. end_of ends o board) (sym y ∙ position-stays test xs more i x)
+    go : (was is : Option ℕ) (board : Option ℕ) → position test xs ≡ was → position test (xs ++ cons_option more []) ≡ is → end_for ends is board ≡ end_for ends was board
+    go (Some i) is board x y = ap (λ o. end_for ends o board) (sym y ∙ position-stays test xs more i x)
     go None None board x y = refl
     go None (Some i) None x y = refl
     go None (Some i) (Some j) x y = behind i j (omega (arith, position-new test xs more i x y))
 
 boards-grown : {X : Type 0} (ends : ℕ → ℕ → ℕ) (test : X → Bool) (xs : List X) (more : Option X) (person : Option ℕ) → ((i j : ℕ) → length xs ≤ j → ends i j ≡ 0)
-    → end_of ends person (position test (xs ++ cons_option more [])) ≡ end_of ends person (position test xs)
+    → end_for ends person (position test (xs ++ cons_option more [])) ≡ end_for ends person (position test xs)
 boards-grown ends test xs more None beyond = refl
 boards-grown ends test xs more (Some i) beyond = go (position test xs) (position test (xs ++ cons_option more [])) refl refl
   where
-    go : (was is : Option ℕ) → position test xs ≡ was → position test (xs ++ cons_option more []) ≡ is → end_of ends (Some i) is ≡ end_of ends (Some i) was
-    go (Some j) is x y = ap (end_of ends (Some i)) (sym y ∙ position-stays test xs more j x)
+    go : (was is : Option ℕ) → position test xs ≡ was → position test (xs ++ cons_option more []) ≡ is → end_for ends (Some i) is ≡ end_for ends (Some i) was
+    go (Some j) is x y = ap (end_for ends (Some i)) (sym y ∙ position-stays test xs more j x)
     go None None x y = refl
     go None (Some j) x y = beyond i j (omega (arith, position-new test xs more j x y))
 
 grown : (h : History) (e : EntryValue) (ends : ℕ → ℕ → ℕ) (p : ℕ) (b : List ℕ) → Comes h e → ((i j : ℕ) → length (persons h) ≤ i → ends i j ≡ 0)
     → ((i j : ℕ) → length (boards h) ≤ j → ends i j ≡ 0)
-    → end_of ends (place_among (persons (with_entry h e)) p) (board_place (boards (with_entry h e)) b) ≡ end_of ends (place_among (persons h) p) (board_place (boards h) b)
+    → end_for ends (place_among (persons (with_entry h e)) p) (board_place (boards (with_entry h e)) b) ≡ end_for ends (place_among (persons h) p) (board_place (boards h) b)
 grown h e ends p b comes behind beyond =
-    ap (λ ns. end_of ends (place_among ns p) (board_place (boards (with_entry h e)) b)) comes.persons
+    ap (λ ns. end_for ends (place_among ns p) (board_place (boards (with_entry h e)) b)) comes.persons
     ∙ persons-grown ends (nat_eq p) (persons h) (said enrols_any e) (board_place (boards (with_entry h e)) b) behind
-    ∙ ap (λ codes. end_of ends (place_among (persons h) p) (board_place codes b)) comes.boards
+    ∙ ap (λ codes. end_for ends (place_among (persons h) p) (board_place codes b)) comes.boards
     ∙ boards-grown ends (bytes_eq b) (boards h) (said sets_up_any e) (place_among (persons h) p) beyond
 
 longer : {X : Type 0} (xs ys : List X) (more : Option X) (i : ℕ) → ys ≡ xs ++ cons_option more [] → length ys ≤ i → length xs ≤ i
@@ -111,7 +107,7 @@ module _
       other-board i j (grind (arith, nat_tests, low, above)) ∙ are.beyond i j above
 
   raised : (p : ℕ) (b : List ℕ) (i j : Option ℕ) → place_among (persons h) p ≡ i → board_place (boards h) b ≡ j
-      → end_of later i j ≡ max (end_of ends i j) (cond (nat_eq who p && bytes_eq offer.board b) until 0)
+      → end_for later i j ≡ max (end_for ends i j) (cond (nat_eq who p && bytes_eq offer.board b) until 0)
   raised p b (Some i) (Some j) x y =
       raised-at i j (nat_eq who p) (bytes_eq offer.board b) (places-differ nat_eq number-decides (persons h) 0 who p place i placed x)
       (places-differ bytes_eq bytes_eq-Decides (boards h) [] offer.board b board j from y)

@@ -31,7 +31,7 @@ use Rattle.desk_offers.specs.Keeps.{AreFew}
 use Rattle.desk_offers.proofs.PlaceLemmas.{position-lt}
 use Rattle.desk_offers.proofs.HearLemmas.{Declines, declines, may-decline, IsMadeTo}
 use Rattle.desk_offers.proofs.HoldLemmas.{Raises, holds-raised}
-use Rattle.desk_offers.proofs.FlightLemmas.{offers-few, offers-made}
+use Rattle.desk_offers.proofs.FlightLemmas.{closed-vacancy, offers-few, offers-made}
 
 -- ---- no more than a desk takes
 
@@ -70,10 +70,6 @@ closed-of : (codes : List (List ℕ)) (minutes : ℕ) (kept : Option InFlight) �
 closed-of codes minutes None is = refl
 closed-of codes minutes (Some kept) is = absurd is
 
-idle-of : (codes : List (List ℕ)) (minutes : ℕ) (offer : Option Offer) → IsOffer codes minutes None offer → offer ≡ None
-idle-of codes minutes None is = refl
-idle-of codes minutes (Some offer) is = absurd is
-
 same_vac : (e : EntryValue) (vac p : ℕ) → said settles e ≡ Some vac → (is : Declines e p) → vac ≡ is.vac
 same_vac e vac p settled is = ap (λ o. unwrap_or o 0) (sym settled ∙ is.settled)
 
@@ -82,14 +78,11 @@ pub idle-none : (h : History) (e : EntryValue) (flight : List InFlight) (minutes
     → of_vacancy flight vac ≡ None → AreOffers flight minutes h → said decliner e ≡ None
 idle-none h e flight minutes vac rests settled found are = go (said decliner e) refl
   where
-    closed : open_offer h vac ≡ None
-    closed = idle-of (boards h) minutes (open_offer h vac) (subst (λ o. IsOffer (boards h) minutes o (open_offer h vac)) found (are.each vac))
-
     go : (who : Option ℕ) → said decliner e ≡ who → who ≡ None
     go None is = refl
     go (Some p) is =
         let by = declines e p is in
-        absurd (false≢true (sym (ap (is_to p) (ap (open_offer h) (sym (same_vac e vac p settled by)) ∙ closed)) ∙ (may-decline h e p by rests).to))
+        absurd (false≢true (sym (ap (is_to p) (ap (open_offer h) (sym (same_vac e vac p settled by)) ∙ closed-vacancy h flight minutes vac are found)) ∙ (may-decline h e p by rests).to))
 
 -- who declines has a place
 pub decliner-placed : (h : History) (e : EntryValue) (p : ℕ) → (is_done e.reply ≡ true → RestsOn h e.stated.cmd)

@@ -44,9 +44,9 @@ impl Offers {
         self.holds.hold(place, usize::from(done.board), until);
     }
 
-    /// Keeps what the next entry of a legal history makes of offers and holds. `person` is the place of who declines by it, among all
-    /// persons, and `board` that of the board which its offer is made from, among all boards; neither is looked at where the entry
-    /// tells no such thing.
+    /// Keeps what the next entry of a legal history makes of offers and holds; of any other entry nothing is promised. `person`
+    /// is the place of who declines by it, among all persons, and `board` that of the board which its offer is made from, among
+    /// all boards; neither is looked at where the entry tells no such thing. It takes no memory.
     pub fn keep(&mut self, entry: &Entry, person: Option<usize>, board: Option<usize>)
         ensures { (h : History) → IsLegal h → IsNext h entry.now
             → ((p : ℕ) → said decliner entry.now ≡ Some p → person ≡ place_among (persons h) p)
