@@ -1,3 +1,4 @@
+pub mod ChainLemmas
 mod AskedLemmas
 pub mod FindLemmas
 pub mod NextLemmas

@@ -1,1 +1,4 @@
 pub mod Crew
+pub mod Desk
+pub mod Search
+pub mod Core

@@ -1,7 +1,25 @@
 //! A desk that keeps its boards, offers and clocks as they stand, and answers each command by looking them up.
 #![tactic(auto)]
 
+mod call;
 mod crew;
 mod crew_duty;
 mod crew_facts;
+mod crew_keep;
 mod crew_law;
+mod desk;
+mod desk_bar;
+mod desk_boards;
+mod desk_chain;
+mod desk_held;
+mod desk_keep;
+mod desk_offer;
+mod desk_places;
+mod desk_reads;
+mod fast_core;
+mod looks;
+mod search;
+mod step;
+mod told;
+
+pub use fast_core::FastCore;

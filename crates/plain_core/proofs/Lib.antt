@@ -1,5 +1,4 @@
 pub mod PrefixLemmas
 pub mod MemberLemmas
 pub mod GatherLemmas
-pub mod ChainLemmas
 pub mod KeptLemmas

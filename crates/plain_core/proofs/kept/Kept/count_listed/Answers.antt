@@ -1,5 +1,5 @@
 use Rattle.std.proofs.Common.{length, ap, arith}
-use Rattle.plain_core.proofs.ChainLemmas.{length-chain-next}
+use Rattle.desk_answers.proofs.ChainLemmas.{length-chain-next}
 use Rattle.plain_core.proofs.kept.Kept.count_listed.Goals as goal
 
 pub loop-board-preserved : goal.loop-board-preserved

@@ -3,7 +3,7 @@ use Rattle.std.specs.List.{find}
 use Rattle.desk_model.specs.declared.link.Link.{Link}
 use Rattle.desk_model.specs.Boards.{links, chain}
 use Rattle.desk_model.specs.Bars.{is_free}
-use Rattle.plain_core.proofs.ChainLemmas.{find-chain-here, find-chain-past}
+use Rattle.desk_answers.proofs.ChainLemmas.{find-chain-here, find-chain-past}
 use Rattle.plain_core.proofs.kept.Kept.first_free_in.Goals as goal
 
 pub returns-in-Some-clause-first : goal.returns-in-Some-clause-first

@@ -1,7 +1,7 @@
 use Rattle.std.proofs.Common.{nat_eq, sym, ap, ◌∙◌, arith}
 use Rattle.desk_model.specs.Boards.{links, chain}
 use Rattle.desk_model.specs.ExplainAnswer.{place_in}
-use Rattle.plain_core.proofs.ChainLemmas.{find-chain-here, find-chain-past}
+use Rattle.desk_answers.proofs.ChainLemmas.{find-chain-here, find-chain-past}
 use Rattle.plain_core.proofs.kept.Kept.first_place.Goals as goal
 
 pub returns-in-Some-clause-first : goal.returns-in-Some-clause-first

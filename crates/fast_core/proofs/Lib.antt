@@ -1,0 +1,5 @@
+mod PlaceLemmas
+mod OfferLemmas
+mod SearchLemmas
+mod KeepLemmas
+mod CoreLemmas

@@ -1,0 +1,50 @@
+-- Who isn't enrolled is on no board, and nobody is on one that wasn't set up.
+use Rattle.std.proofs.Common.{◌≡◌, ℕ, Bool, true, false, Option, None, Some, is_some, List, [], ◌∷◌, length, filter, refl, sym, ap, ◌∙◌}
+use Rattle.std.proofs.lemmas.Bool.{false≢true}
+use Rattle.desk_model.specs.History.{History}
+use Rattle.desk_model.specs.Register.{person_of, board_of, persons, boards}
+use Rattle.desk_model.specs.Boards.{is_on, boards_of, order}
+use Rattle.desk_model.specs.RestsOn.{IsListed}
+use Rattle.desk_register.specs.Among.{place_among, board_place}
+
+-- the laws
+abbrev pub OnAreListed : History → Type 0
+OnAreListed h = (p : ℕ) (b : List ℕ) → is_on h p b ≡ true → IsListed h p b
+
+abbrev pub PersonsHavePlaces : History → Type 0
+PersonsHavePlaces h = (p : ℕ) → is_some (place_among (persons h) p) ≡ is_some (person_of h p)
+
+abbrev pub BoardsHavePlaces : History → Type 0
+BoardsHavePlaces h = (b : List ℕ) → is_some (board_place (boards h) b) ≡ is_some (board_of h b)
+
+pub off-nobody : (h : History) (p : ℕ) (b : List ℕ) → OnAreListed h → PersonsHavePlaces h → place_among (persons h) p ≡ None → false ≡ is_on h p b
+off-nobody h p b listed placed none = go (is_on h p b) refl
+  where
+    go : (on : Bool) → is_on h p b ≡ on → false ≡ on
+    go true on = absurd (false≢true (sym (ap is_some none) ∙ placed p ∙ (listed p b on).enrolled))
+    go false on = refl
+
+pub off-nowhere : (h : History) (p : ℕ) (b : List ℕ) → OnAreListed h → BoardsHavePlaces h → board_place (boards h) b ≡ None → false ≡ is_on h p b
+off-nowhere h p b listed placed none = go (is_on h p b) refl
+  where
+    go : (on : Bool) → is_on h p b ≡ on → false ≡ on
+    go true on = absurd (false≢true (sym (ap is_some none) ∙ placed b ∙ (listed p b on).board))
+    go false on = refl
+
+pub boards_of-nobody : (h : History) (p : ℕ) → OnAreListed h → PersonsHavePlaces h → place_among (persons h) p ≡ None → 0 ≡ length (boards_of h p)
+boards_of-nobody h p listed placed none = go (boards h)
+  where
+    go : (codes : List (List ℕ)) → 0 ≡ length (filter (is_on h p) codes)
+    go [] = refl
+    go (b ∷ codes) = rw (sym (off-nobody h p b listed placed none)) (go codes)
+
+unset : (h : History) (b : List ℕ) → BoardsHavePlaces h → board_place (boards h) b ≡ None → board_of h b ≡ None
+unset h b placed none = go (board_of h b) (sym (placed b) ∙ ap is_some none)
+  where
+    go : {X : Type 0} (known : Option X) → is_some known ≡ false → known ≡ None
+    go None is = refl
+    go (Some x) is = absurd (false≢true (sym is))
+
+-- so such a board has no members
+pub order-nowhere : (h : History) (b : List ℕ) → ((c : List ℕ) → board_of h c ≡ None → order h c ≡ []) → BoardsHavePlaces h → board_place (boards h) b ≡ None → order h b ≡ []
+order-nowhere h b empty placed none = empty b (unset h b placed none)

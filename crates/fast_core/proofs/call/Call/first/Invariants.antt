@@ -1,0 +1,20 @@
+use Rattle.std.proofs.Common.{◌≡◌, ◌≤◌, ◌+◌, drop}
+use Rattle.std.specs.List.{find}
+use Rattle.desk_model.specs.History.{History}
+use Rattle.desk_model.specs.Register.{boards}
+use Rattle.desk_model.specs.Boards.{chain}
+use Rattle.desk_model.specs.Bars.{is_free}
+use Rattle.desk_lists.specs.Lists.{boards_kept}
+use Rattle.fast_core.specs.Search.{Asks, bar_for, chain_steps}
+use Rattle.fast_core.proofs.call.Call.first.Given as goal
+
+-- the boards so far have nobody, and each was searched
+abbrev pub invariant-loop-board : goal.invariant-loop-board
+invariant-loop-board g l = record {
+  first : (h : History) → Asks l.self.desk.now l.self.moment l.self.job.now h
+      → find (λ link. is_free h l.self.moment l.self.job.now link.person) (chain h (drop l.board-index l.board-items))
+      ≡ find (λ link. is_free h l.self.moment l.self.job.now link.person) (chain h l.board-items);
+  steps : (h : History) → Asks l.self.desk.now l.self.moment l.self.job.now h
+      → l.steps + chain_steps (boards_kept l.self.desk.now.lists) (bar_for h l.self.moment l.self.job.now) l.self.moment (boards h) (drop l.board-index l.board-items)
+      ≤ l.fn.steps + chain_steps (boards_kept l.self.desk.now.lists) (bar_for h l.self.moment l.self.job.now) l.self.moment (boards h) l.board-items;
+}

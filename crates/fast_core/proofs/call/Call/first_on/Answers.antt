@@ -1,0 +1,41 @@
+use Rattle.std.proofs.Common.{sym, ap, ◌∙◌, refl}
+use Rattle.std.specs.List.{find}
+use Rattle.desk_model.specs.Boards.{links}
+use Rattle.desk_model.specs.Bars.{is_free}
+use Rattle.desk_lists.specs.Lists.{boards_kept}
+use Rattle.fast_core.specs.Search.{bar_for}
+use Rattle.fast_core.proofs.PlaceLemmas.{order-nowhere}
+use Rattle.fast_core.proofs.SearchLemmas.{found-first, found-steps, found-some, found-none}
+use Rattle.fast_core.proofs.call.Call.first_on.Goals as goal
+
+pub returns-in_default-clause-first : goal.returns-in_default-clause-first
+returns-in_default-clause-first g c h asks =
+    let none = order-nowhere h c.args.board.now (c.who_is_on_a_board_is_listed.ensures.empty h asks.tells.legal) (c.who_is_enrolled_has_a_place.ensures.boards h)
+    (sym (c.board_place.ensures.place h asks.tells) ∙ c.in_default.is) in
+    sym (ap (λ ps. find (λ link. is_free h c.args.self.now.moment c.args.self.now.job.now link.person) (links c.args.board.now 1 ps)) none)
+
+pub returns-in-None-clause-first : goal.returns-in-None-clause-first
+returns-in-None-clause-first g c h asks =
+    found-none c.args.board.now c.first.result _ c.in-None.is
+    (found-first h c.args.self.now.moment c.args.self.now.job.now (boards_kept c.args.self.now.desk.now.lists) c.boards-boards.result.now _ c.args.board.now c.in-Some.at c.first.result (c.who_is_not_ready_is_barred.ensures.tour h) (c.who_is_not_ready_is_barred.ensures.rest h)
+    asks.tells.lists.lists c.boards-boards.ensures (sym (c.board_place.ensures.place h asks.tells) ∙ c.in-Some.is)
+    (c.first.ensures.first (bar_for h c.args.self.now.moment c.args.self.now.job.now) (record { history = h; asks = asks; bars = λ p. refl })))
+
+pub returns-in-None-clause-steps : goal.returns-in-None-clause-steps
+returns-in-None-clause-steps g c h asks =
+    found-steps h c.args.self.now.moment c.args.self.now.job.now (boards_kept c.args.self.now.desk.now.lists) c.boards-boards.result.now _ c.args.board.now c.in-Some.at c.args.steps.now c.first.new.steps (c.who_is_not_ready_is_barred.ensures.tour h) (c.who_is_not_ready_is_barred.ensures.rest h)
+    asks.tells.lists.lists c.boards-boards.ensures (sym (c.board_place.ensures.place h asks.tells) ∙ c.in-Some.is)
+    (c.first.ensures.cost (bar_for h c.args.self.now.moment c.args.self.now.job.now) (record { history = h; asks = asks; bars = λ p. refl }))
+
+pub returns-in-Some-first-clause-first : goal.returns-in-Some-first-clause-first
+returns-in-Some-first-clause-first g c h asks =
+    found-some c.args.board.now c.first.result c.in-Some-first.found _ c.in-Some-first.is
+    (found-first h c.args.self.now.moment c.args.self.now.job.now (boards_kept c.args.self.now.desk.now.lists) c.boards-boards.result.now _ c.args.board.now c.in-Some.at c.first.result (c.who_is_not_ready_is_barred.ensures.tour h) (c.who_is_not_ready_is_barred.ensures.rest h)
+    asks.tells.lists.lists c.boards-boards.ensures (sym (c.board_place.ensures.place h asks.tells) ∙ c.in-Some.is)
+    (c.first.ensures.first (bar_for h c.args.self.now.moment c.args.self.now.job.now) (record { history = h; asks = asks; bars = λ p. refl })))
+
+pub returns-in-Some-first-clause-steps : goal.returns-in-Some-first-clause-steps
+returns-in-Some-first-clause-steps g c h asks =
+    found-steps h c.args.self.now.moment c.args.self.now.job.now (boards_kept c.args.self.now.desk.now.lists) c.boards-boards.result.now _ c.args.board.now c.in-Some.at c.args.steps.now c.first.new.steps (c.who_is_not_ready_is_barred.ensures.tour h) (c.who_is_not_ready_is_barred.ensures.rest h)
+    asks.tells.lists.lists c.boards-boards.ensures (sym (c.board_place.ensures.place h asks.tells) ∙ c.in-Some.is)
+    (c.first.ensures.cost (bar_for h c.args.self.now.moment c.args.self.now.job.now) (record { history = h; asks = asks; bars = λ p. refl }))

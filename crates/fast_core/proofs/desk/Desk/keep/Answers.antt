@@ -1,0 +1,28 @@
+use Rattle.std.proofs.Common.{◌≡◌, ℕ, Some, sym, ◌∙◌}
+use Rattle.desk_model.specs.History.{with_entry, said}
+use Rattle.desk_model.specs.Register.{persons}
+use Rattle.desk_model.proofs.LegalLemmas.{legal-with}
+use Rattle.desk_register.specs.Among.{place_among}
+use Rattle.desk_lists.specs.Lists.{mover}
+use Rattle.fast_core.proofs.KeepLemmas.{decliner-mover}
+use Rattle.fast_core.proofs.desk.Desk.keep.Goals as goal
+
+pub returns-clause-tells : goal.returns-clause-tells
+returns-clause-tells c h tells next =
+    let e = c.args.entry.now in
+    let person : (p : ℕ) → said mover e ≡ Some p → c.place_of-person.result ≡ place_among (persons h) p =
+    λ p told. c.place_of-person.ensures h p tells (c.mover-mover.ensures ∙ told) in
+    let crew = c.keep.ensures h tells.legal next person tells.crew in
+    record {
+      legal = legal-with h e tells.legal next;
+      opening = tells.opening;
+      last = c.moment-self.ensures ∙ sym (c.what_an_entry_makes_of_the_desk.ensures.moment h e);
+      crew = crew;
+      offers = c.keep-2.ensures h tells.legal next (λ p told. person p (decliner-mover e p told)) (λ b from. c.offered_board-offered.ensures h b tells from) tells.offers;
+      lists = c.keep-3.ensures h tells.legal next (record {
+          person = person;
+          board = λ b told. c.named_board-board.ensures.named h b tells told;
+          set_up = λ b told. c.named_board-board.ensures.set_up h b tells told;
+          ready = λ p told. c.ready_of-ready.ensures (with_entry h e) p crew (c.mover-mover.ensures ∙ told);
+        }) tells.lists;
+    }

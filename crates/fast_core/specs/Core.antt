@@ -1,0 +1,14 @@
+-- What a core stands for.
+use Rattle.std.specs.Prelude.{◌≡◌}
+use Rattle.std.proofs.Common.{sym}
+use Rattle.desk_model.specs.History.{History}
+use Rattle.fast_core.specs.declared.desk.Desk.{Desk}
+use Rattle.fast_core.specs.Desk.{Tells}
+
+-- there is a history of which the desk tells
+abbrev pub IsSome : Desk → Type 0
+IsSome d = ∥ ((h : History) × Tells d h) ∥₁
+
+-- it was opened as the history is
+pub opened-as : (d : Desk) (h : History) → Tells d h → h.opening ≡ d.opening
+opened-as d h tells = sym tells.opening

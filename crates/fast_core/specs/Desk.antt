@@ -1,0 +1,17 @@
+-- What a desk keeps, beside what a history says.
+use Rattle.std.specs.Prelude.{◌≡◌}
+use Rattle.desk_model.specs.History.{History}
+use Rattle.desk_model.specs.Legal.{last_moment, IsLegal}
+use Rattle.desk_offers.specs.Keeps.{Keeps as KeepsOffers}
+use Rattle.desk_lists.specs.Lists.{Keeps as KeepsLists}
+use Rattle.fast_core.specs.Crew.{KeepsCrew}
+use Rattle.fast_core.specs.declared.desk.Desk.{Desk}
+
+-- all that is kept is what a legal history says
+pub record Tells (d : Desk) (h : History) : Type 0 where
+  pub legal : IsLegal h
+  pub opening : d.opening ≡ h.opening
+  pub last : d.last ≡ last_moment h
+  pub crew : KeepsCrew d.crew h
+  pub offers : KeepsOffers d.offers h
+  pub lists : KeepsLists d.lists h

@@ -1,0 +1,11 @@
+use crate::desk::Desk;
+use desk_base::Minute;
+use desk_model::Job;
+
+/// A vacancy's job that somebody is called for, by this desk at this moment.
+#[derive(Drop)]
+pub(crate) struct Call<'a> {
+    pub desk: &'a Desk,
+    pub moment: Minute,
+    pub job: &'a Job,
+}

@@ -1,0 +1,49 @@
+//! What is kept of persons goes on by an entry.
+ghost use Rattle.std.specs.Prelude.{◌≡◌, ℕ, Some};
+ghost use Rattle.desk_model.specs.History.{History, with_entry, said};
+ghost use Rattle.desk_model.specs.Register.{persons};
+ghost use Rattle.desk_model.specs.Legal.{IsLegal, IsNext};
+ghost use Rattle.desk_register.specs.Among.{place_among};
+ghost use Rattle.desk_lists.specs.Lists.{mover, ready_minute};
+ghost use Rattle.fast_core.specs.Crew.{KeepsCrew};
+
+use crate::crew::Crew;
+use desk_base::{Minute, PersonNo};
+use desk_lists::NEVER;
+use desk_model::Entry;
+use duty_events::Stage;
+use rest_rules::rest_end;
+
+impl Crew {
+    /// Keeps what the next entry of a legal history changes. `place` is that of the person among all whom it moves or of whom it
+    /// tells an event.
+    pub fn keep(&mut self, entry: &Entry, place: Option<usize>)
+        ensures { (h : History) → IsLegal h → IsNext h entry.now
+            → ((p : ℕ) → said mover entry.now ≡ Some p → place ≡ place_among (persons h) p)
+            → KeepsCrew self.old h → KeepsCrew self.new (with_entry h entry.now) }
+    {
+        self.register.keep(entry);
+        self.duty.keep(entry, place);
+    }
+
+    /// The minute from which a person is ready.
+    pub fn ready(&self, person: PersonNo) -> Minute
+        ensures { (h : History) → KeepsCrew self.now h → result ≡ ready_minute h person }
+    {
+        match self.clock(person) {
+            Some(clock) if clock.stage() == Stage::Off => clock.rest_end(),
+            Some(_) => Minute::new(NEVER).unwrap_or(Minute::FIRST),
+            None => rest_end(&[]),
+        }
+    }
+
+    /// The minute from which this person is ready; the first of all where there is none such.
+    pub fn ready_of(&self, person: &Option<PersonNo>) -> Minute
+        ensures { (h : History) (p : ℕ) → KeepsCrew self.now h → person.now ≡ Some p → result ≡ ready_minute h p }
+    {
+        match person {
+            Some(person) => self.ready(*person),
+            None => Minute::FIRST,
+        }
+    }
+}

@@ -1,0 +1,78 @@
+//! The first of a vacancy's chain whom nothing bars.
+ghost use Rattle.std.specs.Prelude.{◌≡◌, ◌≤◌, ◌+◌};
+ghost use Rattle.desk_model.specs.History.{History};
+ghost use Rattle.desk_model.specs.Bars.{first_free};
+ghost use Rattle.fast_core.specs.Search.{Asks, search_steps};
+
+use crate::call::Call;
+use denial_rules::Bar;
+use desk_base::{Code, PersonNo};
+use desk_model::{Link, who_is_not_ready_is_barred, who_is_on_a_board_is_listed};
+use desk_register::who_is_enrolled_has_a_place;
+use slot_tree::Steps;
+use std::sync::ledger::Ledger;
+use vacancy_fill::{Judge, first};
+
+impl Judge for Call<'_> {
+    ghost use Rattle.fast_core.specs.Search.{Judges};
+
+    ghost judges = { λ call barred. Judges call.desk.now call.moment call.job.now barred };
+
+    fn bar(&self, person: PersonNo) -> Option<Bar> {
+        self.desk.bar(self.moment, self.job, person)
+    }
+}
+
+impl Call<'_> {
+    ghost use Rattle.std.specs.List.{find};
+    ghost use Rattle.desk_model.specs.Register.{boards};
+    ghost use Rattle.desk_model.specs.Boards.{links, order};
+    ghost use Rattle.desk_model.specs.Bars.{is_free};
+    ghost use Rattle.desk_register.specs.Among.{board_place};
+    ghost use Rattle.desk_lists.specs.Lists.{boards_kept};
+    ghost use Rattle.fast_core.specs.Search.{bar_for, board_steps};
+
+    // The first place of the board whose person nothing bars; `None` where all are barred.
+    fn first_on<L: Ledger>(&self, board: &Code, steps: &mut Steps<L>) -> Option<Link>
+        ensures first { (h : History) → Asks self.now.desk.now self.now.moment self.now.job.now h
+            → result ≡ find (λ link. is_free h self.now.moment self.now.job.now link.person) (links board.now 1 (order h board.now)) }
+        ensures steps { (h : History) → Asks self.now.desk.now self.now.moment self.now.job.now h
+            → steps.new ≤ steps.old + board_steps (boards_kept self.now.desk.now.lists) (bar_for h self.now.moment self.now.job.now) self.now.moment (board_place (boards h) board.now) }
+    {
+        who_is_not_ready_is_barred();
+        who_is_on_a_board_is_listed();
+        who_is_enrolled_has_a_place();
+        let Some(at) = self.desk.board_place(board) else {
+            return None;
+        };
+        let boards = self.desk.lists.boards();
+        if at >= boards.len() {
+            return None;
+        }
+        match first(boards, &[at as u8], self, self.moment, steps) {
+            Some(found) => Some(Link {
+                board: *board,
+                position: found.position,
+                person: found.person,
+            }),
+            None => None,
+        }
+    }
+
+    /// The first place of the job's chain whose person nothing bars; `None` where all are barred. The steps are nodes that searches
+    /// of boards read.
+    pub fn first<L: Ledger>(&self, steps: &mut Steps<L>) -> Option<Link>
+        ensures first { (h : History) → Asks self.now.desk.now self.now.moment self.now.job.now h
+            → result ≡ first_free h self.now.moment self.now.job.now }
+        ensures steps { (h : History) → Asks self.now.desk.now self.now.moment self.now.job.now h
+            → steps.new ≤ steps.old + search_steps self.now.desk.now h self.now.moment self.now.job.now }
+    {
+        let chain = self.job.chain();
+        for board in chain.codes() {
+            if let Some(link) = self.first_on(board, steps) {
+                return Some(link);
+            }
+        }
+        None
+    }
+}
