@@ -1,5 +1,5 @@
 -- What a command that was done makes of one board, beside what it makes of that board's order.
-use Rattle.std.proofs.Common.{◌≡◌, ◌≢◌, ◌<◌, ◌≤◌, ◌||◌, ℕ, Bool, true, false, cond, nat_eq, List, [], ◌∷◌, ◌++◌, length, get_or, Option, None, Some, is_some, refl, sym, ap, ◌∙◌, ◌⊎◌, inl, inr, arith, subst}
+use Rattle.std.proofs.Common.{◌≡◌, ◌≢◌, ◌<◌, ◌≤◌, ℕ, Bool, true, false, cond, nat_eq, List, [], ◌∷◌, ◌++◌, length, get_or, Option, None, Some, is_some, refl, sym, ap, ◌∙◌, ◌⊎◌, inl, inr, arith, subst}
 use Rattle.std.proofs.lemmas.Bool.{false≢true, ne_eqb, cases_lt, cases_eq}
 use Rattle.std.proofs.lemmas.List.{length-map}
 use Rattle.std.proofs.lemmas.Option.{slice_get-get_or, slice_get_within, same_Some}
@@ -25,15 +25,16 @@ use Rattle.desk_model.specs.Offers.{is_of, is_to, open_offer}
 use Rattle.desk_model.specs.Boards.{is_on, is_at, order}
 use Rattle.desk_model.specs.Duty.{tells}
 use Rattle.desk_model.specs.Comes.{sent_last}
-use Rattle.desk_model.specs.RestsOn.{RestsOn, MaySettle}
+use Rattle.desk_model.specs.RestsOn.{RestsOn}
 use Rattle.desk_register.specs.Among.{place_among, board_place}
 use Rattle.desk_register.specs.Done.{IsDone}
 use Rattle.desk_register.proofs.PersonLemmas.{same, same_number}
 use Rattle.desk_lists.specs.declared.named.Named.{Named}
 use Rattle.desk_lists.specs.Places.{has_board, word_of, is_in}
 use Rattle.desk_lists.specs.Changes.{is_final_at, SetsUp, TakesOn, LetsGo, Moves, IsThen, BecomesBy}
+use Rattle.desk_lists.specs.Laws.{Laws}
 use Rattle.desk_lists.specs.Lists.{ready_minute, KeepsLists, Names, mover, mover_board}
-use Rattle.desk_lists.proofs.LawLemmas.{Laws, said-done, ordered_by, ordered, ready-same}
+use Rattle.desk_lists.proofs.LawLemmas.{said-done, ordered_by, ordered, ready-same}
 use Rattle.desk_lists.proofs.PlacedLemmas.{board-at, boards-apart}
 use Rattle.desk_lists.proofs.BoardLemmas.{AllReady, ready-empty, ready-stays, ready-taken, ready-gone, ready-moved}
 

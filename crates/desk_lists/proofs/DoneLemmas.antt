@@ -4,7 +4,7 @@ use Rattle.std.proofs.lemmas.Bool.{false≢true, cases_lt}
 use Rattle.std.proofs.lemmas.Bool.Decides.{nat_tests}
 use Rattle.std.proofs.lemmas.Option.{slice_get_within, slice_get_past, same_Some}
 use Rattle.std.proofs.lemmas.Slice.Eq.{bytes_eq-Decides}
-use Rattle.std.specs.Prelude.{if◌then◌else◌, IfSome}
+use Rattle.std.specs.Prelude.{if◌then◌else◌}
 use Rattle.std.specs.List.{slice_get}
 use Rattle.std.specs.Option.{option_map, option_or}
 use Rattle.std.specs.Str.{bytes_eq}
@@ -13,13 +13,12 @@ use Rattle.pool_board.specs.Members.{persons as members_in, ready_of}
 use Rattle.vacancy_fill.specs.Chain.{members_of, members_at}
 use Rattle.desk_model.specs.declared.command.Cmd.{Cmd}
 use Rattle.desk_model.specs.declared.command.Cmd.TheVariants as cmd
-use Rattle.desk_model.specs.declared.board_setup.BoardSetup.{BoardSetup}
-use Rattle.desk_model.specs.declared.limits.TheConstants.{PERSON_LIMIT, BOARD_LIMIT}
+use Rattle.desk_model.specs.declared.limits.TheConstants.{BOARD_LIMIT}
 use Rattle.desk_model.specs.Entry.{EntryValue}
 use Rattle.desk_model.specs.History.{History, with_entry, said}
 use Rattle.desk_model.specs.Register.{sets_up, sets_up_any, board_of, persons, boards}
 use Rattle.desk_model.specs.Offers.{is_of}
-use Rattle.desk_model.specs.Boards.{is_on, order, puts}
+use Rattle.desk_model.specs.Boards.{is_on, puts}
 use Rattle.desk_register.specs.Among.{place_among}
 use Rattle.desk_register.specs.Done.{IsDone}
 use Rattle.desk_register.proofs.PersonLemmas.{same}
@@ -27,12 +26,13 @@ use Rattle.desk_register.proofs.PlaceAmongLemmas.{place-lt, places-apart}
 use Rattle.desk_lists.specs.declared.named.Named.{Named}
 use Rattle.desk_lists.specs.Places.{word_of, is_in, set_at}
 use Rattle.desk_lists.specs.Changes.{SetsUp, IsThen, BecomesBy, EachBecomes, put_by_both, put_by, AreWithin, HasRoom}
-use Rattle.desk_lists.specs.Lists.{ready_minute, KeepsLists, Names, mover, mover_board}
-use Rattle.desk_lists.proofs.LawLemmas.{Laws, said-done, ordered, order-done, on-done, may-set_up}
+use Rattle.desk_lists.specs.Laws.{Laws}
+use Rattle.desk_lists.specs.Lists.{KeepsLists, Names, mover, mover_board}
+use Rattle.desk_lists.proofs.LawLemmas.{said-done, ordered, order-done, on-done, may-set_up}
 use Rattle.desk_lists.proofs.ListLemmas.{get-within}
 use Rattle.desk_lists.proofs.PlacedLemmas.{boards-apart}
 use Rattle.desk_lists.proofs.CommandLemmas.{Before, After, rests-done, person-place, named-place, command-makes}
-use Rattle.desk_lists.proofs.KeepLemmas.{Follows, follows-keep}
+use Rattle.desk_lists.proofs.KeepLemmas.{follows-keep}
 
 -- ---- who is on which
 

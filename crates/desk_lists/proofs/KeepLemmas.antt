@@ -1,31 +1,26 @@
 -- The lists keep on what a history says.
-use Rattle.std.proofs.Common.{◌≡◌, ◌<◌, ◌≤◌, ◌++◌, ◌&&◌, ℕ, Bool, true, false, cond, nat_eq, List, [], length, Option, None, Some, is_some, unwrap_or, refl, sym, ap, ◌∙◌, ◌⊎◌, inl, inr, arith, subst}
+use Rattle.std.proofs.Common.{◌≡◌, ◌<◌, ◌≤◌, ℕ, Bool, true, false, List, [], length, Option, None, Some, is_some, unwrap_or, refl, sym, ap, ◌∙◌, ◌⊎◌, inl, inr, arith, subst}
 use Rattle.std.proofs.lemmas.Bool.{false≢true}
-use Rattle.std.proofs.lemmas.Bool.Decides.{nat_tests}
-use Rattle.std.proofs.lemmas.Option.{slice_get-get_or, slice_get_within, slice_get_past, same_Some}
-use Rattle.std.specs.Prelude.{if◌then◌else◌}
-use Rattle.std.specs.List.{slice_get, cons_option}
+use Rattle.std.proofs.lemmas.Option.{slice_get_within}
+use Rattle.std.specs.List.{slice_get}
 use Rattle.std.specs.Option.{option_map, option_or}
-use Rattle.std.specs.Str.{bytes_eq}
 use Rattle.pool_board.specs.Board.{BoardValue}
 use Rattle.pool_board.specs.Members.{persons as members_in, ready_of}
-use Rattle.vacancy_fill.specs.Chain.{members_of, members_at}
+use Rattle.vacancy_fill.specs.Chain.{members_at}
 use Rattle.desk_model.specs.declared.command.Cmd.{Cmd}
-use Rattle.desk_model.specs.declared.command.Cmd.TheVariants as cmd
 use Rattle.desk_model.specs.declared.board_setup.BoardSetup.{BoardSetup}
 use Rattle.desk_model.specs.declared.limits.TheConstants.{PERSON_LIMIT, BOARD_LIMIT}
 use Rattle.desk_model.specs.Opening.{OpeningValue}
 use Rattle.desk_model.specs.Entry.{EntryValue}
 use Rattle.desk_model.specs.History.{History, opened, with_entry, is_done, said}
-use Rattle.desk_model.specs.Register.{enrols_any, sets_up, sets_up_any, person_of, board_of, persons, boards}
+use Rattle.desk_model.specs.Register.{enrols_any, sets_up, sets_up_any, board_of, persons, boards}
 use Rattle.desk_model.specs.Boards.{is_on, order, puts, sends}
 use Rattle.desk_model.specs.Duty.{tells}
-use Rattle.desk_model.specs.Comes.{Comes, takes_off, left_by, order_by}
-use Rattle.desk_register.specs.Among.{place_among, board_place}
-use Rattle.desk_register.specs.Done.{IsDone}
-use Rattle.desk_register.proofs.PersonLemmas.{same, same_number}
+use Rattle.desk_model.specs.Comes.{takes_off, left_by, order_by}
+use Rattle.desk_register.specs.Among.{place_among}
+use Rattle.desk_lists.specs.Laws.{Laws}
 use Rattle.desk_lists.specs.Lists.{ready_minute, KeepsLists}
-use Rattle.desk_lists.proofs.LawLemmas.{Laws, ready-same, may-enrol, enrols-on, may-set_up, set_up-on, set_up-order, nobody-on, nowhere-on}
+use Rattle.desk_lists.proofs.LawLemmas.{ready-same, may-enrol, enrols-on, may-set_up, set_up-on, set_up-order, nobody-on, nowhere-on}
 use Rattle.desk_lists.proofs.ListLemmas.{get-within}
 use Rattle.desk_lists.proofs.PlacedLemmas.{get-grown, place-grew, length-grown, length-grows}
 
