@@ -30,8 +30,8 @@ ready_minute h p = if in_tour h p then NEVER else rest_end (events h p)
 abbrev pub setup_of : BoardValue → BoardSetup
 setup_of x = record { extra = x.extra; place = x.place }
 
--- of 64 boards the first are the desk's: each has its members in its order, each ready from their minute, and is what it was set up
--- as, and the others have none; who is on which is kept by their places; and no board was set up twice
+-- of 64 boards the first are the desk's, as they were set up: each has its members in its order, each of them ready from their minute,
+-- and the others have none; who is on which board is kept by the places of both; and no board was set up twice
 pub record KeepsLists (kept : List BoardValue) (listed : ℕ → ℕ → Bool) (h : History) : Type 0 where
   pub many : length kept ≡ BOARD_LIMIT
   pub few_persons : length (persons h) ≤ PERSON_LIMIT
@@ -53,7 +53,7 @@ boards_kept l = l.orders.boards.items
 abbrev pub words_kept : Lists → List ℕ
 words_kept l = l.listings.words.items
 
--- that is kept, with a word for each of 1,000 persons
+-- that is so of what is kept, and there is a word for each of 1,000 persons
 pub record Keeps (l : Lists) (h : History) : Type 0 where
   pub lists : KeepsLists (boards_kept l) (is_in (words_kept l)) h
   pub words : length (words_kept l) ≡ PERSON_LIMIT

@@ -103,7 +103,8 @@ fn keep(lists: &mut Lists, told: Told) -> Option<()> {
     Some(())
 }
 
-// Who stands on each board, 0 where nobody does; on how many boards a person is, and the minute from which they are ready on P1.
+// Who stands on each board, 0 where nobody does; on how many boards a person is, and the minute from which they are ready
+// on P1.
 #[derive(Clone, Copy, PartialEq)]
 struct Seen {
     members: [[u32; 2]; 2],
@@ -134,8 +135,8 @@ fn look(lists: &Lists, who: usize) -> Seen {
     }
 }
 
-// What is stated of which person and board, by their places, when the person is ready then, who stands on each board then, on how many boards
-// the person is, and when they are ready on P1.
+// What is stated of which person and board, by their places; when the person is ready then; and who stands on each board
+// then, on how many boards the person is, and when they are ready on P1.
 type Row = (Act, usize, usize, u64, [[u32; 2]; 2], usize, Option<u64>);
 
 const DAY: [Row; 13] = [
