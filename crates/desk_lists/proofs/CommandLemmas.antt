@@ -15,14 +15,13 @@ use Rattle.pool_board.specs.Members.{persons as members_in, is_listed, without}
 use Rattle.pool_board.proofs.MemberLemmas.{persons-append, without-absent}
 use Rattle.desk_model.specs.declared.command.Cmd.{Cmd}
 use Rattle.desk_model.specs.declared.command.Cmd.TheVariants as cmd
-use Rattle.desk_model.specs.declared.board_setup.BoardSetup.{BoardSetup}
 use Rattle.desk_model.specs.declared.offer.Offer.{Offer}
 use Rattle.desk_model.specs.declared.limits.TheConstants.{MEMBER_LIMIT}
 use Rattle.desk_model.specs.Entry.{EntryValue}
 use Rattle.desk_model.specs.History.{History, with_entry}
 use Rattle.desk_model.specs.Register.{board_of, persons, boards, sets_up_any}
 use Rattle.desk_model.specs.Offers.{is_of, is_to, open_offer}
-use Rattle.desk_model.specs.Boards.{is_on, is_at, order}
+use Rattle.desk_model.specs.Boards.{is_on, order}
 use Rattle.desk_model.specs.Duty.{tells}
 use Rattle.desk_model.specs.Comes.{sent_last}
 use Rattle.desk_model.specs.RestsOn.{RestsOn}
