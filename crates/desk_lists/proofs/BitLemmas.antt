@@ -1,5 +1,5 @@
 -- Boards as the bits of a word.
-use Rattle.std.proofs.Common.{◌≡◌, ◌≢◌, ◌<◌, ◌^◌, ◌*◌, ◌%◌, ◌&&◌, ◌==◌, ℕ, zero, suc, replicate, Bool, true, false, cond, List, length, nat_eq, nat_lt, slice_index_or, slice_set, bit_or, bit_and, refl, sym, ap, ◌∙◌, arith, w64}
+use Rattle.std.proofs.Common.{◌≡◌, ◌≢◌, ◌<◌, ◌^◌, ◌*◌, ◌%◌, ◌&&◌, ◌==◌, ℕ, zero, suc, replicate, Bool, true, false, cond, List, length, nat_eq, nat_lt, slice_index_or, slice_set, bit_or, bit_and, refl, ap, ◌∙◌, arith, w64}
 use Rattle.std.specs.Prelude.{if◌then◌else◌}
 use Rattle.std.proofs.lemmas.Bool.Decides.{nat_tests}
 use Rattle.std.proofs.lemmas.List.{get_or-set_same, get_or-set_other}

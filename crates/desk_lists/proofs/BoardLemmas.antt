@@ -1,11 +1,11 @@
 -- One board's members, before and after a command.
-use Rattle.std.proofs.Common.{◌≡◌, ◌≢◌, ℕ, Bool, true, false, ◌||◌, cond, nat_eq, List, [], ◌∷◌, ◌++◌, Option, None, Some, is_some, refl, sym, ap, ◌∙◌, inl, inr}
+use Rattle.std.proofs.Common.{◌≡◌, ◌≢◌, ℕ, Bool, true, false, ◌||◌, cond, nat_eq, List, [], ◌∷◌, ◌++◌, Some, is_some, refl, sym, ap, ◌∙◌, inl, inr}
 use Rattle.std.proofs.lemmas.Bool.{false≢true, cases_eq}
 use Rattle.std.proofs.lemmas.Option.{same_Some}
 use Rattle.std.specs.List.{list_any}
 use Rattle.slot_tree.specs.declared.slot.Slot.{Slot}
 use Rattle.pool_board.specs.Board.{BoardValue}
-use Rattle.pool_board.specs.Members.{persons, is_listed, ready_of, without}
+use Rattle.pool_board.specs.Members.{persons, is_listed, ready_of}
 use Rattle.pool_board.proofs.MemberLemmas.{without-out, ready_of-append, ready_of-last}
 use Rattle.desk_lists.specs.Changes.{HasLetGo, HasMoved}
 

@@ -1,5 +1,5 @@
 -- What a command that was done makes of one board, beside what it makes of that board's order.
-use Rattle.std.proofs.Common.{◌≡◌, ◌≢◌, ◌<◌, ◌≤◌, ◌||◌, ℕ, Bool, true, false, cond, nat_eq, List, [], ◌∷◌, ◌++◌, length, get_or, Option, None, Some, is_some, refl, sym, ap, ◌∙◌, ◌⊎◌, inl, inr, arith, subst}
+use Rattle.std.proofs.Common.{◌≡◌, ◌≢◌, ◌<◌, ◌≤◌, ℕ, Bool, true, false, cond, nat_eq, List, [], ◌∷◌, ◌++◌, length, get_or, Option, None, Some, is_some, refl, sym, ap, ◌∙◌, ◌⊎◌, inl, inr, arith, subst}
 use Rattle.std.proofs.lemmas.Bool.{false≢true, ne_eqb, cases_lt, cases_eq}
 use Rattle.std.proofs.lemmas.List.{length-map}
 use Rattle.std.proofs.lemmas.Option.{slice_get-get_or, slice_get_within, same_Some}
@@ -10,30 +10,30 @@ use Rattle.std.specs.Option.{option_map}
 use Rattle.std.specs.Str.{bytes_eq}
 use Rattle.duty_events.specs.declared.event.Event.{Event}
 use Rattle.duty_events.specs.declared.event.Event.TheVariants as event
-use Rattle.pool_board.specs.Board.{BoardValue}
+use Rattle.pool_board.specs.Board.{BoardValue, IsSameSort}
 use Rattle.pool_board.specs.Members.{persons as members_in, is_listed, without}
 use Rattle.pool_board.proofs.MemberLemmas.{persons-append, without-absent}
 use Rattle.desk_model.specs.declared.command.Cmd.{Cmd}
 use Rattle.desk_model.specs.declared.command.Cmd.TheVariants as cmd
-use Rattle.desk_model.specs.declared.board_setup.BoardSetup.{BoardSetup}
 use Rattle.desk_model.specs.declared.offer.Offer.{Offer}
 use Rattle.desk_model.specs.declared.limits.TheConstants.{MEMBER_LIMIT}
 use Rattle.desk_model.specs.Entry.{EntryValue}
 use Rattle.desk_model.specs.History.{History, with_entry}
 use Rattle.desk_model.specs.Register.{board_of, persons, boards, sets_up_any}
 use Rattle.desk_model.specs.Offers.{is_of, is_to, open_offer}
-use Rattle.desk_model.specs.Boards.{is_on, is_at, order}
+use Rattle.desk_model.specs.Boards.{is_on, order}
 use Rattle.desk_model.specs.Duty.{tells}
 use Rattle.desk_model.specs.Comes.{sent_last}
-use Rattle.desk_model.specs.RestsOn.{RestsOn, MaySettle}
+use Rattle.desk_model.specs.RestsOn.{RestsOn}
 use Rattle.desk_register.specs.Among.{place_among, board_place}
 use Rattle.desk_register.specs.Done.{IsDone}
 use Rattle.desk_register.proofs.PersonLemmas.{same, same_number}
 use Rattle.desk_lists.specs.declared.named.Named.{Named}
 use Rattle.desk_lists.specs.Places.{has_board, word_of, is_in}
 use Rattle.desk_lists.specs.Changes.{is_final_at, SetsUp, TakesOn, LetsGo, Moves, IsThen, BecomesBy}
-use Rattle.desk_lists.specs.Lists.{ready_minute, KeepsLists, Names, mover, mover_board}
-use Rattle.desk_lists.proofs.LawLemmas.{Laws, said-done, ordered_by, ordered, ready-same}
+use Rattle.desk_lists.specs.Laws.{Laws}
+use Rattle.desk_lists.specs.Lists.{ready_minute, setup_of, KeepsLists, Names, mover, mover_board}
+use Rattle.desk_lists.proofs.LawLemmas.{said-done, ordered_by, ordered, ready-same}
 use Rattle.desk_lists.proofs.PlacedLemmas.{board-at, boards-apart}
 use Rattle.desk_lists.proofs.BoardLemmas.{AllReady, ready-empty, ready-stays, ready-taken, ready-gone, ready-moved}
 
@@ -42,13 +42,13 @@ pub record Before (h : History) (j : ℕ) (v : BoardValue) : Type 0 where
   pub order_is : (b : List ℕ) → slice_get (boards h) j ≡ Some b → members_in v.members ≡ order h b
   pub empty : length (boards h) ≤ j → v.members ≡ []
   pub ready : AllReady (ready_minute h) v.members
-  pub place : (b : List ℕ) → slice_get (boards h) j ≡ Some b → option_map (λ s. s.place) (board_of h b) ≡ Some v.place
+  pub setup : (b : List ℕ) → slice_get (boards h) j ≡ Some b → board_of h b ≡ Some (setup_of v)
 
 pub record After (h : History) (e : EntryValue) (c : Cmd) (j : ℕ) (v x : BoardValue) : Type 0 where
   pub order_is : (b : List ℕ) → slice_get (boards h) j ≡ Some b → members_in x.members ≡ ordered h c b (members_in v.members)
   pub empty : length (boards h) ≤ j → x.members ≡ []
   pub ready : AllReady (ready_minute (with_entry h e)) x.members
-  pub place : (b : List ℕ) → slice_get (boards h) j ≡ Some b → x.place ≡ v.place
+  pub setup : (b : List ℕ) → slice_get (boards h) j ≡ Some b → setup_of x ≡ setup_of v
 
 -- ---- the places that are named
 
@@ -80,6 +80,10 @@ named-place h e c n b laws is names mine set_up =
 listed-is : (h : History) (e : EntryValue) (j p : ℕ) (v : BoardValue) (b : List ℕ) → Laws h e → Before h j v → slice_get (boards h) j ≡ Some b → is_listed p v.members ≡ is_on h p b
 listed-is h e j p v b laws before at = ap (list_any (nat_eq p)) (before.order_is b at) ∙ laws.those b p
 
+-- a board of the same sort and place was set up so
+same-setup : (v x : BoardValue) → IsSameSort v x → setup_of x ≡ setup_of v
+same-setup v x same_sort = ap (λ p. record { extra = x.extra; place = p }) same_sort.0 ∙ ap (λ s. record { extra = s; place = v.place }) same_sort.1
+
 -- ---- a board that stays
 
 stays : (h : History) (e : EntryValue) (c : Cmd) (j : ℕ) (v x : BoardValue) → Before h j v
@@ -89,7 +93,7 @@ stays h e c j v x before order_same ready_same is = record {
   order_is = λ b at. ap (λ y. members_in y.members) is ∙ sym (order_same b at);
   empty = λ past. ap (λ y. y.members) is ∙ before.empty past;
   ready = subst (λ ms. AllReady (ready_minute (with_entry h e)) ms) (ap (λ y. y.members) (sym is)) (ready-stays (ready_minute h) (ready_minute (with_entry h e)) v.members ready_same before.ready);
-  place = λ b at. ap (λ y. y.place) is;
+  setup = λ b at. ap setup_of is;
 }
 
 untold : (h : History) (e : EntryValue) (c : Cmd) → Laws h e → IsDone e c → ((p : ℕ) → tells p c ≡ None) → (p : ℕ) → ready_minute (with_entry h e) p ≡ ready_minute h p
@@ -98,21 +102,21 @@ untold h e c laws is none p = ready-same h e p laws.comes (said-done (tells p) e
 -- ---- a board is set up
 
 set_up-row : (h : History) (e : EntryValue) (b place : List ℕ) (extra : Bool) (n : Named) (j : ℕ) (v x : BoardValue) → Laws h e → IsDone e (cmd.Board b extra place) → Names h e n
-    → Before h j v → IsThen (is_of j n.board) (SetsUp place) v x → After h e (cmd.Board b extra place) j v x
+    → Before h j v → IsThen (is_of j n.board) (SetsUp extra place) v x → After h e (cmd.Board b extra place) j v x
 set_up-row h e b place extra n j v x laws is names before becomes =
     let last : n.board ≡ Some (length (boards h)) = names.set_up b (said-done sets_up_any e (cmd.Board b extra place) is) in
-    go (nat_eq (length (boards h)) j) refl (subst (λ o. IsThen (is_of j o) (SetsUp place) v x) last becomes)
+    go (nat_eq (length (boards h)) j) refl (subst (λ o. IsThen (is_of j o) (SetsUp extra place) v x) last becomes)
   where
-    go : (here : Bool) → nat_eq (length (boards h)) j ≡ here → IsThen here (SetsUp place) v x → After h e (cmd.Board b extra place) j v x
+    go : (here : Bool) → nat_eq (length (boards h)) j ≡ here → IsThen here (SetsUp extra place) v x → After h e (cmd.Board b extra place) j v x
     go true here becomes =
         let is_last : length (boards h) ≡ j = same_number (length (boards h)) j here in
         let past : length (boards h) ≤ j = omega arith in
-        let done = becomes (before.empty past) in
+        let nobody : x.members ≡ [] = ap (λ y. y.members) (becomes (before.empty past)) in
         record {
           order_is = λ a at. absurd (omega (arith, slice_get_within (boards h) j a at));
-          empty = λ behind. done.1;
-          ready = ready-empty (ready_minute (with_entry h e)) x.members done.1;
-          place = λ a at. absurd (omega (arith, slice_get_within (boards h) j a at));
+          empty = λ behind. nobody;
+          ready = ready-empty (ready_minute (with_entry h e)) x.members nobody;
+          setup = λ a at. absurd (omega (arith, slice_get_within (boards h) j a at));
         }
     go false here becomes = stays h e (cmd.Board b extra place) j v x before (λ a at. refl)
         (λ p in_it. untold h e (cmd.Board b extra place) laws is (λ q. refl) p) becomes
@@ -144,7 +148,7 @@ list-row h e p b n kept listed j v x laws is names keeps before becomes =
               ∙ rw (one, one, same p) (ap (λ ps. ps ++ p ∷ []) (sym (without-absent p (members_in v.members) out)));
           empty = λ past. absurd (omega (arith, slice_get_within (boards h) j b at, past));
           ready = ready-taken (ready_minute h) (ready_minute (with_entry h e)) p n.ready v.members x.members (λ q other. ready_same q) (names.ready p (said-done mover e (cmd.List p b) is)) out done.1 before.ready;
-          place = λ a a_at. done.0;
+          setup = λ a a_at. same-setup v x done.0;
         }
     go k k_at false here becomes = stays h e (cmd.List p b) j v x before
         (λ a at. let other : bytes_eq b a ≡ false = sym (boards-apart (boards h) b a k j keeps.apart k_at at) ∙ here in rw other refl)
@@ -171,7 +175,7 @@ unlist-row h e p b n kept listed j v x laws is names keeps before becomes =
           order_is = λ a a_at. let one : bytes_eq b a ≡ true = (bytes_eq-Decides b a).1 (same_Some b a (sym at ∙ a_at)) in done.order ∙ rw one refl;
           empty = λ past. absurd (omega (arith, slice_get_within (boards h) j b at, past));
           ready = ready-gone (ready_minute h) (ready_minute (with_entry h e)) p v x ready_same done before.ready;
-          place = λ a a_at. done.place;
+          setup = λ a a_at. same-setup v x done.sort;
         }
     go k k_at false here becomes = stays h e (cmd.Unlist p b) j v x before
         (λ a at. let other : bytes_eq b a ≡ false = sym (boards-apart (boards h) b a k j keeps.apart k_at at) ∙ here in rw other refl)
@@ -195,7 +199,7 @@ move-row h e c p m j true last v x laws before on past mine same_others ordered_
         order_is = λ a a_at. done.order ∙ sym (ordered_is a a_at ∙ moved last in_it);
         empty = λ behind. absurd (false≢true (sym (past behind)));
         ready = ready-moved (ready_minute h) (ready_minute (with_entry h e)) p m last v x same_others mine done before.ready;
-        place = λ a a_at. done.place;
+        setup = λ a a_at. same-setup v x done.sort;
       }
 ]
   where
@@ -254,17 +258,13 @@ offer-to None p to = absurd (false≢true to)
 offer-to (Some offer) p to = (offer, refl)
 
 -- a place among all boards tells whether a board there is this one, also where it is none
-place-tells : (h : History) (e : EntryValue) (b a : List ℕ) (k : Option ℕ) (j : ℕ) (place : List ℕ) → Laws h e → (kept : List BoardValue) → (listed : ℕ → ℕ → Bool) → KeepsLists kept listed h
-    → board_place (boards h) b ≡ k → slice_get (boards h) j ≡ Some a → option_map (λ s. s.place) (board_of h a) ≡ Some place → is_of j k ≡ bytes_eq b a
-place-tells h e b a (Some k) j place laws kept listed keeps is at a_place = boards-apart (boards h) b a k j keeps.apart (board-at (boards h) b k is) at
-place-tells h e b a None j place laws kept listed keeps is at a_place = go (bytes_eq b a) refl
+place-tells : (h : History) (e : EntryValue) (b a : List ℕ) (k : Option ℕ) (j : ℕ) (v : BoardValue) → Laws h e → (kept : List BoardValue) → (listed : ℕ → ℕ → Bool) → KeepsLists kept listed h
+    → board_place (boards h) b ≡ k → slice_get (boards h) j ≡ Some a → board_of h a ≡ Some (setup_of v) → is_of j k ≡ bytes_eq b a
+place-tells h e b a (Some k) j v laws kept listed keeps is at set_up = boards-apart (boards h) b a k j keeps.apart (board-at (boards h) b k is) at
+place-tells h e b a None j v laws kept listed keeps is at set_up = go (bytes_eq b a) refl
   where
-    known : (s : Option BoardSetup) → option_map (λ x. x.place) s ≡ Some place → is_some s ≡ true
-    known None is = absurd (false≢true (ap is_some is))
-    known (Some s) is = refl
-
     go : (one : Bool) → bytes_eq b a ≡ one → false ≡ one
-    go true one = absurd (false≢true (ap is_some (sym is) ∙ ap (λ x. is_some (board_place (boards h) x)) ((bytes_eq-Decides b a).0 one) ∙ laws.boards_placed a ∙ known (board_of h a) a_place))
+    go true one = absurd (false≢true (ap is_some (sym is) ∙ ap (λ x. is_some (board_place (boards h) x)) ((bytes_eq-Decides b a).0 one) ∙ laws.boards_placed a ∙ ap is_some set_up))
     go false one = refl
 
 decline-ordered : (h : History) (vac p : ℕ) (offer : Offer) (b : List ℕ) (last : Bool) (ps : List ℕ) → open_offer h vac ≡ Some offer → last ≡ bytes_eq offer.board b
@@ -275,19 +275,14 @@ decline-ordered h vac p offer b last ps made is = rw (made, is) (go (bytes_eq of
     go true = refl
     go false = refl
 
--- whether a release is at the board's place
-at-place : (s : Option BoardSetup) (place other : List ℕ) → option_map (λ x. x.place) s ≡ Some place → is_at other s ≡ bytes_eq place other
-at-place None place other is = absurd (false≢true (ap is_some is))
-at-place (Some s) place other is = ap (λ x. bytes_eq x other) (same_Some s.place place is)
-
-happened-ordered : (h : History) (p : ℕ) (t : Event) (b place : List ℕ) (ps : List ℕ) → option_map (λ s. s.place) (board_of h b) ≡ Some place
-    → ordered h (cmd.Happened p t) b ps ≡ (if is_final_at place t then sent_last false p ps else ps)
-happened-ordered h p (event.Final m at) b place ps is = rw (at-place (board_of h b) place at is) (go (bytes_eq place at))
+happened-ordered : (h : History) (p : ℕ) (t : Event) (b : List ℕ) (v : BoardValue) (ps : List ℕ) → board_of h b ≡ Some (setup_of v)
+    → ordered h (cmd.Happened p t) b ps ≡ (if is_final_at v.place t then sent_last false p ps else ps)
+happened-ordered h p (event.Final m at) b v ps is = rw is (go (bytes_eq v.place at))
   where
     go : (here : Bool) → ordered_by (cmd.Happened p (event.Final m at)) b (cond here (Some p) None) ps ≡ cond here (sent_last false p ps) ps
     go true = refl
     go false = refl
-happened-ordered h p other b place ps is = refl
+happened-ordered h p other b v ps is = refl
 
 -- ---- each command
 
@@ -306,12 +301,12 @@ command-makes h e (cmd.Decline vac p) n words kept word j v x laws is names keep
     moves-row h e (cmd.Decline vac p) n words kept word p j (is_of j n.board) v x laws is names keeps word_is refl (laws.persons_placed p ∙ rests.enrolled)
     (λ q other. refl) before
     (λ b at. decline-ordered h vac p offer.0 b (is_of j n.board) (members_in v.members) offer.1
-    (ap (is_of j) whose ∙ place-tells h e offer.0.board b (board_place (boards h) offer.0.board) j v.place laws kept (is_in words) keeps refl at (before.place b at))) becomes
+    (ap (is_of j) whose ∙ place-tells h e offer.0.board b (board_place (boards h) offer.0.board) j v laws kept (is_in words) keeps refl at (before.setup b at))) becomes
 command-makes h e (cmd.Past p t) n words kept word j v x laws is names keeps word_is before becomes =
     moves-row h e (cmd.Past p t) n words kept word p j false v x laws is names keeps word_is refl (laws.persons_placed p ∙ rests-done h e (cmd.Past p t) laws is)
     (λ q other. rw other refl) before (λ b at. refl) becomes
 command-makes h e (cmd.Happened p t) n words kept word j v x laws is names keeps word_is before becomes =
     moves-row h e (cmd.Happened p t) n words kept word p j (is_final_at v.place t) v x laws is names keeps word_is refl (laws.persons_placed p ∙ rests-done h e (cmd.Happened p t) laws is)
-    (λ q other. rw other refl) before (λ b at. happened-ordered h p t b v.place (members_in v.members) (before.place b at)) becomes
+    (λ q other. rw other refl) before (λ b at. happened-ordered h p t b v (members_in v.members) (before.setup b at)) becomes
 command-makes h e other n words kept word j v x laws is names keeps word_is before becomes =
     stays h e other j v x before (λ b at. refl) (λ p in_it. untold h e other laws is (λ q. refl) p) becomes

@@ -4,7 +4,7 @@ use Rattle.std.proofs.lemmas.Bool.{false≢true, cases_lt}
 use Rattle.std.proofs.lemmas.Bool.Decides.{nat_tests}
 use Rattle.std.proofs.lemmas.Option.{slice_get_within, slice_get_past, same_Some}
 use Rattle.std.proofs.lemmas.Slice.Eq.{bytes_eq-Decides}
-use Rattle.std.specs.Prelude.{if◌then◌else◌, IfSome}
+use Rattle.std.specs.Prelude.{if◌then◌else◌}
 use Rattle.std.specs.List.{slice_get}
 use Rattle.std.specs.Option.{option_map, option_or}
 use Rattle.std.specs.Str.{bytes_eq}
@@ -13,13 +13,12 @@ use Rattle.pool_board.specs.Members.{persons as members_in, ready_of}
 use Rattle.vacancy_fill.specs.Chain.{members_of, members_at}
 use Rattle.desk_model.specs.declared.command.Cmd.{Cmd}
 use Rattle.desk_model.specs.declared.command.Cmd.TheVariants as cmd
-use Rattle.desk_model.specs.declared.board_setup.BoardSetup.{BoardSetup}
-use Rattle.desk_model.specs.declared.limits.TheConstants.{PERSON_LIMIT, BOARD_LIMIT}
+use Rattle.desk_model.specs.declared.limits.TheConstants.{BOARD_LIMIT}
 use Rattle.desk_model.specs.Entry.{EntryValue}
 use Rattle.desk_model.specs.History.{History, with_entry, said}
 use Rattle.desk_model.specs.Register.{sets_up, sets_up_any, board_of, persons, boards}
 use Rattle.desk_model.specs.Offers.{is_of}
-use Rattle.desk_model.specs.Boards.{is_on, order, puts}
+use Rattle.desk_model.specs.Boards.{is_on, puts}
 use Rattle.desk_register.specs.Among.{place_among}
 use Rattle.desk_register.specs.Done.{IsDone}
 use Rattle.desk_register.proofs.PersonLemmas.{same}
@@ -27,12 +26,13 @@ use Rattle.desk_register.proofs.PlaceAmongLemmas.{place-lt, places-apart}
 use Rattle.desk_lists.specs.declared.named.Named.{Named}
 use Rattle.desk_lists.specs.Places.{word_of, is_in, set_at}
 use Rattle.desk_lists.specs.Changes.{SetsUp, IsThen, BecomesBy, EachBecomes, put_by_both, put_by, AreWithin, HasRoom}
-use Rattle.desk_lists.specs.Lists.{ready_minute, KeepsLists, Names, mover, mover_board}
-use Rattle.desk_lists.proofs.LawLemmas.{Laws, said-done, ordered, order-done, on-done, may-set_up}
+use Rattle.desk_lists.specs.Laws.{Laws}
+use Rattle.desk_lists.specs.Lists.{setup_of, KeepsLists, Names, mover, mover_board}
+use Rattle.desk_lists.proofs.LawLemmas.{said-done, ordered, order-done, on-done, may-set_up}
 use Rattle.desk_lists.proofs.ListLemmas.{get-within}
 use Rattle.desk_lists.proofs.PlacedLemmas.{boards-apart}
 use Rattle.desk_lists.proofs.CommandLemmas.{Before, After, rests-done, person-place, named-place, command-makes}
-use Rattle.desk_lists.proofs.KeepLemmas.{Follows, follows-keep}
+use Rattle.desk_lists.proofs.KeepLemmas.{follows-keep}
 
 -- ---- who is on which
 
@@ -147,7 +147,7 @@ before-of h kept listed j v keeps at =
       order_is = λ b b_at. ap members_in (sym members) ∙ keeps.order j b b_at;
       empty = λ past. sym members ∙ keeps.empty j past;
       ready = λ p r is. keeps.ready j p r (ap (ready_of p) members ∙ is);
-      place = λ b b_at. keeps.place j b b_at ∙ ap (option_map (λ x. x.place)) at;
+      setup = λ b b_at. keeps.setup j b b_at ∙ ap (option_map setup_of) at;
     }
 
 changed-at : (h : History) (e : EntryValue) (c : Cmd) (n : Named) (words : List ℕ) (word j : ℕ) (kept later : List BoardValue) → Laws h e → IsDone e c → Names h e n
@@ -165,15 +165,15 @@ changed-at h e c n words word j kept later laws is names keeps word_is each low 
       after = command-makes h e c n words kept word j v x.0 laws is names keeps word_is (before-of h kept (is_in words) j v keeps at) x.1.1;
     }
 
--- a board that is set up belongs to its place
-set_up-place : (h : History) (c : Cmd) (n : Named) (word : ℕ) (b : List ℕ) (v x : BoardValue) → n.board ≡ Some (length (boards h)) → sets_up_any c ≡ Some b → v.members ≡ []
-    → BecomesBy c n word (length (boards h)) v x → option_map (λ s. s.place) (sets_up b c) ≡ Some x.place
-set_up-place h (cmd.Board a extra place) n word b v x named is empty becomes =
+-- a board is as it was set up
+set_up-as : (h : History) (c : Cmd) (n : Named) (word : ℕ) (b : List ℕ) (v x : BoardValue) → n.board ≡ Some (length (boards h)) → sets_up_any c ≡ Some b → v.members ≡ []
+    → BecomesBy c n word (length (boards h)) v x → sets_up b c ≡ Some (setup_of x)
+set_up-as h (cmd.Board a extra place) n word b v x named is empty becomes =
     let one : bytes_eq a b ≡ true = (bytes_eq-Decides a b).1 (same_Some a b is) in
     let here : is_of (length (boards h)) n.board ≡ true = ap (is_of (length (boards h))) named ∙ same (length (boards h)) in
-    let done = subst (λ t. IsThen t (SetsUp place) v x) here becomes in
-    rw one (ap Some (sym (done empty).0))
-set_up-place h other n word b v x named is empty becomes = absurd (false≢true (ap is_some is))
+    let done = subst (λ t. IsThen t (SetsUp extra place) v x) here becomes in
+    rw one (ap (λ y. Some (setup_of y)) (sym (done empty)))
+set_up-as h other n word b v x named is empty becomes = absurd (false≢true (ap is_some is))
 
 pub done-keep : (h : History) (e : EntryValue) (c : Cmd) (n : Named) (words after_words : List ℕ) (word : ℕ) (kept later : List BoardValue) → Laws h e → IsDone e c → Names h e n
     → KeepsLists kept (is_in words) h → word ≡ word_of words n.person → length later ≡ length kept → EachBecomes (BecomesBy c n word) kept later
@@ -191,15 +191,15 @@ done-keep h e c n words after_words word kept later laws is names keeps word_is 
     | inl it ↦ it.after.ready p r (ap (λ o. ready_of p (members_of o)) (sym it.is) ∙ at)
     | inr none ↦ absurd (false≢true (ap is_some (ap (λ o. ready_of p (members_of o)) (sym none) ∙ at)))
   ];
-  place = λ j b at.
+  setup = λ j b at.
       let it = at_old j b at in
-      keeps.place j b at ∙ ap (option_map (λ x. x.place)) it.was ∙ ap Some (sym (it.after.place b at)) ∙ sym (ap (option_map (λ x. x.place)) it.is);
-  new_place = λ b new.
+      keeps.setup j b at ∙ ap (option_map setup_of) it.was ∙ ap Some (sym (it.after.setup b at)) ∙ sym (ap (option_map setup_of) it.is);
+  new_setup = λ b new.
       let may = may-set_up h e b laws new in
       let it = changed-at h e c n words word (length (boards h)) kept later laws is names keeps word_is each may.1 in
       let nobody : it.board.members ≡ [] = ap members_of (sym it.was) ∙ keeps.empty (length (boards h)) (omega arith) in
-      ap (option_map (λ s. s.place)) (laws.comes.board b ∙ ap (λ s. option_or s (said (sets_up b) e)) may.0 ∙ said-done (sets_up b) e c is)
-      ∙ set_up-place h c n word b it.board it.then_board (names.set_up b new) (sym (said-done sets_up_any e c is) ∙ new) nobody it.becomes ∙ sym (ap (option_map (λ x. x.place)) it.is);
+      laws.comes.board b ∙ ap (λ s. option_or s (said (sets_up b) e)) may.0 ∙ said-done (sets_up b) e c is
+      ∙ set_up-as h c n word b it.board it.then_board (names.set_up b new) (sym (said-done sets_up_any e c is) ∙ new) nobody it.becomes ∙ sym (ap (option_map setup_of) it.is);
   on = λ p i j b p_at b_at. put i j ∙ puts-on h e c n p i j b kept (is_in words) laws is names keeps p_at b_at ∙ sym (on-done h e c p b laws.comes is);
   nobody = λ i j past. put i j ∙ puts-past h e c n i j (is_in words i j) laws is names (inl past) ∙ keeps.nobody i j past;
   nowhere = λ i j past. put i j ∙ puts-past h e c n i j (is_in words i j) laws is names (inr past) ∙ keeps.nowhere i j past;

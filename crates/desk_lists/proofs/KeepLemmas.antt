@@ -1,31 +1,26 @@
 -- The lists keep on what a history says.
-use Rattle.std.proofs.Common.{◌≡◌, ◌<◌, ◌≤◌, ◌++◌, ◌&&◌, ℕ, Bool, true, false, cond, nat_eq, List, [], length, Option, None, Some, is_some, unwrap_or, refl, sym, ap, ◌∙◌, ◌⊎◌, inl, inr, arith, subst}
+use Rattle.std.proofs.Common.{◌≡◌, ◌<◌, ◌≤◌, ℕ, Bool, true, false, List, [], length, Option, None, Some, is_some, unwrap_or, refl, sym, ap, ◌∙◌, ◌⊎◌, inl, inr, arith, subst}
 use Rattle.std.proofs.lemmas.Bool.{false≢true}
-use Rattle.std.proofs.lemmas.Bool.Decides.{nat_tests}
-use Rattle.std.proofs.lemmas.Option.{slice_get-get_or, slice_get_within, slice_get_past, same_Some}
-use Rattle.std.specs.Prelude.{if◌then◌else◌}
-use Rattle.std.specs.List.{slice_get, cons_option}
+use Rattle.std.proofs.lemmas.Option.{slice_get_within}
+use Rattle.std.specs.List.{slice_get}
 use Rattle.std.specs.Option.{option_map, option_or}
-use Rattle.std.specs.Str.{bytes_eq}
 use Rattle.pool_board.specs.Board.{BoardValue}
 use Rattle.pool_board.specs.Members.{persons as members_in, ready_of}
-use Rattle.vacancy_fill.specs.Chain.{members_of, members_at}
+use Rattle.vacancy_fill.specs.Chain.{members_at}
 use Rattle.desk_model.specs.declared.command.Cmd.{Cmd}
-use Rattle.desk_model.specs.declared.command.Cmd.TheVariants as cmd
 use Rattle.desk_model.specs.declared.board_setup.BoardSetup.{BoardSetup}
 use Rattle.desk_model.specs.declared.limits.TheConstants.{PERSON_LIMIT, BOARD_LIMIT}
 use Rattle.desk_model.specs.Opening.{OpeningValue}
 use Rattle.desk_model.specs.Entry.{EntryValue}
 use Rattle.desk_model.specs.History.{History, opened, with_entry, is_done, said}
-use Rattle.desk_model.specs.Register.{enrols_any, sets_up, sets_up_any, person_of, board_of, persons, boards}
+use Rattle.desk_model.specs.Register.{enrols_any, sets_up, sets_up_any, board_of, persons, boards}
 use Rattle.desk_model.specs.Boards.{is_on, order, puts, sends}
 use Rattle.desk_model.specs.Duty.{tells}
-use Rattle.desk_model.specs.Comes.{Comes, takes_off, left_by, order_by}
-use Rattle.desk_register.specs.Among.{place_among, board_place}
-use Rattle.desk_register.specs.Done.{IsDone}
-use Rattle.desk_register.proofs.PersonLemmas.{same, same_number}
-use Rattle.desk_lists.specs.Lists.{ready_minute, KeepsLists}
-use Rattle.desk_lists.proofs.LawLemmas.{Laws, ready-same, may-enrol, enrols-on, may-set_up, set_up-on, set_up-order, nobody-on, nowhere-on}
+use Rattle.desk_model.specs.Comes.{takes_off, left_by, order_by}
+use Rattle.desk_register.specs.Among.{place_among}
+use Rattle.desk_lists.specs.Laws.{Laws}
+use Rattle.desk_lists.specs.Lists.{ready_minute, setup_of, KeepsLists}
+use Rattle.desk_lists.proofs.LawLemmas.{ready-same, may-enrol, enrols-on, may-set_up, set_up-on, set_up-order, nobody-on, nowhere-on}
 use Rattle.desk_lists.proofs.ListLemmas.{get-within}
 use Rattle.desk_lists.proofs.PlacedLemmas.{get-grown, place-grew, length-grown, length-grows}
 
@@ -35,8 +30,8 @@ pub record Follows (later : List BoardValue) (listed : ℕ → ℕ → Bool) (h 
   pub order_is : (j : ℕ) (b : List ℕ) → slice_get (boards h) j ≡ Some b → members_in (members_at later j) ≡ order (with_entry h e) b
   pub empty : (j : ℕ) → length (boards h) ≤ j → members_at later j ≡ []
   pub ready : (j p r : ℕ) → ready_of p (members_at later j) ≡ Some r → r ≡ ready_minute (with_entry h e) p
-  pub place : (j : ℕ) (b : List ℕ) → slice_get (boards h) j ≡ Some b → option_map (λ s. s.place) (board_of h b) ≡ option_map (λ x. x.place) (slice_get later j)
-  pub new_place : (b : List ℕ) → said sets_up_any e ≡ Some b → option_map (λ s. s.place) (board_of (with_entry h e) b) ≡ option_map (λ x. x.place) (slice_get later (length (boards h)))
+  pub setup : (j : ℕ) (b : List ℕ) → slice_get (boards h) j ≡ Some b → board_of h b ≡ option_map setup_of (slice_get later j)
+  pub new_setup : (b : List ℕ) → said sets_up_any e ≡ Some b → board_of (with_entry h e) b ≡ option_map setup_of (slice_get later (length (boards h)))
   pub on : (p i j : ℕ) (b : List ℕ) → place_among (persons h) p ≡ Some i → slice_get (boards h) j ≡ Some b → listed i j ≡ is_on (with_entry h e) p b
   pub nobody : (i j : ℕ) → length (persons h) ≤ i → listed i j ≡ false
   pub nowhere : (i j : ℕ) → length (boards h) ≤ j → listed i j ≡ false
@@ -47,12 +42,12 @@ none-of (Some x) is = absurd (false≢true (sym is))
 
 -- a board that has a place was set up
 set_up-known : (kept : List BoardValue) (listed : ℕ → ℕ → Bool) (h : History) (j : ℕ) (b : List ℕ) → KeepsLists kept listed h → slice_get (boards h) j ≡ Some b → is_some (board_of h b) ≡ true
-set_up-known kept listed h j b keeps at = go (slice_get kept j) (board_of h b) (keeps.place j b at) (get-within kept j within)
+set_up-known kept listed h j b keeps at = go (slice_get kept j) (board_of h b) (keeps.setup j b at) (get-within kept j within)
   where
     within : j < length kept
     within = omega (arith, slice_get_within (boards h) j b at, keeps.few_boards, keeps.many)
 
-    go : (v : Option BoardValue) (s : Option BoardSetup) → option_map (λ x. x.place) s ≡ option_map (λ x. x.place) v → is_some v ≡ true → is_some s ≡ true
+    go : (v : Option BoardValue) (s : Option BoardSetup) → s ≡ option_map setup_of v → is_some v ≡ true → is_some s ≡ true
     go None s is some = absurd (false≢true some)
     go (Some v) None is some = absurd (false≢true (ap is_some is))
     go (Some v) (Some s) is some = refl
@@ -84,9 +79,9 @@ follows-keep kept later was listed h e laws keeps follows = record {
   ];
   empty = λ j past. follows.empty j (behind j past);
   ready = follows.ready;
-  place = λ j b at. elim (grown j b at) [
-    | inl old ↦ ap (option_map (λ s. s.place)) (old-board h e b laws (set_up-known kept was h j b keeps old)) ∙ follows.place j b old
-    | inr new ↦ follows.new_place b new.1 ∙ ap (λ i. option_map (λ x. x.place) (slice_get later i)) (sym new.0)
+  setup = λ j b at. elim (grown j b at) [
+    | inl old ↦ old-board h e b laws (set_up-known kept was h j b keeps old) ∙ follows.setup j b old
+    | inr new ↦ follows.new_setup b new.1 ∙ ap (λ i. option_map setup_of (slice_get later i)) (sym new.0)
   ];
   on = λ p i j b placed at. elim (place-grew (persons h) (said enrols_any e) p i (ap (λ ns. place_among ns p) (sym laws.comes.persons) ∙ placed)) [
     | inl old ↦ elim (grown j b at) [
@@ -128,8 +123,8 @@ refused-keep kept listed h e laws refused keeps = follows-keep kept kept listed 
       ∙ ap (λ o. left_by o (order h b)) (quiet (takes_off b) e refused));
   empty = keeps.empty;
   ready = λ j p r at. keeps.ready j p r at ∙ sym (ready-same h e p laws.comes (quiet (tells p) e refused));
-  place = keeps.place;
-  new_place = λ b is. absurd (false≢true (ap is_some (sym (quiet sets_up_any e refused) ∙ is)));
+  setup = keeps.setup;
+  new_setup = λ b is. absurd (false≢true (ap is_some (sym (quiet sets_up_any e refused) ∙ is)));
   on = λ p i j b placed at. keeps.on p i j b placed at ∙ sym (laws.comes.on p b ∙ ap (λ o. unwrap_or o (is_on h p b)) (quiet (puts b p) e refused));
   nobody = keeps.nobody;
   nowhere = keeps.nowhere;
@@ -144,7 +139,7 @@ opened-keep o kept listed many empty off = record {
   order = λ j b at. absurd (false≢true (ap is_some at));
   empty = λ j past. empty j;
   ready = λ j p r at. absurd (false≢true (ap is_some (ap (ready_of p) (sym (empty j)) ∙ at)));
-  place = λ j b at. absurd (false≢true (ap is_some at));
+  setup = λ j b at. absurd (false≢true (ap is_some at));
   on = λ p i j b placed at. absurd (false≢true (ap is_some at));
   nobody = λ i j past. off i j;
   nowhere = λ i j past. off i j;

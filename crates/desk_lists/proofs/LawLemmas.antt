@@ -1,30 +1,19 @@
 -- What is so of each entry that the rules give after a legal history, and what an entry says of a command that was done.
-use Rattle.std.proofs.Common.{◌≡◌, ℕ, Bool, true, false, cond, nat_eq, List, [], Option, None, Some, is_some, unwrap_or, refl, sym, ap, ◌∙◌, subst}
+use Rattle.std.proofs.Common.{◌≡◌, ℕ, Bool, true, false, cond, List, Option, None, Some, is_some, unwrap_or, refl, sym, ap, ◌∙◌, subst}
 use Rattle.std.proofs.lemmas.Bool.{false≢true}
-use Rattle.std.specs.List.{list_any}
-use Rattle.std.specs.Option.{option_or}
 use Rattle.desk_model.specs.declared.command.Cmd.{Cmd}
 use Rattle.desk_model.specs.declared.command.Cmd.TheVariants as cmd
 use Rattle.desk_model.specs.Entry.{EntryValue}
 use Rattle.desk_model.specs.History.{History, with_entry, is_done, said}
-use Rattle.desk_model.specs.Register.{enrols_any, sets_up_any, person_of, board_of, persons, boards}
+use Rattle.desk_model.specs.Register.{enrols_any, sets_up_any, person_of, board_of}
 use Rattle.desk_model.specs.Boards.{is_on, puts, sends, order}
 use Rattle.desk_model.specs.Duty.{tells, events}
 use Rattle.desk_model.specs.Comes.{Comes, kept, takes_off, left_by, sent_last, order_by}
-use Rattle.desk_model.specs.RestsOn.{RestsOn, MayEnrol, MaySetUp, IsListed}
+use Rattle.desk_model.specs.RestsOn.{RestsOn, MayEnrol, MaySetUp}
 use Rattle.desk_model.proofs.SaidLemmas.{said-some}
-use Rattle.desk_register.specs.Among.{place_among, board_place}
 use Rattle.desk_register.specs.Done.{IsDone}
+use Rattle.desk_lists.specs.Laws.{Laws}
 use Rattle.desk_lists.specs.Lists.{ready_minute}
-
-pub record Laws (h : History) (e : EntryValue) : Type 0 where
-  pub comes : Comes h e
-  pub rests : is_done e.reply ≡ true → RestsOn h e.stated.cmd
-  pub listed : (p : ℕ) (b : List ℕ) → is_on h p b ≡ true → IsListed h p b
-  pub empty : (b : List ℕ) → board_of h b ≡ None → order h b ≡ []
-  pub those : (b : List ℕ) (p : ℕ) → list_any (nat_eq p) (order h b) ≡ is_on h p b
-  pub persons_placed : (p : ℕ) → is_some (place_among (persons h) p) ≡ is_some (person_of h p)
-  pub boards_placed : (b : List ℕ) → is_some (board_place (boards h) b) ≡ is_some (board_of h b)
 
 -- ---- a command that was done
 

@@ -1,11 +1,10 @@
 -- What is told of what is kept.
-use Rattle.std.proofs.Common.{◌≡◌, ◌<◌, ◌≤◌, ◌+◌, ◌-◌, ◌%◌, ◌/◌, ◌^◌, ◌==◌, ◌&&◌, ◌||◌, ℕ, zero, suc, Bool, true, false, cond, nat_eq, nat_lt, max, slice_index_or, List, [], ◌∷◌, length, filter, Option, None, Some, is_some, refl, sym, ap, ◌∙◌, inl, inr, arith, subst}
+use Rattle.std.proofs.Common.{◌≡◌, ◌<◌, ◌≤◌, ◌+◌, ◌-◌, ◌%◌, ◌/◌, ◌^◌, ◌==◌, ◌||◌, ℕ, zero, suc, Bool, true, false, cond, nat_eq, nat_lt, max, slice_index_or, List, [], ◌∷◌, length, filter, Option, None, Some, is_some, refl, sym, ap, ◌∙◌, inl, inr, arith}
 use Rattle.std.proofs.lemmas.Bool.{false≢true, cases_lt}
 use Rattle.std.proofs.lemmas.Bool.Decides.{nat_tests}
-use Rattle.std.proofs.lemmas.List.{length-map}
 use Rattle.std.proofs.lemmas.Option.{slice_get_within, same_Some}
 use Rattle.std.proofs.lemmas.Nat.Bits.{bit_at_lowest, bit_at-suc, bit_at-zero, bit_at_above}
-use Rattle.std.specs.Prelude.{if◌then◌else◌, IfSome}
+use Rattle.std.specs.Prelude.{IfSome}
 use Rattle.std.specs.Int.{bit_at}
 use Rattle.std.specs.Int.Count.{ones_in, ones}
 use Rattle.std.specs.List.{slice_get, list_any, find}
@@ -14,16 +13,14 @@ use Rattle.pool_board.specs.Board.{BoardValue}
 use Rattle.pool_board.specs.Members.{persons as members_in}
 use Rattle.pool_board.specs.Places.{at_place}
 use Rattle.pool_board.proofs.PlaceLemmas.{at_place-from}
-use Rattle.vacancy_fill.specs.Chain.{members_of, members_at}
-use Rattle.desk_model.specs.declared.link.Link.{Link}
+use Rattle.vacancy_fill.specs.Chain.{members_of}
 use Rattle.desk_model.specs.declared.limits.TheConstants.{BOARD_LIMIT}
 use Rattle.desk_model.specs.History.{History}
 use Rattle.desk_model.specs.Register.{persons, boards}
 use Rattle.desk_model.specs.Boards.{is_on, boards_of, links, order}
-use Rattle.desk_model.specs.LookAnswer.{member_at}
 use Rattle.desk_model.specs.Rank.{IsOnce}
 use Rattle.desk_register.specs.Among.{place_among, board_place}
-use Rattle.desk_register.proofs.PersonLemmas.{same, same_number}
+use Rattle.desk_register.proofs.PersonLemmas.{same}
 use Rattle.desk_lists.specs.Places.{has_board, is_in}
 use Rattle.desk_lists.specs.Lists.{KeepsLists}
 use Rattle.desk_lists.proofs.PlacedLemmas.{board-at}

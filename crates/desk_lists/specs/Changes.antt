@@ -1,10 +1,10 @@
 -- What a command that is done makes of each board, and of who is on which.
-use Rattle.std.specs.Prelude.{◌≡◌, ◌≢◌, ℕ, ◌<◌, Bool, true, false, Option, None, Some, IfSome, ⊤, length, List, [], ◌∷◌, ◌++◌, if◌then◌else◌}
+use Rattle.std.specs.Prelude.{◌≡◌, ◌≢◌, ℕ, ◌<◌, Bool, true, false, Option, Some, IfSome, ⊤, length, List, [], ◌∷◌, ◌++◌, if◌then◌else◌}
 use Rattle.std.specs.List.{slice_get}
 use Rattle.std.specs.Str.{bytes_eq}
 use Rattle.duty_events.specs.declared.event.Event.{Event}
 use Rattle.duty_events.specs.declared.event.Event.TheVariants as event
-use Rattle.pool_board.specs.Board.{BoardValue}
+use Rattle.pool_board.specs.Board.{BoardValue, board_of, IsSameSort}
 use Rattle.pool_board.specs.Members.{persons, is_listed, ready_of, without}
 use Rattle.desk_model.specs.declared.limits.TheConstants.{BOARD_LIMIT, MEMBER_LIMIT}
 use Rattle.desk_model.specs.declared.command.Cmd.{Cmd}
@@ -20,18 +20,18 @@ is_final_at place other = false
 
 -- ---- one board
 
--- a board without members belongs to this place
-abbrev pub SetsUp : List ℕ → BoardValue → BoardValue → Type 0
-SetsUp place b x = b.members ≡ [] → (x.place ≡ place) × (x.members ≡ [])
+-- a board without members becomes one of this sort and place
+abbrev pub SetsUp : Bool → List ℕ → BoardValue → BoardValue → Type 0
+SetsUp extra place b x = b.members ≡ [] → x ≡ board_of place extra []
 
 -- a person who isn't listed, where there is room, comes last, ready from the minute
 abbrev pub TakesOn : ℕ → ℕ → BoardValue → BoardValue → Type 0
 TakesOn p m b x = is_listed p b.members ≡ false → length b.members < MEMBER_LIMIT
-    → (x.place ≡ b.place) × (x.members ≡ b.members ++ record { person = p; ready = m } ∷ [])
+    → IsSameSort b x × (x.members ≡ b.members ++ record { person = p; ready = m } ∷ [])
 
 -- a listed person is no more, and nothing else changes
 pub record HasLetGo (p : ℕ) (b x : BoardValue) : Type 0 where
-  pub place : x.place ≡ b.place
+  pub sort : IsSameSort b x
   pub order : persons x.members ≡ without p (persons b.members)
   pub ready : (q : ℕ) → q ≢ p → ready_of q x.members ≡ ready_of q b.members
 
@@ -40,7 +40,7 @@ LetsGo p b x = is_listed p b.members ≡ true → HasLetGo p b x
 
 -- a listed person is ready from the minute, and at the bottom if so; nothing else changes
 pub record HasMoved (at_bottom : Bool) (p m : ℕ) (b x : BoardValue) : Type 0 where
-  pub place : x.place ≡ b.place
+  pub sort : IsSameSort b x
   pub order : persons x.members ≡ (if at_bottom then without p (persons b.members) ++ p ∷ [] else persons b.members)
   pub this : ready_of p x.members ≡ Some m
   pub others : (q : ℕ) → q ≢ p → ready_of q x.members ≡ ready_of q b.members
@@ -57,7 +57,7 @@ IsThen true Becomes b x = Becomes b x
 
 -- what the board at a place becomes by a command, where the word has the boards of the person whom it names
 abbrev pub BecomesBy : Cmd → Named → ℕ → ℕ → BoardValue → BoardValue → Type 0
-BecomesBy (cmd.Board board extra place) n word j b x = IsThen (is_of j n.board) (SetsUp place) b x
+BecomesBy (cmd.Board board extra place) n word j b x = IsThen (is_of j n.board) (SetsUp extra place) b x
 BecomesBy (cmd.List p board) n word j b x = IsThen (is_of j n.board) (TakesOn p n.ready) b x
 BecomesBy (cmd.Unlist p board) n word j b x = IsThen (is_of j n.board) (LetsGo p) b x
 BecomesBy (cmd.MarkOn p) n word j b x = IsThen (has_board word j) (Moves true p n.ready) b x

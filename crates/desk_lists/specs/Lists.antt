@@ -1,5 +1,5 @@
 -- The boards' members and who is on which board, beside what a history says.
-use Rattle.std.specs.Prelude.{◌≡◌, ℕ, ◌≤◌, ◌+◌, Bool, false, Option, None, Some, List, [], length, if◌then◌else◌}
+use Rattle.std.specs.Prelude.{◌≡◌, ℕ, ◌≤◌, Bool, false, Option, None, Some, List, [], length, if◌then◌else◌}
 use Rattle.std.specs.List.{slice_get}
 use Rattle.std.specs.Option.{option_map}
 use Rattle.rest_rules.specs.Rest.{rest_end}
@@ -7,6 +7,7 @@ use Rattle.pool_board.specs.Board.{BoardValue}
 use Rattle.pool_board.specs.Members.{persons as members_in, ready_of}
 use Rattle.vacancy_fill.specs.Chain.{members_at}
 use Rattle.desk_model.specs.declared.limits.TheConstants.{PERSON_LIMIT, BOARD_LIMIT}
+use Rattle.desk_model.specs.declared.board_setup.BoardSetup.{BoardSetup}
 use Rattle.desk_model.specs.declared.command.Cmd.{Cmd}
 use Rattle.desk_model.specs.declared.command.Cmd.TheVariants as cmd
 use Rattle.desk_model.specs.Entry.{EntryValue}
@@ -25,8 +26,12 @@ use Rattle.desk_lists.specs.declared.lists.Lists.{Lists}
 abbrev pub ready_minute : History → ℕ → ℕ
 ready_minute h p = if in_tour h p then NEVER else rest_end (events h p)
 
--- of 64 boards the first are the desk's: each has its members in its order, each ready from their minute, and its place, and the
--- others have none; who is on which is kept by their places; and no board was set up twice
+-- what a board is set up as: its sort and its place
+abbrev pub setup_of : BoardValue → BoardSetup
+setup_of x = record { extra = x.extra; place = x.place }
+
+-- of 64 boards the first are the desk's, as they were set up: each has its members in its order, each of them ready from their minute,
+-- and the others have none; who is on which board is kept by the places of both; and no board was set up twice
 pub record KeepsLists (kept : List BoardValue) (listed : ℕ → ℕ → Bool) (h : History) : Type 0 where
   pub many : length kept ≡ BOARD_LIMIT
   pub few_persons : length (persons h) ≤ PERSON_LIMIT
@@ -34,7 +39,7 @@ pub record KeepsLists (kept : List BoardValue) (listed : ℕ → ℕ → Bool) (
   pub order : (j : ℕ) (b : List ℕ) → slice_get (boards h) j ≡ Some b → members_in (members_at kept j) ≡ order h b
   pub empty : (j : ℕ) → length (boards h) ≤ j → members_at kept j ≡ []
   pub ready : (j p r : ℕ) → ready_of p (members_at kept j) ≡ Some r → r ≡ ready_minute h p
-  pub place : (j : ℕ) (b : List ℕ) → slice_get (boards h) j ≡ Some b → option_map (λ s. s.place) (board_of h b) ≡ option_map (λ x. x.place) (slice_get kept j)
+  pub setup : (j : ℕ) (b : List ℕ) → slice_get (boards h) j ≡ Some b → board_of h b ≡ option_map setup_of (slice_get kept j)
   pub on : (p i j : ℕ) (b : List ℕ) → place_among (persons h) p ≡ Some i → slice_get (boards h) j ≡ Some b → listed i j ≡ is_on h p b
   pub nobody : (i j : ℕ) → length (persons h) ≤ i → listed i j ≡ false
   pub nowhere : (i j : ℕ) → length (boards h) ≤ j → listed i j ≡ false
@@ -48,7 +53,7 @@ boards_kept l = l.orders.boards.items
 abbrev pub words_kept : Lists → List ℕ
 words_kept l = l.listings.words.items
 
--- that is kept, with a word for each of 1,000 persons
+-- that is so of what is kept, and there is a word for each of 1,000 persons
 pub record Keeps (l : Lists) (h : History) : Type 0 where
   pub lists : KeepsLists (boards_kept l) (is_in (words_kept l)) h
   pub words : length (words_kept l) ≡ PERSON_LIMIT

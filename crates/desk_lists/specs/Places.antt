@@ -1,5 +1,5 @@
 -- Boards as the bits of a word, and a word for each person.
-use Rattle.std.specs.Prelude.{ℕ, ◌==◌, Bool, false, ◌&&◌, nat_eq, nat_lt, Option, List, slice_index_or, if◌then◌else◌}
+use Rattle.std.specs.Prelude.{ℕ, ◌==◌, Bool, ◌&&◌, nat_eq, nat_lt, Option, List, slice_index_or, if◌then◌else◌}
 use Rattle.std.specs.Int.{bit_at}
 use Rattle.std.specs.Option.{option_map_or}
 use Rattle.desk_model.specs.declared.limits.TheConstants.{BOARD_LIMIT}

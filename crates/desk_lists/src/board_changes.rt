@@ -39,7 +39,7 @@ fn is_final_at(event: &Event, place: Code) -> bool
 
 // Sets the board up here, where it has no members.
 fn set_up(board: &mut Board, here: bool, place: Code, extra: bool)
-    ensures { IsThen here (SetsUp place) board.old board.new }
+    ensures { IsThen here (SetsUp extra place) board.old board.new }
 {
     if here && board.length() == 0 {
         board.restart(place, extra);

@@ -2,6 +2,7 @@
 #![tactic(auto)]
 
 mod board_changes;
+mod laws;
 mod listings;
 mod lists;
 mod lists_keep;

@@ -6,16 +6,13 @@ ghost use Rattle.desk_model.specs.Legal.{IsLegal, IsNext};
 ghost use Rattle.desk_register.specs.Done.{IsDone};
 ghost use Rattle.desk_lists.specs.Lists.{Keeps, Names};
 
+use crate::laws::what_the_lists_rest_on;
 use crate::listings::Listings;
 use crate::lists::Lists;
 use crate::named::Named;
 use crate::orders::Orders;
 use desk_base::NoMemory;
-use desk_model::{
-    Cmd, Entry, order_is_by_rank, what_an_entry_makes_of_the_desk, what_is_done_rests_on,
-    who_is_on_a_board_is_listed,
-};
-use desk_register::who_is_enrolled_has_a_place;
+use desk_model::{Cmd, Entry};
 use std::alloc::Global;
 
 impl Lists {
@@ -34,11 +31,7 @@ impl Lists {
         ensures { (h : History) (e : EntryValue) → IsLegal h → IsNext h e → IsDone e cmd.now → Names h e named.now
             → Keeps self.old h → Keeps self.new (with_entry h e) }
     {
-        what_an_entry_makes_of_the_desk();
-        what_is_done_rests_on();
-        who_is_on_a_board_is_listed();
-        order_is_by_rank();
-        who_is_enrolled_has_a_place();
+        what_the_lists_rest_on();
         let word = self.listings.of(named.person);
         self.orders.change(cmd, named, word);
         self.listings.change(cmd, named);
@@ -50,11 +43,7 @@ impl Lists {
         ensures { (h : History) → IsLegal h → IsNext h entry.now → Names h entry.now named.now
             → Keeps self.old h → Keeps self.new (with_entry h entry.now) }
     {
-        what_an_entry_makes_of_the_desk();
-        what_is_done_rests_on();
-        who_is_on_a_board_is_listed();
-        order_is_by_rank();
-        who_is_enrolled_has_a_place();
+        what_the_lists_rest_on();
         if let Some(cmd) = entry.accepted() {
             self.change(cmd, named);
         }

@@ -1,5 +1,5 @@
 use Rattle.std.proofs.Common.{◌≡◌, subst, nat_eq, sym, ap, ◌∙◌}
-use Rattle.std.specs.List.{find, list_any}
+use Rattle.std.specs.List.{find}
 use Rattle.pool_board.specs.Members.{persons}
 use Rattle.desk_model.specs.Boards.{links, order}
 use Rattle.desk_model.specs.Rank.{IsOnce}

@@ -1,4 +1,4 @@
-use Rattle.std.proofs.Common.{ℕ, ◌<◌, length, refl, arith, ◌∙◌}
+use Rattle.std.proofs.Common.{◌<◌, length, refl, arith, ◌∙◌}
 use Rattle.std.proofs.lemmas.List.{length-set}
 use Rattle.std.proofs.lemmas.Option.{slice_get_read}
 use Rattle.desk_lists.specs.Changes.{BecomesBy}

@@ -1,4 +1,4 @@
-use Rattle.std.proofs.Common.{◌∷◌, [], ◌+◌, ap, sym, ◌∙◌, length, subst, length-append, arith}
+use Rattle.std.proofs.Common.{◌∷◌, [], ◌+◌, ap, ◌∙◌, length, length-append, arith}
 use Rattle.vacancy_fill.specs.Chain.{members_at}
 use Rattle.desk_lists.proofs.ListLemmas.{empty-more}
 use Rattle.desk_lists.proofs.orders.Orders.new.Goals as goal
