@@ -16,7 +16,7 @@ use desk_base::NoMemory;
 use desk_io::{Sink, Source, Status, put_all, take_all};
 use desk_model::{Entry, one_history_is_legal};
 use desk_text::{DayFault, DayFile, read_day, write_tally, write_wrong};
-use plain_core::PlainCore;
+use fast_core::FastCore;
 use std::alloc::Global;
 
 // How many bytes of the journal are put into the sink at once, at most.
@@ -140,7 +140,7 @@ fn answers_of(alloc: Global, day: &DayFile) -> Result<Vec<Entry>, NoMemory>
         ≡ (day_history day.now.opening day.now.commands.items).entries) }
 {
     let mut entries = Vec::with_capacity(alloc, day.commands.len())?;
-    let mut core = PlainCore::new(alloc, day.opening, day.commands.len() as u64)?;
+    let mut core = FastCore::new(alloc, day.opening, day.commands.len() as u64)?;
     answer_all(&mut core, &day.commands, &mut entries);
     Ok(entries)
 }

@@ -79,8 +79,14 @@ greatest-by_board : (b : List ℕ) (codes : List (List ℕ)) (p : ℕ) (ss : Lis
     ≡ max (greatest (filter_map (held_by (b ∷ []) p) ss)) (greatest (filter_map (held_by codes p) ss))
 greatest-by_board b codes p [] = omega arith
 greatest-by_board b codes p (s ∷ ss) =
-    omega (arith, greatest-by_board b codes p ss, held_by-more b codes p s, greatest-more (held_by (b ∷ codes) p s) (filter_map (held_by (b ∷ codes) p) ss),
-    greatest-more (held_by (b ∷ []) p s) (filter_map (held_by (b ∷ []) p) ss), greatest-more (held_by codes p s) (filter_map (held_by codes p) ss))
+    omega (
+      arith,
+      greatest-by_board b codes p ss,
+      held_by-more b codes p s,
+      greatest-more (held_by (b ∷ codes) p s) (filter_map (held_by (b ∷ codes) p) ss),
+      greatest-more (held_by (b ∷ []) p s) (filter_map (held_by (b ∷ []) p) ss),
+      greatest-more (held_by codes p s) (filter_map (held_by codes p) ss),
+    )
 
 pub hold_end-more : (h : History) (p : ℕ) (b : List ℕ) (codes : List (List ℕ)) → hold_end h (b ∷ codes) p ≡ max (hold_end h (b ∷ []) p) (hold_end h codes p)
 unfolding hold_end
