@@ -23,3 +23,6 @@ mod step;
 mod told;
 
 pub use fast_core::FastCore;
+
+#[cfg(test)]
+mod tests;
