@@ -8,6 +8,7 @@ use std::test::Fail;
 mod days;
 mod drawn;
 mod draws;
+mod full;
 mod kinds;
 
 // The minute of a time of the day, 14 March 2024.
