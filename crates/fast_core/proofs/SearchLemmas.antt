@@ -70,7 +70,7 @@ pub found-on : (h : History) (m : ℕ) (job : JobValue) (kept : List BoardValue)
     → option_map (link_at b) found ≡ find (λ link. is_free h m job link.person) (links b 1 (order h b))
 found-on h m job kept on b j found lists at is =
     ap (option_map (link_at b)) (is ∙ ap (find (λ f. is_none (bar_for h m job f.person))) (append-nil (places 0 1 (members_in (members_at kept j)))
-        ∙ ap (places 0 1) (lists.order j b (code-at (boards h) b j at))))
+    ∙ ap (places 0 1) (lists.order j b (code-at (boards h) b j at))))
     ∙ find-places (bar_for h m job) (is_free h m job) (bar_for-free h m job) b 0 1 (order h b)
 
 pub found-some : (b : List ℕ) (found : Option Found) (f : Found) (whole : Option Link) → found ≡ Some f → option_map (link_at b) found ≡ whole

@@ -34,14 +34,23 @@ fn tables_that_are_full(rt: HostRuntime) -> Result<(), Fail> {
     for person in 1..501 {
         assert_eq!(rt; answer(&mut core, list(person, b"P1")), Some(Reply::Done));
     }
-    assert_eq!(rt; answer(&mut core, list(501, b"P1")), Some(Reply::MembersFull));
+    assert_eq!(rt;
+        answer(&mut core, list(501, b"P1")),
+        Some(Reply::MembersFull)
+    );
     for number in 1..4 {
-        assert_eq!(rt; answer(&mut core, list(1, &code(number))), Some(Reply::Done));
+        assert_eq!(rt;
+            answer(&mut core, list(1, &code(number))),
+            Some(Reply::Done)
+        );
     }
     assert_eq!(rt; answer(&mut core, list(1, b"B04")), Some(Reply::ListsFull));
     for vac in 1..20_001 {
         assert_eq!(rt; answer(&mut core, vacancy(vac)), Some(Reply::Done));
     }
-    assert_eq!(rt; answer(&mut core, vacancy(20_001)), Some(Reply::VacanciesFull));
+    assert_eq!(rt;
+        answer(&mut core, vacancy(20_001)),
+        Some(Reply::VacanciesFull)
+    );
     Ok(())
 }

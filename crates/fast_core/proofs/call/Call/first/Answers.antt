@@ -15,7 +15,7 @@ returns-in-Some-clause-first g c h asks =
     let m = c.args.self.now.moment in
     let job = c.args.self.now.job.now in
     sym (find-chain-here (λ link. is_free h m job link.person) h c.codes-board-items.result.now c.loop-board.board-index c.board-item.result c.in-Some.link c.loop-board-test.true c.board-item.is
-        (sym (c.first_on.ensures.first h asks) ∙ c.in-Some.is))
+    (sym (c.first_on.ensures.first h asks) ∙ c.in-Some.is))
     ∙ c.loop-board.invariant.first h asks
     ∙ ap (λ codes. find (λ link. is_free h m job link.person) (chain h codes)) (c.codes-board-items.ensures.value ∙ c.chain-chain.ensures)
 
@@ -39,7 +39,7 @@ loop-board-preserved g c =
     record {
       first = λ h asks.
           sym (find-chain-past (λ link. is_free h m job link.person) h c.codes-board-items.result.now c.loop-board.board-index c.board-item.result c.loop-board-test.true c.board-item.is
-              (sym (c.first_on.ensures.first h asks) ∙ c.in_default.is))
+          (sym (c.first_on.ensures.first h asks) ∙ c.in_default.is))
           ∙ c.loop-board.invariant.first h asks;
       steps = λ h asks. omega (
         arith,

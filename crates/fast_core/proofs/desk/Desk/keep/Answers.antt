@@ -20,9 +20,9 @@ returns-clause-tells c h tells next =
       crew = crew;
       offers = c.keep-2.ensures h tells.legal next (λ p told. person p (decliner-mover e p told)) (λ b from. c.offered_board-offered.ensures h b tells from) tells.offers;
       lists = c.keep-3.ensures h tells.legal next (record {
-          person = person;
-          board = λ b told. c.named_board-board.ensures.named h b tells told;
-          set_up = λ b told. c.named_board-board.ensures.set_up h b tells told;
-          ready = λ p told. c.ready_of-ready.ensures (with_entry h e) p crew (c.mover-mover.ensures ∙ told);
-        }) tells.lists;
+        person = person;
+        board = λ b told. c.named_board-board.ensures.named h b tells told;
+        set_up = λ b told. c.named_board-board.ensures.set_up h b tells told;
+        ready = λ p told. c.ready_of-ready.ensures (with_entry h e) p crew (c.mover-mover.ensures ∙ told);
+      }) tells.lists;
     }

@@ -12,6 +12,6 @@ invariant_of-self g c = record {
   some = some-later c.args.self.now.desk c.keep.new.self c.args.self.now.some (λ h tells. (
     with_entry h c.next_entry-entry.result,
     c.keep.ensures.tells h tells
-    (answered-next h c.args.caller c.args.stated c.next_entry-entry.result c.requires.caller c.next_entry-entry.ensures.stated (c.next_entry-entry.ensures.entry h tells)),
+        (answered-next h c.args.caller c.args.stated c.next_entry-entry.result c.requires.caller c.next_entry-entry.ensures.stated (c.next_entry-entry.ensures.entry h tells)),
   ));
 }
