@@ -5,9 +5,15 @@ use desk_model::{Chain, Cmd, DeskCore, Edition, Job, Opening, Reply, Stated};
 use qualifications::{Craft, Quals};
 use std::test::Fail;
 
-// The minute of a time of the day, 4 March 2024.
+mod days;
+mod drawn;
+mod draws;
+mod full;
+mod kinds;
+
+// The minute of a time of the day, 14 March 2024.
 fn at(time: &[u8]) -> Option<Minute> {
-    let mut text = *b"2024-03-04 00:00";
+    let mut text = *b"2024-03-14 00:00";
     if time.len() != 5 {
         return None;
     }
@@ -17,7 +23,7 @@ fn at(time: &[u8]) -> Option<Minute> {
 
 // A desk's opening on that day with 15 minutes to answer.
 fn opening(edition: Edition) -> Option<Opening> {
-    let window = Window::new(Month::read(b"2024-03")?, 1)?;
+    let window = Window::new(Month::read(b"2024-03")?, 3)?;
     Opening::new(at(b"00:00")?, window, 15, edition)
 }
 
@@ -45,12 +51,11 @@ fn enrol(person: u32) -> Option<Cmd> {
     })
 }
 
-// A pool at HOM is set up.
-fn pool(board: &[u8]) -> Option<Cmd> {
+fn board(board: &[u8], extra: bool, place: &[u8]) -> Option<Cmd> {
     Some(Cmd::Board {
         board: Code::read(board)?,
-        extra: false,
-        place: Code::read(b"HOM")?,
+        extra,
+        place: Code::read(place)?,
     })
 }
 
@@ -89,7 +94,7 @@ fn no_room_for_entries(rt: HostRuntime) -> Result<(), Fail> {
     let next = VacNo::new(12).map(|vac| Cmd::Next { vac });
     let steps: [(&[u8], Option<Cmd>, Reply); 5] = [
         (b"00:01", enrol(101), Reply::Done),
-        (b"00:01", pool(b"P1"), Reply::Done),
+        (b"00:01", board(b"P1", false, b"HOM"), Reply::Done),
         (b"00:02", list(101, b"P1"), Reply::Done),
         (b"00:03", vacancy(12), Reply::Done),
         (b"00:04", next, offered),

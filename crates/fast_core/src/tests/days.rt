@@ -1,0 +1,96 @@
+//! Days that are drawn, in a desk that looks up and in one that searches all that was stated.
+use super::drawn::{Day, SET_UP, command};
+use super::draws::Draws;
+use super::kinds::{ALL_KINDS, kind};
+use super::{at, opening, take};
+use crate::FastCore;
+use desk_base::Minute;
+use desk_model::{Edition, Reply};
+use plain_core::PlainCore;
+use std::alloc::Global;
+use std::test::Fail;
+
+// The days of each edition, and the commands of a day that are drawn. Both may be raised: the time goes with the days, and with
+// the square of the commands, since the plain desk searches all that was stated before.
+const DAYS: u64 = 12;
+
+const COMMANDS: u32 = 170;
+
+// The day after a command was answered, so many minutes later.
+fn day_after(fast: &FastCore, day: &Day, minutes: u32, reply: &Reply) -> Day {
+    let mut after = Day {
+        now: day.now.saturating_add(u64::from(minutes)),
+        vac: day.vac,
+        person: day.person,
+    };
+    if let Reply::Offered { person, .. } = reply {
+        after.person = person.number();
+        if let Some(vac) = fast.desk.on_offer(*person) {
+            after.vac = vac.number();
+        }
+    }
+    after
+}
+
+// How many minutes time goes on after a step: none while the boards are set up, few in the first hours, and then up to an hour and
+// a half.
+fn minutes_after(draws: &mut Draws, step: u32) -> u32 {
+    let much = draws.below(3) == 0;
+    if step < SET_UP {
+        0
+    } else if much && step > SET_UP + 45 {
+        draws.below(91)
+    } else {
+        draws.below(9)
+    }
+}
+
+// The minute at which a step is stated: now and then two years ahead, which no window holds.
+fn minute_of(draws: &mut Draws, day: &Day, step: u32) -> Option<Minute> {
+    let outside = draws.below(40) == 0 && step >= SET_UP;
+    let ahead = if outside { 1_000_000 } else { 0 };
+    Minute::new(day.now.saturating_add(ahead))
+}
+
+// The first step of a day that the desks answer otherwise, from 0; `None` where none is. The kinds of replies are added.
+fn first_otherwise(
+    alloc: Global,
+    edition: Edition,
+    seed: u64,
+    kinds: &mut u64,
+) -> Result<Option<u32>, Fail> {
+    let mut plain = PlainCore::new(alloc, opening(edition).ok_or("no opening")?, 100_000)?;
+    let mut fast = FastCore::new(alloc, opening(edition).ok_or("no opening")?, 100_000)?;
+    let mut draws = Draws { state: seed };
+    let mut day = Day {
+        now: at(b"00:00").ok_or("no minute")?.number(),
+        vac: 1,
+        person: 1,
+    };
+    for step in 0..SET_UP + COMMANDS {
+        let state = draws.state();
+        let minute = minute_of(&mut draws, &day, step);
+        let told = take(&mut plain, minute, command(&day, step, state)).ok_or("no step")?;
+        let looked = take(&mut fast, minute, command(&day, step, state)).ok_or("no step")?;
+        if looked != told {
+            return Ok(Some(step));
+        }
+        *kinds |= 1_u64 << (kind(&looked.1) % 64);
+        let minutes = minutes_after(&mut draws, step);
+        day = day_after(&fast, &day, minutes, &looked.1);
+    }
+    Ok(None)
+}
+
+#[test]
+fn both_cores_answer_alike(rt: HostRuntime) -> Result<(), Fail> {
+    let mut kinds = 0;
+    for seed in 0..DAYS {
+        let one = first_otherwise(rt.alloc(), Edition::One, 2 * seed, &mut kinds)?;
+        assert_eq!(rt; one, None);
+        let two = first_otherwise(rt.alloc(), Edition::Two, 2 * seed + 1, &mut kinds)?;
+        assert_eq!(rt; two, None);
+    }
+    assert_eq!(rt; ALL_KINDS & !kinds, 0);
+    Ok(())
+}
