@@ -1,4 +1,4 @@
-//! A desk that may take as many steps as can be counted, and so can keep no list of its entries.
+//! A desk that looks up beside one that searches all that was stated, and tables that are full.
 use crate::FastCore;
 use desk_base::{Code, Minute, Month, PersonNo, VacNo, Window};
 use desk_model::{Chain, Cmd, DeskCore, Edition, Job, Opening, Reply, Stated};
