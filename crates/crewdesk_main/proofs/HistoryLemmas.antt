@@ -1,7 +1,7 @@
 -- The history of a day file's commands.
-use Rattle.std.proofs.Common.{◌≡◌, ℕ, ◌<◌, ◌+◌, List, [], ◌∷◌, ◌++◌, length, get_or, take, map, refl, sym, ap, ◌∙◌, arith}
+use Rattle.std.proofs.Common.{◌≡◌, ℕ, ◌<◌, ◌+◌, List, [], ◌∷◌, ◌++◌, length, get_or, take, map, refl, sym, ap, ◌∙◌, arith, drop, take-append-drop, length-append}
 use Rattle.std.specs.List.{All}
-use Rattle.std.proofs.lemmas.List.{take_more, map-append}
+use Rattle.std.proofs.lemmas.List.{take_more, map-append, length-map}
 use Rattle.std.proofs.lemmas.List.Elements.{All-cons, All-nil, All-head, All-tail}
 use Rattle.desk_model.specs.Opening.{OpeningValue, IsOpening}
 use Rattle.desk_model.specs.Statement.{StatedValue}
@@ -43,12 +43,26 @@ unfolding history_from
 history_from-opening h [] = refl
 history_from-opening h ((caller, s) ∷ rest) = history_from-opening (with_entry h (next h caller s)) rest
 
--- with its opening, its entries are the history
-pub day_history-entries : (o : OpeningValue) (commands : List StatedValue) (entries : List EntryValue) → entries ≡ (day_history o commands).entries
-    → history_of o entries ≡ day_history o commands
-day_history-entries o commands entries are =
-    ap (history_of o) are
-    ∙ ap (λ opening. history_of opening (day_history o commands).entries) (sym (history_from-opening (opened o) (map by_the_day_file commands)))
+-- it is opened as was said
+pub day_history-opening : (o : OpeningValue) (commands : List StatedValue) → (day_history o commands).opening ≡ o
+day_history-opening o commands = history_from-opening (opened o) (map by_the_day_file commands)
+
+-- and has an entry for each command
+history_from-length : (h : History) (commands : List (ℕ × StatedValue)) → length (history_from h commands).entries ≡ length h.entries + length commands
+unfolding history_from
+history_from-length h [] = omega arith
+history_from-length h ((caller, s) ∷ rest) =
+    omega (arith, history_from-length (with_entry h (next h caller s)) rest, length-append h.entries (next h caller s ∷ []))
+
+pub day_history-length : (o : OpeningValue) (commands : List StatedValue) → length (day_history o commands).entries ≡ length commands
+day_history-length o commands = history_from-length (opened o) (map by_the_day_file commands) ∙ length-map commands by_the_day_file
+
+-- the history of the first commands goes on with that of the rest
+pub day_history-behind : (o : OpeningValue) (commands : List StatedValue) (place : ℕ)
+    → history_from (day_history o (take place commands)) (map by_the_day_file (drop place commands)) ≡ day_history o commands
+day_history-behind o commands place =
+    sym (history_from-append (opened o) (map by_the_day_file (take place commands)) (map by_the_day_file (drop place commands)))
+    ∙ ap (history_from (opened o)) (sym (map-append by_the_day_file (take place commands) (drop place commands)) ∙ ap (map by_the_day_file) (take-append-drop place commands))
 
 -- the day file's commands may be stated by caller 0
 day-MayState : (commands : List StatedValue) → All IsStated commands → All (λ c. MayState c.0 c.1) (map by_the_day_file commands)

@@ -1,16 +1,20 @@
 -- The journal of a day grows by the lines of the entries, one after another.
-use Rattle.std.proofs.Common.{◌≡◌, ℕ, ◌<◌, ◌+◌, Option, List, [], ◌∷◌, ◌++◌, length, get_or, take, drop, refl, sym, ap, subst, ◌∙◌, arith, append-nil, length-append, append_assoc, take-append-drop}
+use Rattle.std.proofs.Common.{◌≡◌, ℕ, ◌+◌, Option, List, [], ◌∷◌, ◌++◌, length, map, take, drop, sym, ap, subst, ◌∙◌, arith, append-nil, length-append, append_assoc}
 use Rattle.std.specs.Io.KnownBytes.{Appends}
 use Rattle.std.proofs.KnownBytes.{Appends-trans, Appends-nil}
-use Rattle.std.proofs.lemmas.List.{take_more, take-append-le}
+use Rattle.std.proofs.lemmas.List.{take-append-le}
 use Rattle.std.proofs.Math.Seq.{take-append-add}
 use Rattle.std.proofs.lemmas.Grind.{flat_map-append}
 use Rattle.desk_io.specs.Giving.{AddsFront}
 use Rattle.desk_model.specs.Opening.{OpeningValue}
 use Rattle.desk_model.specs.Entry.{EntryValue}
-use Rattle.desk_model.specs.History.{history_of}
+use Rattle.desk_model.specs.Statement.{StatedValue}
+use Rattle.desk_model.specs.History.{History, with_entry}
+use Rattle.desk_model.specs.Legal.{next, history_from}
 use Rattle.desk_model.specs.Journal.{entry_line, opening_line, entry_lines, journal}
 use Rattle.crewdesk_main.specs.Gathered.{Gathers}
+use Rattle.crewdesk_main.specs.Replay.{by_the_day_file, day_history}
+use Rattle.crewdesk_main.proofs.HistoryLemmas.{day_history-behind}
 
 -- ---- text that is gathered
 
@@ -54,31 +58,36 @@ AddsFront-gathered a b c text waiting before front =
 
 -- ---- the journal
 
--- the line of the next entry stands behind those before it
-journal-next : (o : OpeningValue) (h : List EntryValue) (place : ℕ) (e : EntryValue) → place < length h → e ≡ get_or h place e
-    → (opening_line o ++ entry_lines (take place h)) ++ entry_line e ≡ opening_line o ++ entry_lines (take (place + 1) h)
-journal-next o h place e within at =
-    append_assoc (opening_line o) (entry_lines (take place h)) (entry_line e)
-    ∙ ap (λ t. opening_line o ++ t) (sym (
-    ap entry_lines (take_more h place e within ∙ ap (λ x. take place h ++ x ∷ []) (sym at))
-    ∙ flat_map-append entry_line (take place h) (e ∷ [])
-    ∙ ap (λ line. entry_lines (take place h) ++ line) (append-nil (entry_line e))))
+-- an entry more is a line more
+journal-next : (h : History) (e : EntryValue) → journal (with_entry h e) ≡ journal h ++ entry_line e
+journal-next h e =
+    ap (λ t. opening_line h.opening ++ t) (flat_map-append entry_line h.entries (e ∷ []) ∙ ap (λ t. entry_lines h.entries ++ t) (append-nil (entry_line e)))
+    ∙ sym (append_assoc (opening_line h.opening) (entry_lines h.entries) (entry_line e))
 
--- so what was gathered with it is the opening's line and the lines of one entry more
-pub Gathers-journal : (a b c : Option (List ℕ)) (o : OpeningValue) (h : List EntryValue) (place : ℕ) (e : EntryValue) (line waiting later : List ℕ)
-    → place < length h → e ≡ get_or h place e → line ≡ entry_line e
-    → Gathers a b (opening_line o ++ entry_lines (take place h)) waiting → Gathers b c (waiting ++ line) later
-    → Gathers a c (opening_line o ++ entry_lines (take (place + 1) h)) later
-Gathers-journal a b c o h place e line waiting later within at spelled before next =
-    subst (λ t. Gathers a c t later)
-    (ap (λ l. (opening_line o ++ entry_lines (take place h)) ++ l) spelled ∙ journal-next o h place e within at)
-    (Gathers-more a b c (opening_line o ++ entry_lines (take place h)) waiting line later before next)
+-- commands more are lines more
+journal-grows : (h : History) (commands : List (ℕ × StatedValue)) → (later : List ℕ) × (journal (history_from h commands) ≡ journal h ++ later)
+unfolding history_from
+journal-grows h [] = ([], sym (append-nil (journal h)))
+journal-grows h ((caller, s) ∷ rest) =
+    let e = next h caller s in
+    let more = journal-grows (with_entry h e) rest in (
+      entry_line e ++ more.0,
+      more.1 ∙ ap (λ t. t ++ more.0) (journal-next h e) ∙ append_assoc (journal h) (entry_line e) more.0,
+    )
 
--- a front of the opening's line and the first entries' lines is one of the journal
-pub AddsFront-journal : (a b : Option (List ℕ)) (o : OpeningValue) (h : List EntryValue) (place : ℕ)
-    → AddsFront a b (opening_line o ++ entry_lines (take place h)) → AddsFront a b (journal (history_of o h))
-AddsFront-journal a b o h place front =
-    subst (AddsFront a b)
-    (append_assoc (opening_line o) (entry_lines (take place h)) (entry_lines (drop place h))
-    ∙ ap (λ t. opening_line o ++ t) (sym (flat_map-append entry_line (take place h) (drop place h)) ∙ ap entry_lines (take-append-drop place h)))
-    (AddsFront-longer a b (opening_line o ++ entry_lines (take place h)) (entry_lines (drop place h)) front)
+-- what was gathered with the line of the entry that comes next is the journal of one command more
+pub Gathers-journal : (a b c : Option (List ℕ)) (h later : History) (e : EntryValue) (line waiting gathered : List ℕ)
+    → with_entry h e ≡ later → line ≡ entry_line e
+    → Gathers a b (journal h) waiting → Gathers b c (waiting ++ line) gathered → Gathers a c (journal later) gathered
+Gathers-journal a b c h later e line waiting gathered goes spelled before next =
+    subst (λ t. Gathers a c t gathered)
+    (ap (λ l. journal h ++ l) spelled ∙ sym (journal-next h e) ∙ ap journal goes)
+    (Gathers-more a b c (journal h) waiting line gathered before next)
+
+-- a front of the journal of the first commands is one of that of all
+pub AddsFront-journal : (a b : Option (List ℕ)) (o : OpeningValue) (commands : List StatedValue) (place : ℕ)
+    → AddsFront a b (journal (day_history o (take place commands))) → AddsFront a b (journal (day_history o commands))
+AddsFront-journal a b o commands place front =
+    let h = day_history o (take place commands) in
+    let more = journal-grows h (map by_the_day_file (drop place commands)) in
+    subst (AddsFront a b) (sym more.1 ∙ ap journal (day_history-behind o commands place)) (AddsFront-longer a b (journal h) more.0 front)

@@ -1,31 +1,35 @@
-ghost use Rattle.std.specs.Prelude.{◌≡◌, ◌≤◌, [], vec_capacity};
+ghost use Rattle.std.specs.Prelude.{◌≡◌, ◌≤◌, [], length, vec_capacity};
 ghost use Rattle.std.specs.Bool.{OnTrue, OnFalse};
 ghost use Rattle.std.specs.Io.KnownBytes.{Appends};
 ghost use Rattle.desk_io.specs.Faults.{Rose};
 ghost use Rattle.desk_io.specs.Giving.{AddsFront};
-ghost use Rattle.desk_model.specs.History.{history_of};
+ghost use Rattle.desk_model.specs.History.{opened};
 ghost use Rattle.desk_model.specs.Journal.{journal};
+ghost use Rattle.crewdesk_main.specs.Replay.{day_history};
 
 use crate::lines::gather;
 use desk_io::{Sink, put_all};
-use desk_model::{Entry, Opening};
+use desk_model::{DeskCore, Opening, Stated};
 use desk_text::{LineText, fill_with_entry, write_opening};
 
-/// Writes the journal of a desk that was opened so and has these entries, as many lines at once as the buffer holds.
-/// It says whether the sink took all lines, and stops at the first fault.
-pub fn write_journal<K: Sink>(
+/// Steps a desk that was opened so and has answered nothing yet through the commands as caller 0, and writes its journal, as
+/// many lines at once as the buffer holds. It says whether the sink took all lines, and stops at the first fault.
+pub fn write_journal<C: DeskCore, K: Sink>(
+    core: &mut C,
     opening: &Opening,
-    entries: &[Entry],
+    commands: &[Stated],
     buffer: &mut Vec<u8>,
     sink: &mut K,
 ) -> bool
+    requires left { length commands.now ≤ C.room core.old }
+    requires start { C.stands core.old (opened opening.now) }
     requires empty { buffer.old.items ≡ [] }
     requires room { 512 ≤ vec_capacity buffer.old }
 
     ensures all { OnTrue result (Appends (K.held sink.old) (K.held sink.new)
-        (journal (history_of opening.now entries.now))) }
+        (journal (day_history opening.now commands.now))) }
     ensures front { OnFalse result (AddsFront (K.held sink.old) (K.held sink.new)
-        (journal (history_of opening.now entries.now))) }
+        (journal (day_history opening.now commands.now))) }
     ensures later { K.faults sink.old ≤ K.faults sink.new }
     ensures cause { OnFalse result (Rose (K.faults sink.old) (K.faults sink.new)) }
     ensures no_fault { OnTrue result (K.faults sink.new ≡ K.faults sink.old) }
@@ -34,8 +38,8 @@ pub fn write_journal<K: Sink>(
         return false;
     }
     let mut line = LineText::new();
-    for entry in entries {
-        fill_with_entry(&mut line, entry);
+    for stated in commands {
+        fill_with_entry(&mut line, &core.step(0, *stated));
         if !gather(buffer, line.as_slice(), sink) {
             return false;
         }

@@ -1,8 +1,8 @@
 //! The crew calling desk: reads a day file and writes its journal.
 #![tactic(auto)]
 
-mod answers;
 mod day_form;
+mod day_tally;
 mod forms;
 mod journal;
 mod limits;

@@ -1,4 +1,4 @@
-ghost use Rattle.std.specs.Prelude.{◌≡◌, ◌≢◌, ◌≤◌, ◌⊎◌, ◌↔◌, false, true, IfOk};
+ghost use Rattle.std.specs.Prelude.{◌≡◌, ◌≢◌, ◌≤◌, ◌⊎◌, ◌↔◌, false, true};
 ghost use Rattle.std.specs.Io.KnownBytes.{Appends, Keeps};
 ghost use Rattle.desk_io.specs.Faults.{Rose};
 ghost use Rattle.desk_io.specs.Giving.{AddsFront};
@@ -8,14 +8,13 @@ ghost use Rattle.desk_text.specs.DayFile.{HasTooMany, HasNoOpening};
 ghost use Rattle.crewdesk_main.specs.Words.{reads_day};
 ghost use Rattle.crewdesk_main.specs.Replay.{Replays, FindsWrong, WritesOrFails, EndsByTheDay, WasRead, asked_text, day_history, text_of, writes};
 
-use crate::answers::answer_all;
 use crate::day_form::DayForm;
+use crate::day_tally::tally_day;
 use crate::journal::write_journal;
 use crate::limits::BYTE_LIMIT;
-use desk_base::NoMemory;
 use desk_io::{Sink, Source, Status, put_all, take_all};
-use desk_model::{Entry, one_history_is_legal};
-use desk_text::{DayFault, DayFile, read_day, write_tally, write_wrong};
+use desk_model::one_history_is_legal;
+use desk_text::{DayFault, DayFile, read_day, write_wrong};
 use fast_core::FastCore;
 use std::alloc::Global;
 
@@ -101,8 +100,8 @@ fn tell_wrong<K: Sink>(record_no: u32, field: u8, sink: &mut K) -> Status
     Status::Unreadable
 }
 
-// Replays the day file's commands on a new desk and writes what is asked for. All memory is taken, and all commands are
-// answered, before anything is written.
+// Replays the day file's commands on a new desk and writes what is asked for. All memory is taken before anything is
+// written.
 fn print_day<K: Sink>(alloc: Global, form: DayForm, day: &DayFile, sink: &mut K) -> Status
     ensures fine { result ≡ Status.Fine → Appends (K.held sink.old) (K.held sink.new)
         (text_of form (day_history day.now.opening day.now.commands.items)) }
@@ -117,30 +116,24 @@ fn print_day<K: Sink>(alloc: Global, form: DayForm, day: &DayFile, sink: &mut K)
     ensures only { (result ≡ Status.Fine)
         ⊎ ((result ≡ Status.WriteFault) ⊎ (result ≡ Status.NoMemory)) }
 {
-    let Ok(entries) = answers_of(alloc, day) else {
+    let Ok(mut core) = FastCore::new(alloc, day.opening, day.commands.len() as u64) else {
         return Status::NoMemory;
     };
     let Ok(mut buffer) = Vec::with_capacity(alloc, BUFFER_BYTES) else {
         return Status::NoMemory;
     };
     let whole = match form {
-        DayForm::Replay => write_journal(&day.opening, &entries, &mut buffer, sink),
-        DayForm::Tally => put_all(sink, write_tally(&day.opening, &entries).as_slice()),
+        DayForm::Replay => {
+            write_journal(&mut core, &day.opening, &day.commands, &mut buffer, sink)
+        }
+        DayForm::Tally => {
+            let tally = tally_day(&mut core, &day.opening, &day.commands);
+            put_all(sink, tally.write().as_slice())
+        }
     };
     if whole {
         Status::Fine
     } else {
         Status::WriteFault
     }
-}
-
-// What a new desk answers to the day file's commands.
-fn answers_of(alloc: Global, day: &DayFile) -> Result<Vec<Entry>, NoMemory>
-    ensures { IfOk result (λ entries. entries.items
-        ≡ (day_history day.now.opening day.now.commands.items).entries) }
-{
-    let mut entries = Vec::with_capacity(alloc, day.commands.len())?;
-    let mut core = FastCore::new(alloc, day.opening, day.commands.len() as u64)?;
-    answer_all(&mut core, &day.commands, &mut entries);
-    Ok(entries)
 }

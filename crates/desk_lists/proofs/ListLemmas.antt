@@ -1,12 +1,18 @@
 -- Boards that are changed one after another.
-use Rattle.std.proofs.Common.{◌≡◌, ◌≢◌, ◌<◌, ◌+◌, ℕ, zero, suc, Bool, true, false, nat_eq, nat_lt, List, [], ◌∷◌, ◌++◌, length, slice_set, Some, is_some, refl, sym, ap, ◌∙◌, subst, arith}
+use Rattle.std.proofs.Common.{◌≡◌, ◌≢◌, ◌<◌, ◌+◌, ℕ, zero, suc, Bool, true, false, ◌||◌, nat_eq, nat_lt, List, [], ◌∷◌, ◌++◌, length, slice_set, Some, is_some, refl, sym, ap, ◌∙◌, subst, arith}
+use Rattle.std.proofs.lemmas.Bool.{false≢true}
 use Rattle.std.proofs.lemmas.Bool.Decides.{nat_tests}
 use Rattle.std.proofs.lemmas.List.{get_or-set_same, get_or-set_other, length-set}
 use Rattle.std.proofs.lemmas.Option.{slice_get-get_or, slice_get_within, get_or_from_slice_get, same_Some}
 use Rattle.std.specs.List.{slice_get}
 use Rattle.pool_board.specs.Board.{BoardValue}
 use Rattle.vacancy_fill.specs.Chain.{members_at}
-use Rattle.desk_lists.specs.Changes.{IsThen, EachBecomes}
+use Rattle.desk_model.specs.declared.command.Cmd.{Cmd}
+use Rattle.desk_model.specs.declared.command.Cmd.TheVariants as cmd
+use Rattle.desk_model.specs.Offers.{is_of}
+use Rattle.desk_lists.specs.Places.{has_board}
+use Rattle.desk_lists.specs.Changes.{IsThen, EachBecomes, BecomesBy}
+use Rattle.desk_lists.specs.declared.named.Named.{Named}
 
 get-set_same : {X : Type 0} (xs : List X) (i : ℕ) (x : X) → i < length xs → slice_get (slice_set xs i x) i ≡ Some x
 get-set_same xs i x within = slice_get-get_or (slice_set xs i x) i x (subst (λ n. i < n) (sym (length-set xs i x)) within) ∙ ap Some (get_or-set_same xs i x x within)
@@ -51,6 +57,49 @@ upto-more Becomes i old now y z each here becomes k b at = go (nat_eq k i) refl 
         let apart : k ≢ i = grind (arith, nat_tests, this) in
         let same : nat_lt k (i + 1) ≡ nat_lt k i = grind (arith, nat_tests, this) in
         (was.0, (get-set_other now i k z was.0 apart was.1.0, subst (λ t. IsThen t (Becomes k) b was.0) (sym same) was.1.1))
+
+-- one that becomes itself need not be touched
+pub upto-stays : (Becomes : ℕ → BoardValue → BoardValue → Type 0) (i : ℕ) (old now : List BoardValue) → Upto Becomes i old now
+    → ((b : BoardValue) → Becomes i b b) → Upto Becomes (i + 1) old now
+upto-stays Becomes i old now each stays k b at = go (nat_eq k i) refl (each k b at)
+  where
+    go : (this : Bool) → nat_eq k i ≡ this → (x : BoardValue) × ((slice_get now k ≡ Some x) × IsThen (nat_lt k i) (Becomes k) b x)
+        → (x : BoardValue) × ((slice_get now k ≡ Some x) × IsThen (nat_lt k (i + 1)) (Becomes k) b x)
+    go true this was =
+        let is : i ≡ k = grind (arith, nat_tests, this) in
+        let before : nat_lt k i ≡ false = grind (arith, nat_tests, this) in
+        let after : nat_lt k (i + 1) ≡ true = grind (arith, nat_tests, this) in
+        let same : was.0 ≡ b = subst (λ t. IsThen t (Becomes k) b was.0) before was.1.1 in (
+          was.0,
+          (
+            was.1.0,
+            subst (λ t. IsThen t (Becomes k) b was.0) (sym after) (subst (λ x. Becomes k b x) (sym same) (subst (λ n. Becomes n b b) is (stays b))),
+          ),
+        )
+    go false this was =
+        let same : nat_lt k (i + 1) ≡ nat_lt k i = grind (arith, nat_tests, this) in
+        (was.0, (was.1.0, subst (λ t. IsThen t (Becomes k) b was.0) (sym same) was.1.1))
+
+-- ---- boards that a command doesn't touch
+
+no-then : (t : Bool) (Becomes : BoardValue → BoardValue → Type 0) (b : BoardValue) → t ≡ false → IsThen t Becomes b b
+no-then t Becomes b not = subst (λ u. IsThen u Becomes b b) (sym not) refl
+
+pub becomes-untouched : (c : Cmd) (n : Named) (word j : ℕ) (b : BoardValue) → (is_of j n.board || has_board word j) ≡ false → BecomesBy c n word j b b
+becomes-untouched c n word j b not = by_both c (or-none (is_of j n.board) (has_board word j) not)
+  where
+    or-none : (x y : Bool) → (x || y) ≡ false → (x ≡ false) × (y ≡ false)
+    or-none false y not = (refl, not)
+    or-none true y not = absurd (false≢true (sym not))
+    by_both : (c : Cmd) → (is_of j n.board ≡ false) × (has_board word j ≡ false) → BecomesBy c n word j b b
+    by_both (cmd.Board board extra place) both = no-then _ _ b both.0
+    by_both (cmd.List p board) both = no-then _ _ b both.0
+    by_both (cmd.Unlist p board) both = no-then _ _ b both.0
+    by_both (cmd.MarkOn p) both = no-then _ _ b both.1
+    by_both (cmd.Decline vac p) both = no-then _ _ b both.1
+    by_both (cmd.Past p event) both = no-then _ _ b both.1
+    by_both (cmd.Happened p event) both = no-then _ _ b both.1
+    by_both other both = refl
 
 -- one more board without members
 pub empty-more : (boards : List BoardValue) (x : BoardValue) (j : ℕ) → ((i : ℕ) → members_at boards i ≡ []) → x.members ≡ [] → members_at (boards ++ x ∷ []) j ≡ []

@@ -1,8 +1,10 @@
 //! What a command makes of one board.
-ghost use Rattle.std.specs.Prelude.{◌≡◌};
+ghost use Rattle.std.specs.Prelude.{◌≡◌, ◌||◌, ℕ, false};
+ghost use Rattle.pool_board.specs.Board.{BoardValue};
 ghost use Rattle.desk_model.specs.Offers.{is_of};
 ghost use Rattle.desk_lists.specs.Places.{has_board};
 ghost use Rattle.desk_lists.specs.Changes.{is_final_at, IsThen, SetsUp, TakesOn, LetsGo, Moves, BecomesBy};
+ghost use Rattle.desk_lists.specs.declared.named.Named.{Named as NamedValue};
 
 use crate::named::Named;
 use desk_base::{Code, Minute, PersonNo};
@@ -75,6 +77,29 @@ fn move_on(board: &mut Board, here: bool, last: bool, person: PersonNo, ready: M
     if last {
         board.to_bottom(person);
     }
+}
+
+/// Whether a command that is done changes boards at all.
+pub(crate) fn changes_boards(cmd: &Cmd) -> bool
+    ensures { result ≡ false → (n : NamedValue) (word j : ℕ) (b : BoardValue) → BecomesBy cmd.now n word j b b }
+{
+    matches!(
+        cmd,
+        Cmd::Board { .. }
+            | Cmd::List { .. }
+            | Cmd::Unlist { .. }
+            | Cmd::MarkOn { .. }
+            | Cmd::Decline { .. }
+            | Cmd::Past { .. }
+            | Cmd::Happened { .. }
+    )
+}
+
+/// Whether the board at this place is named, or is among the boards of the word: no command changes others.
+pub(crate) fn is_touched(place: usize, named: &Named, word: u64) -> bool
+    ensures { result ≡ (is_of place named.now.board || has_board word place) }
+{
+    is_here(place, named.board) || has_board(word, place)
 }
 
 /// Makes of the board at this place what a command makes of it that was done; `word` has the boards of the person whom it

@@ -3,7 +3,7 @@ ghost use Rattle.desk_model.specs.declared.limits.TheConstants.{BOARD_LIMIT};
 ghost use Rattle.vacancy_fill.specs.Chain.{members_at};
 ghost use Rattle.desk_lists.specs.Changes.{BecomesBy, EachBecomes};
 
-use crate::board_changes::change_board;
+use crate::board_changes::{change_board, changes_boards, is_touched};
 use crate::named::Named;
 use desk_base::{Code, NoMemory};
 use desk_model::{BOARD_LIMIT, Cmd};
@@ -36,8 +36,13 @@ impl Orders {
         ensures many { length self.new.boards.items ≡ length self.old.boards.items }
         ensures each { EachBecomes (BecomesBy cmd.now named.now word) self.old.boards.items self.new.boards.items }
     {
+        if !changes_boards(cmd) {
+            return;
+        }
         for place in 0..self.boards.len() {
-            change_board(&mut self.boards[place], place, cmd, named, word);
+            if is_touched(place, named, word) {
+                change_board(&mut self.boards[place], place, cmd, named, word);
+            }
         }
     }
 }

@@ -1,5 +1,5 @@
 -- The sorts of a tally.
-use Rattle.std.proofs.Common.{◌≡◌, ℕ, ◌+◌, List, [], ◌∷◌, length, refl, arith, inl, inr}
+use Rattle.std.proofs.Common.{◌≡◌, ◌∙◌, ℕ, ◌+◌, ◌≤◌, ◌<◌, ◌^◌, Bool, ap, sym, List, [], ◌∷◌, ◌++◌, length, refl, arith, inl, inr}
 use Rattle.std.proofs.lemmas.Bool.{cases_Bool}
 use Rattle.std.specs.Prelude.{if◌then◌else◌}
 use Rattle.desk_model.specs.Entry.{EntryValue}
@@ -26,6 +26,29 @@ count-next s e later = elim (cases_Bool (is_of s e.reply)) [
   | inl is ↦ rw is (omega arith)
   | inr other ↦ rw other (omega arith)
 ]
+
+-- and so does one behind the others
+pub count-last : (s : ReplySort) (entries : List EntryValue) (e : EntryValue) → count s (entries ++ e ∷ []) ≡ count s entries + (if is_of s e.reply then 1 else 0)
+unfolding one
+count-last s [] e = omega (arith, count-next s e [])
+count-last s (x ∷ entries) e = omega (arith, count-last s entries e, count-next s x (entries ++ e ∷ []), count-next s x entries)
+
+-- no sort has more than all
+pub count-least : (s : ReplySort) (entries : List EntryValue) → count s entries ≤ length entries
+count-least s [] = omega arith
+count-least s (e ∷ entries) = elim (cases_Bool (is_of s e.reply)) [
+  | inl is ↦ rw is (omega (arith, count-least s entries))
+  | inr other ↦ rw other (omega (arith, count-least s entries))
+]
+
+-- so a count that is raised where the next answer is of the sort counts it too
+pub count-raised : (s : ReplySort) (entries : List EntryValue) (e : EntryValue) (n later : ℕ) (so : Bool) → length entries + 1 < 2 ^ 64
+    → n ≡ count s entries → so ≡ is_of s e.reply → (n + 1 < 2 ^ 64 → later ≡ n + (if so then 1 else 0)) → later ≡ count s (entries ++ e ∷ [])
+count-raised s entries e n later so few counts is raised =
+    raised (omega (arith, few, counts, count-least s entries))
+    ∙ ap (λ t. n + (if t then 1 else 0)) is
+    ∙ ap (λ k. k + (if is_of s e.reply then 1 else 0)) counts
+    ∙ sym (count-last s entries e)
 
 pub count-all : (entries : List EntryValue)
     → count sort.Done entries + count sort.Offered entries + count sort.Unfilled entries + count sort.Denied entries + count sort.Told entries + count sort.Refused entries

@@ -1,10 +1,11 @@
 -- The tally of a desk: how many commands it was given, how many of each sort of answer it gave, and its last moment.
-use Rattle.std.specs.Prelude.{ℕ, Bool, true, false, not, ◌||◌, List, [], ◌∷◌, ◌++◌, codes, decimal, length, filter}
+use Rattle.std.specs.Prelude.{◌≡◌, ℕ, Bool, true, false, not, ◌||◌, List, [], ◌∷◌, ◌++◌, codes, decimal, length, filter}
 use Rattle.desk_base.specs.Minute.{minute_text}
 use Rattle.desk_model.specs.declared.reply.Reply.{Reply}
 use Rattle.desk_model.specs.declared.reply.Reply.TheVariants as reply
 use Rattle.desk_model.specs.Entry.{EntryValue}
 use Rattle.desk_text.specs.declared.reply_sort.ReplySort.{ReplySort}
+use Rattle.desk_text.specs.declared.tally.Tally.{Tally}
 use Rattle.desk_text.specs.declared.reply_sort.ReplySort.TheVariants as sort
 use Rattle.desk_model.specs.History.{History, is_done}
 use Rattle.desk_model.specs.Legal.{last_moment}
@@ -62,3 +63,14 @@ tally_text h =
     ++ count_line (codes "read") (count sort.Told h.entries)
     ++ count_line (codes "refused") (count sort.Refused h.entries)
     ++ codes "moment " ++ minute_text (last_moment h) ++ 10 ∷ []
+
+-- what is counted is what the tally of the history says
+pub record Counts (t : Tally) (h : History) : Type 0 where
+  pub commands : t.commands ≡ length h.entries
+  pub done : t.done ≡ count sort.Done h.entries
+  pub offered : t.offered ≡ count sort.Offered h.entries
+  pub unfilled : t.unfilled ≡ count sort.Unfilled h.entries
+  pub denied : t.denied ≡ count sort.Denied h.entries
+  pub told : t.told ≡ count sort.Told h.entries
+  pub refused : t.refused ≡ count sort.Refused h.entries
+  pub moment : t.moment ≡ last_moment h

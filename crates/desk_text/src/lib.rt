@@ -67,7 +67,7 @@ pub use spelled_entry::read_entry;
 pub use table_of_records::{
     a_record_is_wrong_at_one_place, the_table_has_just_the_records_of_commands,
 };
-pub use tally::{a_tally_adds_up, write_tally};
+pub use tally::{Tally, a_tally_adds_up};
 pub use wrong_line::write_wrong;
 
 #[cfg(test)]

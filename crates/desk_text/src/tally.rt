@@ -1,50 +1,94 @@
 //! The tally of a desk.
-ghost use Rattle.std.specs.Prelude.{◌≡◌, ◌≤◌, ◌+◌, ◌++◌, ℕ, List, length};
+ghost use Rattle.std.specs.Prelude.{◌≡◌, ◌≤◌, ◌<◌, ◌+◌, ◌^◌, ◌++◌, ℕ, List, length, if◌then◌else◌};
 ghost use Rattle.arrayvec.specs.ArrayVec.{array_vec_len};
 ghost use Rattle.desk_model.specs.Entry.{EntryValue};
-ghost use Rattle.desk_model.specs.History.{history_of};
+ghost use Rattle.desk_model.specs.History.{History, opened, with_entry};
 ghost use Rattle.desk_text.specs.declared.reply_sort.ReplySort.TheVariants as sort;
-ghost use Rattle.desk_text.specs.Tally.{tally_text, count_line, count};
+ghost use Rattle.desk_text.specs.Tally.{Counts, tally_text, count_line, count};
 
 use crate::line_text::{LineText, put};
 use crate::reply_sort::ReplySort;
-use desk_model::{Entry, Opening, last_moment};
+use desk_base::Minute;
+use desk_model::{Entry, Opening, what_an_entry_makes_of_the_desk};
 use itoa::Buffer;
 
-/// The tally of a desk that was opened so and has these entries, in eight lines: how many commands it was given, how many
-/// were done, offered, unfilled, denied, read and refused, and its last moment.
-pub fn write_tally(opening: &Opening, entries: &[Entry]) -> LineText
-    ensures { result.items ≡ tally_text (history_of opening.now entries.now) }
-{
-    let mut text = LineText::new();
-    put_count(&mut text, b"commands", entries.len());
-    put_count(&mut text, b"done", count(entries, ReplySort::Done));
-    put_count(&mut text, b"offered", count(entries, ReplySort::Offered));
-    put_count(&mut text, b"unfilled", count(entries, ReplySort::Unfilled));
-    put_count(&mut text, b"denied", count(entries, ReplySort::Denied));
-    put_count(&mut text, b"read", count(entries, ReplySort::Told));
-    put_count(&mut text, b"refused", count(entries, ReplySort::Refused));
-    put(&mut text, b"moment ");
-    put(&mut text, &last_moment(opening, entries).write());
-    put(&mut text, b"\n");
-    text
+/// How many commands a desk was given, how many it answered in each sort of way, and its last moment.
+#[derive(Clone, Copy)]
+pub struct Tally {
+    pub(crate) commands: u64,
+    pub(crate) done: u64,
+    pub(crate) offered: u64,
+    pub(crate) unfilled: u64,
+    pub(crate) denied: u64,
+    pub(crate) told: u64,
+    pub(crate) refused: u64,
+    pub(crate) moment: Minute,
 }
 
-// How many entries have answers of the sort.
-fn count(entries: &[Entry], sort: ReplySort) -> usize
-    ensures { result ≡ count sort entries.now }
+// One more where it is so, up to the last number that there is.
+fn raised(count: u64, so: bool) -> u64
+    ensures { count + 1 < 2 ^ 64 → result ≡ count + (if so then 1 else 0) }
 {
-    let mut count = 0;
-    for entry in entries {
-        if sort.has(&entry.reply()) {
-            count += 1;
+    count.saturating_add(u64::from(so))
+}
+
+impl Tally {
+    /// That of a desk that was opened so and was given no command yet.
+    pub fn new(opening: &Opening) -> Tally
+        ensures { Counts result (opened opening.now) }
+    {
+        Tally {
+            commands: 0,
+            done: 0,
+            offered: 0,
+            unfilled: 0,
+            denied: 0,
+            told: 0,
+            refused: 0,
+            moment: opening.start(),
         }
     }
-    count
+
+    /// Counts the next entry, unless there are 2^64 - 1 before it.
+    pub fn count(&mut self, entry: &Entry)
+        ensures { (h : History) → length h.entries + 1 < 2 ^ 64 → Counts self.old h
+            → Counts self.new (with_entry h entry.now) }
+    {
+        what_an_entry_makes_of_the_desk();
+        a_tally_adds_up();
+        let reply = &entry.reply();
+        self.commands = raised(self.commands, true);
+        self.done = raised(self.done, ReplySort::Done.has(reply));
+        self.offered = raised(self.offered, ReplySort::Offered.has(reply));
+        self.unfilled = raised(self.unfilled, ReplySort::Unfilled.has(reply));
+        self.denied = raised(self.denied, ReplySort::Denied.has(reply));
+        self.told = raised(self.told, ReplySort::Told.has(reply));
+        self.refused = raised(self.refused, ReplySort::Refused.has(reply));
+        self.moment = entry.moment();
+    }
+
+    /// The tally in eight lines: how many commands, how many of them done, offered, unfilled, denied, read and refused, and the
+    /// last moment.
+    pub fn write(&self) -> LineText
+        ensures { (h : History) → Counts self.now h → result.items ≡ tally_text h }
+    {
+        let mut text = LineText::new();
+        put_count(&mut text, b"commands", self.commands);
+        put_count(&mut text, b"done", self.done);
+        put_count(&mut text, b"offered", self.offered);
+        put_count(&mut text, b"unfilled", self.unfilled);
+        put_count(&mut text, b"denied", self.denied);
+        put_count(&mut text, b"read", self.told);
+        put_count(&mut text, b"refused", self.refused);
+        put(&mut text, b"moment ");
+        put(&mut text, &self.moment.write());
+        put(&mut text, b"\n");
+        text
+    }
 }
 
 // Adds a line with a word and a number, 20 digits at most.
-fn put_count(text: &mut LineText, word: &[u8], count: usize)
+fn put_count(text: &mut LineText, word: &[u8], count: u64)
     requires { array_vec_len text.old + length word.now + 22 ≤ 512 }
     ensures text { text.new.items ≡ text.old.items ++ count_line word.now count }
     ensures len { array_vec_len text.new ≤ array_vec_len text.old + length word.now + 22 }
