@@ -1,13 +1,13 @@
 -- The history of a day file's commands.
-use Rattle.std.proofs.Common.{◌≡◌, ℕ, ◌<◌, ◌+◌, List, [], ◌∷◌, ◌++◌, length, get_or, take, map, refl, sym, ap, ◌∙◌, arith, drop, take-append-drop, length-append}
+use Rattle.std.proofs.Common.{◌≡◌, ℕ, ◌<◌, ◌+◌, ◌^◌, List, [], ◌∷◌, ◌++◌, length, get_or, take, map, refl, sym, ap, ◌∙◌, arith, drop, take-append-drop, length-append}
 use Rattle.std.specs.List.{All}
-use Rattle.std.proofs.lemmas.List.{take_more, map-append, length-map}
+use Rattle.std.proofs.lemmas.List.{take_more, map-append, length-map, length-take-le}
 use Rattle.std.proofs.lemmas.List.Elements.{All-cons, All-nil, All-head, All-tail}
 use Rattle.desk_model.specs.Opening.{OpeningValue, IsOpening}
 use Rattle.desk_model.specs.Statement.{StatedValue}
 use Rattle.desk_model.specs.Fits.{IsStated}
 use Rattle.desk_model.specs.Entry.{EntryValue}
-use Rattle.desk_model.specs.History.{History, history_of, opened, with_entry}
+use Rattle.desk_model.specs.History.{History, opened, with_entry}
 use Rattle.desk_model.specs.Legal.{next, given, history_from, history, MayState, IsLegal}
 use Rattle.crewdesk_main.specs.Replay.{by_the_day_file, day_history, IsReplay}
 
@@ -54,8 +54,13 @@ history_from-length h [] = omega arith
 history_from-length h ((caller, s) ∷ rest) =
     omega (arith, history_from-length (with_entry h (next h caller s)) rest, length-append h.entries (next h caller s ∷ []))
 
-pub day_history-length : (o : OpeningValue) (commands : List StatedValue) → length (day_history o commands).entries ≡ length commands
-day_history-length o commands = history_from-length (opened o) (map by_the_day_file commands) ∙ length-map commands by_the_day_file
+day_history-length : (o : OpeningValue) (commands : List StatedValue) → length (day_history o commands).entries ≡ length commands
+day_history-length o commands = omega (arith, history_from-length (opened o) (map by_the_day_file commands), length-map commands by_the_day_file)
+
+-- so of the first commands it has one entry for each, and one more is no more than all
+pub day_history-few : (o : OpeningValue) (commands : List StatedValue) (place : ℕ) → length commands < 2 ^ 64 → place < length commands
+    → length (day_history o (take place commands)).entries + 1 < 2 ^ 64
+day_history-few o commands place few within = omega (arith, few, within, day_history-length o (take place commands), length-take-le place commands (omega (arith, within)))
 
 -- the history of the first commands goes on with that of the rest
 pub day_history-behind : (o : OpeningValue) (commands : List StatedValue) (place : ℕ)

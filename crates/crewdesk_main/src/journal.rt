@@ -10,7 +10,7 @@ ghost use Rattle.crewdesk_main.specs.Replay.{day_history};
 use crate::lines::gather;
 use desk_io::{Sink, put_all};
 use desk_model::{DeskCore, Opening, Stated};
-use desk_text::{LineText, fill_with_entry, write_opening};
+use desk_text::{LastMinute, LineText, fill_with_entry, write_opening};
 
 /// Steps a desk that was opened so and has answered nothing yet through the commands as caller 0, and writes its journal, as
 /// many lines at once as the buffer holds. It says whether the sink took all lines, and stops at the first fault.
@@ -38,8 +38,9 @@ pub fn write_journal<C: DeskCore, K: Sink>(
         return false;
     }
     let mut line = LineText::new();
+    let mut last = LastMinute::new();
     for stated in commands {
-        fill_with_entry(&mut line, &core.step(0, *stated));
+        fill_with_entry(&mut line, &mut last, &core.step(0, *stated));
         if !gather(buffer, line.as_slice(), sink) {
             return false;
         }

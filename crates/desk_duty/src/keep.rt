@@ -58,13 +58,11 @@ impl Duty {
         ensures clocks { Tells place event.now (clocks_of self.old) (clocks_of self.new) }
         ensures window { window_of self.new ≡ window_of self.old }
     {
-        let Some(clock) = self.clocks.get(place) else {
+        if place >= self.clocks.len() {
             return;
-        };
-        if clock.may_take(event) {
-            let mut later = *clock;
-            later.apply(*event);
-            self.clocks[place] = later;
+        }
+        if self.clocks[place].may_take(event) {
+            self.clocks[place].apply(*event);
         }
     }
 

@@ -1,10 +1,12 @@
 -- Boards as the bits of a word.
-use Rattle.std.proofs.Common.{◌≡◌, ◌≢◌, ◌<◌, ◌^◌, ◌*◌, ◌%◌, ◌&&◌, ◌==◌, ℕ, zero, suc, replicate, Bool, true, false, cond, List, length, nat_eq, nat_lt, slice_index_or, slice_set, bit_or, bit_and, refl, ap, ◌∙◌, arith, w64}
+use Rattle.std.proofs.Common.{◌≡◌, ◌≢◌, ◌<◌, ◌^◌, ◌*◌, ◌%◌, ◌&&◌, ◌==◌, ℕ, zero, suc, replicate, Bool, true, false, cond, List, length, nat_eq, nat_lt, slice_index_or, slice_set, bit_or, bit_and, refl, sym, ap, ◌∙◌, arith, w64}
 use Rattle.std.specs.Prelude.{if◌then◌else◌}
 use Rattle.std.proofs.lemmas.Bool.Decides.{nat_tests}
 use Rattle.std.proofs.lemmas.List.{get_or-set_same, get_or-set_other}
-use Rattle.std.proofs.lemmas.Nat.Bits.{bit_at_set_same, bit_at_set_other, bit_at_clear_same, bit_at_clear_other, bit_at-zero}
-use Rattle.std.specs.Int.{bit_at, bit_not}
+use Rattle.std.proofs.lemmas.Nat.Bits.{bit_at_set_same, bit_at_set_other, bit_at_clear_same, bit_at_clear_other, bit_at-zero, bit_at-trailing_zeros}
+use Rattle.std.proofs.lemmas.Nat.{and_le_l}
+use Rattle.std.proofs.lemmas.Bool.{false≢true}
+use Rattle.std.specs.Int.{bit_at, bit_not, trailing_zeros}
 use Rattle.desk_model.specs.declared.limits.TheConstants.{BOARD_LIMIT}
 use Rattle.desk_lists.specs.Places.{has_board, is_in, set_at}
 
@@ -32,6 +34,21 @@ set-board word k j within = changed word (bit_or word (1 * 2 ^ k % 1844674407370
 pub clear-board : (word k j : ℕ) → k < 64 → has_board (bit_and word (bit_not w64 (1 * 2 ^ k % 18446744073709551616))) j ≡ (if nat_eq k j then false else has_board word j)
 clear-board word k j within = changed word (bit_and word (bit_not w64 (1 * 2 ^ k % 18446744073709551616))) k j false within (ap (λ x. x == 1) (bit_at_clear_same w64 word k within))
     (λ i low apart. bit_at_clear_other w64 word k within i low apart)
+
+-- without a board that it has it is less
+pub clear-lesser : (word k : ℕ) → k < 64 → has_board word k ≡ true → bit_and word (bit_not w64 (1 * 2 ^ k % 18446744073709551616)) < word
+clear-lesser word k within has =
+    let later = bit_and word (bit_not w64 (1 * 2 ^ k % 18446744073709551616)) in
+    let here : nat_eq k k ≡ true = grind (arith, nat_tests) in
+    let gone : has_board later k ≡ false = clear-board word k k within ∙ ap (λ t. if t then false else has_board word k) here in
+    omega (arith, and_le_l word (bit_not w64 (1 * 2 ^ k % 18446744073709551616)), λ (e : later ≡ word). false≢true (sym gone ∙ ap (λ w. has_board w k) e ∙ has))
+
+-- the place of the lowest 1 is that of a board
+pub first-board : (word : ℕ) → 0 < word → word < 2 ^ 64 → (trailing_zeros w64 word < 64) × (has_board word (trailing_zeros w64 word) ≡ true)
+first-board word some fits =
+    let lowest = bit_at-trailing_zeros w64 word some fits in
+    let low : nat_lt (trailing_zeros w64 word) BOARD_LIMIT ≡ true = grind (arith, nat_tests, lowest.0) in
+    (lowest.0, ap (λ t. t && (bit_at word (trailing_zeros w64 word) == 1)) low ∙ ap (λ x. x == 1) lowest.1)
 
 -- words of which one was written
 pub set-word : (words : List ℕ) (person board later i j : ℕ) (to : Bool) → person < length words

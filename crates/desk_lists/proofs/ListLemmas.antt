@@ -1,5 +1,5 @@
 -- Boards that are changed one after another.
-use Rattle.std.proofs.Common.{◌≡◌, ◌≢◌, ◌<◌, ◌+◌, ℕ, zero, suc, Bool, true, false, ◌||◌, nat_eq, nat_lt, List, [], ◌∷◌, ◌++◌, length, slice_set, Some, is_some, refl, sym, ap, ◌∙◌, subst, arith}
+use Rattle.std.proofs.Common.{◌≡◌, ◌≢◌, ◌<◌, ℕ, zero, suc, Bool, true, false, not, ◌||◌, ◌≤◌, if◌then◌else◌, nat_eq, List, [], ◌∷◌, ◌++◌, length, slice_set, Some, is_some, refl, sym, ap, ◌∙◌, subst, arith}
 use Rattle.std.proofs.lemmas.Bool.{false≢true}
 use Rattle.std.proofs.lemmas.Bool.Decides.{nat_tests}
 use Rattle.std.proofs.lemmas.List.{get_or-set_same, get_or-set_other, length-set}
@@ -10,7 +10,9 @@ use Rattle.vacancy_fill.specs.Chain.{members_at}
 use Rattle.desk_model.specs.declared.command.Cmd.{Cmd}
 use Rattle.desk_model.specs.declared.command.Cmd.TheVariants as cmd
 use Rattle.desk_model.specs.Offers.{is_of}
+use Rattle.desk_model.specs.declared.limits.TheConstants.{BOARD_LIMIT}
 use Rattle.desk_lists.specs.Places.{has_board}
+use Rattle.desk_lists.proofs.BitLemmas.{no-board}
 use Rattle.desk_lists.specs.Changes.{IsThen, EachBecomes, BecomesBy}
 use Rattle.desk_lists.specs.declared.named.Named.{Named}
 
@@ -22,63 +24,47 @@ get-set_other xs i j x y apart at =
     slice_get-get_or (slice_set xs i x) j y (subst (λ n. j < n) (sym (length-set xs i x)) (slice_get_within xs j y at))
     ∙ ap Some (get_or-set_other xs i j x y apart ∙ get_or_from_slice_get xs j y y at)
 
--- those before this place are changed, and the others are as they were
-abbrev pub Upto : (ℕ → BoardValue → BoardValue → Type 0) → ℕ → List BoardValue → List BoardValue → Type 0
-Upto Becomes i old now = EachBecomes (λ k. IsThen (nat_lt k i) (Becomes k)) old now
+-- those that the word has are as they were, and the others are changed
+abbrev pub Except : ℕ → (ℕ → BoardValue → BoardValue → Type 0) → List BoardValue → List BoardValue → Type 0
+Except left Becomes old now = EachBecomes (λ k. IsThen (not (has_board left k)) (Becomes k)) old now
 
-pub upto-none : (Becomes : ℕ → BoardValue → BoardValue → Type 0) (old : List BoardValue) → Upto Becomes 0 old old
-upto-none Becomes old k b at = let none : nat_lt k 0 ≡ false = grind (arith, nat_tests) in (b, (at, rw none refl))
+pub except-none : (Becomes : ℕ → BoardValue → BoardValue → Type 0) (old now : List BoardValue) → Except 0 Becomes old now → EachBecomes Becomes old now
+except-none Becomes old now all k b at =
+    let was = all k b at in
+    (was.0, (was.1.0, subst (λ t. IsThen (not t) (Becomes k) b was.0) (no-board k) was.1.1))
 
-pub upto-all : (Becomes : ℕ → BoardValue → BoardValue → Type 0) (n : ℕ) (old now : List BoardValue) → n ≡ length old → Upto Becomes n old now → EachBecomes Becomes old now
-upto-all Becomes n old now all each k b at =
-    let low : nat_lt k n ≡ true = grind (arith, nat_tests, slice_get_within old k b at, all) in
-    let was = each k b at in
-    (was.0, (was.1.0, subst (λ t. IsThen t (Becomes k) b was.0) low was.1.1))
-
-pub upto-more : (Becomes : ℕ → BoardValue → BoardValue → Type 0) (i : ℕ) (old now : List BoardValue) (y z : BoardValue) → Upto Becomes i old now
-    → slice_get now i ≡ Some y → Becomes i y z → Upto Becomes (i + 1) old (slice_set now i z)
-upto-more Becomes i old now y z each here becomes k b at = go (nat_eq k i) refl (each k b at)
+-- the next of them is changed
+pub except-less : (Becomes : ℕ → BoardValue → BoardValue → Type 0) (i left later : ℕ) (old now : List BoardValue) (y z : BoardValue) → Except left Becomes old now
+    → has_board left i ≡ true → ((j : ℕ) → has_board later j ≡ (if nat_eq i j then false else has_board left j))
+    → slice_get now i ≡ Some y → Becomes i y z → Except later Becomes old (slice_set now i z)
+except-less Becomes i left later old now y z all has less here becomes k b at = go (nat_eq i k) refl (all k b at)
   where
-    go : (this : Bool) → nat_eq k i ≡ this → (x : BoardValue) × ((slice_get now k ≡ Some x) × IsThen (nat_lt k i) (Becomes k) b x)
-        → (x : BoardValue) × ((slice_get (slice_set now i z) k ≡ Some x) × IsThen (nat_lt k (i + 1)) (Becomes k) b x)
+    go : (this : Bool) → nat_eq i k ≡ this → (x : BoardValue) × ((slice_get now k ≡ Some x) × IsThen (not (has_board left k)) (Becomes k) b x)
+        → (x : BoardValue) × ((slice_get (slice_set now i z) k ≡ Some x) × IsThen (not (has_board later k)) (Becomes k) b x)
     go true this was =
         let is : i ≡ k = grind (arith, nat_tests, this) in
-        let before : nat_lt k i ≡ false = grind (arith, nat_tests, this) in
-        let after : nat_lt k (i + 1) ≡ true = grind (arith, nat_tests, this) in
-        let stays : was.0 ≡ b = subst (λ t. IsThen t (Becomes k) b was.0) before was.1.1 in
-        let whose : y ≡ b = same_Some y was.0 (sym here ∙ ap (slice_get now) is ∙ was.1.0) ∙ stays in (
+        let stays : was.0 ≡ b = subst (λ t. IsThen (not t) (Becomes k) b was.0) (ap (has_board left) (sym is) ∙ has) was.1.1 in
+        let whose : y ≡ b = same_Some y was.0 (sym here ∙ ap (slice_get now) is ∙ was.1.0) ∙ stays in
+        let gone : has_board later k ≡ false = less k ∙ ap (λ t. if t then false else has_board left k) this in (
           z,
           (
             subst (λ n. slice_get (slice_set now i z) n ≡ Some z) is (get-set_same now i z (slice_get_within now i y here)),
-            subst (λ t. IsThen t (Becomes k) b z) (sym after) (subst (λ n. Becomes n b z) is (subst (λ v. Becomes i v z) whose becomes)),
+            subst (λ t. IsThen (not t) (Becomes k) b z) (sym gone) (subst (λ n. Becomes n b z) is (subst (λ v. Becomes i v z) whose becomes)),
           ),
         )
     go false this was =
         let apart : k ≢ i = grind (arith, nat_tests, this) in
-        let same : nat_lt k (i + 1) ≡ nat_lt k i = grind (arith, nat_tests, this) in
-        (was.0, (get-set_other now i k z was.0 apart was.1.0, subst (λ t. IsThen t (Becomes k) b was.0) (sym same) was.1.1))
+        let same : has_board later k ≡ has_board left k = less k ∙ ap (λ t. if t then false else has_board left k) this in
+        (was.0, (get-set_other now i k z was.0 apart was.1.0, subst (λ t. IsThen (not t) (Becomes k) b was.0) (sym same) was.1.1))
 
--- one that becomes itself need not be touched
-pub upto-stays : (Becomes : ℕ → BoardValue → BoardValue → Type 0) (i : ℕ) (old now : List BoardValue) → Upto Becomes i old now
-    → ((b : BoardValue) → Becomes i b b) → Upto Becomes (i + 1) old now
-upto-stays Becomes i old now each stays k b at = go (nat_eq k i) refl (each k b at)
-  where
-    go : (this : Bool) → nat_eq k i ≡ this → (x : BoardValue) × ((slice_get now k ≡ Some x) × IsThen (nat_lt k i) (Becomes k) b x)
-        → (x : BoardValue) × ((slice_get now k ≡ Some x) × IsThen (nat_lt k (i + 1)) (Becomes k) b x)
-    go true this was =
-        let is : i ≡ k = grind (arith, nat_tests, this) in
-        let before : nat_lt k i ≡ false = grind (arith, nat_tests, this) in
-        let after : nat_lt k (i + 1) ≡ true = grind (arith, nat_tests, this) in
-        let same : was.0 ≡ b = subst (λ t. IsThen t (Becomes k) b was.0) before was.1.1 in (
-          was.0,
-          (
-            was.1.0,
-            subst (λ t. IsThen t (Becomes k) b was.0) (sym after) (subst (λ x. Becomes k b x) (sym same) (subst (λ n. Becomes n b b) is (stays b))),
-          ),
-        )
-    go false this was =
-        let same : nat_lt k (i + 1) ≡ nat_lt k i = grind (arith, nat_tests, this) in
-        (was.0, (was.1.0, subst (λ t. IsThen t (Becomes k) b was.0) (sym same) was.1.1))
+-- where there is no such board none changes
+pub except-past : (Becomes : ℕ → BoardValue → BoardValue → Type 0) (i left later : ℕ) (old now : List BoardValue) → Except left Becomes old now
+    → ((j : ℕ) → has_board later j ≡ (if nat_eq i j then false else has_board left j)) → length old ≤ i → Except later Becomes old now
+except-past Becomes i left later old now all less past k b at =
+    let was = all k b at in
+    let other : nat_eq i k ≡ false = grind (arith, nat_tests, past, slice_get_within old k b at) in
+    let same : has_board later k ≡ has_board left k = less k ∙ ap (λ t. if t then false else has_board left k) other in
+    (was.0, (was.1.0, subst (λ t. IsThen (not t) (Becomes k) b was.0) (sym same) was.1.1))
 
 -- ---- boards that a command doesn't touch
 
@@ -100,6 +86,17 @@ becomes-untouched c n word j b not = by_both c (or-none (is_of j n.board) (has_b
     by_both (cmd.Past p event) both = no-then _ _ b both.1
     by_both (cmd.Happened p event) both = no-then _ _ b both.1
     by_both other both = refl
+
+-- so before any is changed, all are as they were that a command touches, and the others are what it makes of them
+pub except-touched : (c : Cmd) (n : Named) (word touched : ℕ) (old : List BoardValue) → length old ≤ BOARD_LIMIT
+    → ((j : ℕ) → j < BOARD_LIMIT → has_board touched j ≡ (is_of j n.board || has_board word j)) → Except touched (BecomesBy c n word) old old
+except-touched c n word touched old few are k b at = (b, (at, go (has_board touched k) refl))
+  where
+    within : k < BOARD_LIMIT
+    within = omega (arith, few, slice_get_within old k b at)
+    go : (t : Bool) → has_board touched k ≡ t → IsThen (not t) (BecomesBy c n word k) b b
+    go true has = refl
+    go false none = becomes-untouched c n word k b (sym (are k within) ∙ none)
 
 -- one more board without members
 pub empty-more : (boards : List BoardValue) (x : BoardValue) (j : ℕ) → ((i : ℕ) → members_at boards i ≡ []) → x.members ≡ [] → members_at (boards ++ x ∷ []) j ≡ []

@@ -1,11 +1,13 @@
 //! What a command makes of one board.
-ghost use Rattle.std.specs.Prelude.{◌≡◌, ◌||◌, ℕ, false};
+ghost use Rattle.std.specs.Prelude.{◌≡◌, ◌<◌, ◌||◌, ℕ, false};
 ghost use Rattle.pool_board.specs.Board.{BoardValue};
+ghost use Rattle.desk_model.specs.declared.limits.TheConstants.{BOARD_LIMIT};
 ghost use Rattle.desk_model.specs.Offers.{is_of};
 ghost use Rattle.desk_lists.specs.Places.{has_board};
 ghost use Rattle.desk_lists.specs.Changes.{is_final_at, IsThen, SetsUp, TakesOn, LetsGo, Moves, BecomesBy};
 ghost use Rattle.desk_lists.specs.declared.named.Named.{Named as NamedValue};
 
+use crate::listings::with_board;
 use crate::named::Named;
 use desk_base::{Code, Minute, PersonNo};
 use desk_model::{BOARD_LIMIT, Cmd};
@@ -95,11 +97,14 @@ pub(crate) fn changes_boards(cmd: &Cmd) -> bool
     )
 }
 
-/// Whether the board at this place is named, or is among the boards of the word: no command changes others.
-pub(crate) fn is_touched(place: usize, named: &Named, word: u64) -> bool
-    ensures { result ≡ (is_of place named.now.board || has_board word place) }
+/// The board that is named, and those of the word: no command changes others.
+pub(crate) fn touched(named: &Named, word: u64) -> u64
+    ensures { (j : ℕ) → j < BOARD_LIMIT → has_board result j ≡ (is_of j named.now.board || has_board word j) }
 {
-    is_here(place, named.board) || has_board(word, place)
+    match named.board {
+        Some(board) if board < BOARD_LIMIT => with_board(word, board, true),
+        _ => word,
+    }
 }
 
 /// Makes of the board at this place what a command makes of it that was done; `word` has the boards of the person whom it

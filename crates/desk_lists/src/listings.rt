@@ -1,4 +1,4 @@
-ghost use Rattle.std.specs.Prelude.{◌≡◌, ℕ, ◌<◌, nat_eq, IfOk, false, length, if◌then◌else◌};
+ghost use Rattle.std.specs.Prelude.{◌≡◌, ℕ, ◌<◌, nat_eq, IfOk, true, false, length, if◌then◌else◌};
 ghost use Rattle.desk_model.specs.declared.limits.TheConstants.{PERSON_LIMIT, BOARD_LIMIT};
 ghost use Rattle.desk_lists.specs.Places.{has_board, word_of, is_in, set_at};
 ghost use Rattle.desk_lists.specs.Changes.{put_by, HasRoom};
@@ -14,10 +14,20 @@ pub struct Listings {
     pub(crate) words: Vec<u64>,
 }
 
-// The word with the board at this place, or without it.
-fn with_board(word: u64, board: usize, on: bool) -> u64
+/// The first place at which a word has a board, of a word that has one.
+pub(crate) fn first_board(word: u64) -> usize
+    requires { 0 < word }
+    ensures range { result < BOARD_LIMIT }
+    ensures has { has_board word result ≡ true }
+{
+    word.trailing_zeros() as usize
+}
+
+/// The word with the board at this place, or without it.
+pub(crate) fn with_board(word: u64, board: usize, on: bool) -> u64
     requires { board < BOARD_LIMIT }
-    ensures { (j : ℕ) → has_board result j ≡ (if nat_eq board j then on else has_board word j) }
+    ensures lesser { on ≡ false → has_board word board ≡ true → result < word }
+    ensures has { (j : ℕ) → has_board result j ≡ (if nat_eq board j then on else has_board word j) }
 {
     let bit = 1 << board;
     if on { word | bit } else { word & !bit }

@@ -1,9 +1,10 @@
-ghost use Rattle.std.specs.Prelude.{◌≡◌, ℕ, [], IfOk, length};
+ghost use Rattle.std.specs.Prelude.{◌≡◌, ◌≤◌, ℕ, [], IfOk, length};
 ghost use Rattle.desk_model.specs.declared.limits.TheConstants.{BOARD_LIMIT};
 ghost use Rattle.vacancy_fill.specs.Chain.{members_at};
 ghost use Rattle.desk_lists.specs.Changes.{BecomesBy, EachBecomes};
 
-use crate::board_changes::{change_board, changes_boards, is_touched};
+use crate::board_changes::{change_board, changes_boards, touched};
+use crate::listings::{first_board, with_board};
 use crate::named::Named;
 use desk_base::{Code, NoMemory};
 use desk_model::{BOARD_LIMIT, Cmd};
@@ -31,18 +32,21 @@ impl Orders {
         Ok(Orders { boards })
     }
 
-    /// Makes of each board what a command makes of it that was done; `word` has the boards of the person whom it names.
+    /// Makes of each of 64 boards what a command makes of it that was done; `word` has the boards of the person whom it names.
     pub(crate) fn change(&mut self, cmd: &Cmd, named: &Named, word: u64)
         ensures many { length self.new.boards.items ≡ length self.old.boards.items }
-        ensures each { EachBecomes (BecomesBy cmd.now named.now word) self.old.boards.items self.new.boards.items }
+        ensures each { length self.old.boards.items ≤ BOARD_LIMIT → EachBecomes (BecomesBy cmd.now named.now word) self.old.boards.items self.new.boards.items }
     {
         if !changes_boards(cmd) {
             return;
         }
-        for place in 0..self.boards.len() {
-            if is_touched(place, named, word) {
+        let mut left = touched(named, word);
+        while left != 0 {
+            let place = first_board(left);
+            if place < self.boards.len() {
                 change_board(&mut self.boards[place], place, cmd, named, word);
             }
+            left = with_board(left, place, false);
         }
     }
 }

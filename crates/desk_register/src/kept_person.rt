@@ -64,28 +64,26 @@ impl KeptPerson {
     }
 
     // What an accepted command makes of what is kept of the person whom it changes.
-    pub(crate) fn changed(&self, cmd: &Cmd) -> KeptPerson
-        ensures { result ≡ changed cmd.now self.now }
+    pub(crate) fn change(&mut self, cmd: &Cmd)
+        ensures { self.new ≡ changed cmd.now self.old }
     {
-        let mut kept = *self;
         match cmd {
-            Cmd::List { .. } => kept.closed = true,
-            Cmd::MarkOff { .. } | Cmd::NoAnswer { .. } => kept.marked_off = true,
-            Cmd::MarkOn { .. } => kept.marked_off = false,
-            Cmd::Qualify { quals, .. } => kept.quals = *quals,
+            Cmd::List { .. } => self.closed = true,
+            Cmd::MarkOff { .. } | Cmd::NoAnswer { .. } => self.marked_off = true,
+            Cmd::MarkOn { .. } => self.marked_off = false,
+            Cmd::Qualify { quals, .. } => self.quals = *quals,
             Cmd::Happened { event, .. } => {
-                kept.closed = true;
+                self.closed = true;
                 if reports(event) {
-                    kept.assigned = None;
+                    self.assigned = None;
                 }
             }
-            Cmd::Accept { vac, .. } => kept.assigned = Some(*vac),
+            Cmd::Accept { vac, .. } => self.assigned = Some(*vac),
             Cmd::Drop { .. } => {
-                kept.marked_off = true;
-                kept.assigned = None;
+                self.marked_off = true;
+                self.assigned = None;
             }
             _ => {}
         }
-        kept
     }
 }

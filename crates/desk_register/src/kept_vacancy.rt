@@ -72,31 +72,15 @@ pub(crate) fn giver(cmd: &Cmd) -> Option<PersonNo>
     }
 }
 
-// The places, with this one too.
-fn with(places: &PlaceSet, place: Option<usize>) -> PlaceSet
-    requires { IfSome place (λ i. i < 1_024) }
-    ensures { (i : ℕ) → has_place result.words i ≡ (has_place places.now.words i || is_of i place) }
-{
-    let mut places = *places;
-    match place {
-        Some(place) => {
-            places.insert(place);
-            places
-        }
-        None => places,
-    }
-}
-
 impl KeptVacancy {
     // What a command makes of the vacancy whose state it changes; `place` is that of who turns it down by the command.
-    pub(crate) fn changed(&self, cmd: &Cmd, place: Option<usize>) -> KeptVacancy
+    pub(crate) fn change(&mut self, cmd: &Cmd, place: Option<usize>)
         requires { IfSome place (λ i. i < 1_024) }
-        ensures { IsChanged cmd.now place self.now result }
+        ensures { IsChanged cmd.now place self.old self.new }
     {
-        KeptVacancy {
-            job: self.job,
-            state: state_then(cmd, self.state),
-            turned_down: with(&self.turned_down, place),
+        self.state = state_then(cmd, self.state);
+        if let Some(place) = place {
+            self.turned_down.insert(place);
         }
     }
 }

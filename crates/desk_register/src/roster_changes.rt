@@ -45,11 +45,9 @@ impl Roster {
         let Some(person) = subject(cmd) else {
             return;
         };
-        let Some(kept) = self.get(person) else {
-            return;
-        };
-        let later = kept.changed(cmd);
-        self.set(person, later);
+        if let Some(kept) = self.kept.get_mut(&person) {
+            kept.change(cmd);
+        }
     }
 
     // Takes from this person what is assigned to them.
@@ -60,14 +58,9 @@ impl Roster {
         let Some(person) = person else {
             return;
         };
-        let Some(kept) = self.get(person) else {
-            return;
-        };
-        let later = KeptPerson {
-            assigned: None,
-            ..*kept
-        };
-        self.set(person, later);
+        if let Some(kept) = self.kept.get_mut(&person) {
+            kept.assigned = None;
+        }
     }
 
     /// Keeps what a command changes that was done; `lost` is to whom the vacancy was assigned that it annuls.

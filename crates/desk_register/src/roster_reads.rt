@@ -53,13 +53,4 @@ impl Roster {
     {
         add_last(&mut self.kept, person, kept);
     }
-
-    pub(crate) fn set(&mut self, person: PersonNo, kept: KeptPerson)
-        ensures get { (q : ℕ) → person_under self.new q ≡ (if nat_eq person q then (if is_some (person_under self.old person) then Some kept else None) else person_under self.old q) }
-        ensures keys { person_numbers self.new ≡ person_numbers self.old }
-    {
-        if let Some(now) = self.kept.get_mut(&person) {
-            *now = kept;
-        }
-    }
 }

@@ -54,11 +54,9 @@ impl Vacancies {
         let Some(vac) = target(cmd, had) else {
             return;
         };
-        let Some(kept) = self.get(vac) else {
-            return;
-        };
-        let later = kept.changed(cmd, place);
-        self.set(vac, later);
+        if let Some(kept) = self.kept.get_mut(&vac) {
+            kept.change(cmd, place);
+        }
     }
 
     /// Keeps what a command changes that was done. `had` is what is assigned to the person whom it names that may take it
@@ -81,13 +79,8 @@ impl Vacancies {
             ≡ (if nat_eq vac v then option_map (on_offer_to person) (get nat_eq self.old.kept v) else get nat_eq self.old.kept v) }
         ensures keys { keys self.new.kept ≡ keys self.old.kept }
     {
-        let Some(kept) = self.get(vac) else {
-            return;
-        };
-        let later = KeptVacancy {
-            state: VacState::OnOffer(person),
-            ..*kept
-        };
-        self.set(vac, later);
+        if let Some(kept) = self.kept.get_mut(&vac) {
+            kept.state = VacState::OnOffer(person);
+        }
     }
 }

@@ -43,14 +43,4 @@ impl Vacancies {
     {
         add_last(&mut self.kept, vac, kept);
     }
-
-    pub(crate) fn set(&mut self, vac: VacNo, kept: KeptVacancy)
-        ensures under { (v : ℕ) → vacancy_under self.new v
-            ≡ (if nat_eq vac v then (if is_some (vacancy_under self.old vac) then Some kept else None) else vacancy_under self.old v) }
-        ensures keys { vacancy_numbers self.new ≡ vacancy_numbers self.old }
-    {
-        if let Some(now) = self.kept.get_mut(&vac) {
-            *now = kept;
-        }
-    }
 }

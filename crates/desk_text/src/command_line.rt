@@ -4,6 +4,7 @@ ghost use Rattle.desk_model.specs.Statement.{StatedValue};
 ghost use Rattle.desk_text.specs.CommandLine.{IsCommandLine, HasFail};
 ghost use Rattle.desk_text.specs.declared.read_fail.ReadFail.{ReadFail as Fail};
 
+use crate::last_minute::LastMinute;
 use crate::read_fail::ReadFail;
 use crate::record_row::read_row;
 use csv::ByteRecord;
@@ -36,7 +37,7 @@ fn read_only_record(alloc: Global, line: &[u8]) -> Result<Stated, ReadFail>
     if !rows.next(&mut row)? {
         return Err(ReadFail::Malformed(0));
     }
-    let read = read_row(&row);
+    let read = read_row(&mut LastMinute::new(), &row);
     if rows.next(&mut row)? {
         return Err(ReadFail::Malformed(0));
     }

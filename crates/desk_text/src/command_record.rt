@@ -6,6 +6,7 @@ ghost use Rattle.desk_text.specs.Spelled.{SpellsCommand, StatesCommand};
 ghost use Rattle.desk_text.specs.RecordForms.{IsWrongAt};
 
 use crate::first_wrong::wrong_field;
+use crate::last_minute::LastMinute;
 use crate::spelled_command::{
     read_annul, read_at, read_board, read_next, read_vac_state, read_vacancy,
 };
@@ -17,7 +18,6 @@ use crate::spelled_person::{
     read_qualify, read_unlist,
 };
 use crate::word::Word;
-use desk_base::Minute;
 use desk_model::{Cmd, Stated};
 
 /// The command that a record's fields state, and the minute at which it was stated. Where they state none it is the place,
@@ -38,19 +38,19 @@ use desk_model::{Cmd, Stated};
 /// | `offer`, `accept`, `decline`, `noanswer`, `withdraw`, `explain` | vacancy, person |
 /// | `hours` | person, month |
 /// | `at` | board, place |
-pub fn read_record(fields: &[&[u8]]) -> Result<Stated, u8>
+pub fn read_record(last: &mut LastMinute, fields: &[&[u8]]) -> Result<Stated, u8>
     ensures some { IfOk result (StatesCommand (map (λ field. field.now) fields.now)) }
     ensures only { (s : StatedValue) → StatesCommand (map (λ field. field.now) fields.now) s
         → result ≡ Ok s }
     ensures wrong { IfErr result (IsWrongAt (map (λ field. field.now) fields.now)) }
 {
-    match read_stated(fields) {
+    match read_stated(last, fields) {
         Some(stated) => Ok(stated),
         None => Err(wrong_field(fields)),
     }
 }
 
-fn read_stated(fields: &[&[u8]]) -> Option<Stated>
+fn read_stated(last: &mut LastMinute, fields: &[&[u8]]) -> Option<Stated>
     ensures some { IfSome result (StatesCommand (map (λ field. field.now) fields.now)) }
     ensures only { (s : StatedValue) → StatesCommand (map (λ field. field.now) fields.now) s
         → result ≡ Some s }
@@ -58,7 +58,7 @@ fn read_stated(fields: &[&[u8]]) -> Option<Stated>
     let [minute, command @ ..] = fields else {
         return None;
     };
-    let minute = Minute::read(minute)?;
+    let minute = last.read(minute)?;
     match read_cmd(command) {
         Some(cmd) => Stated::new(minute, cmd),
         None => None,

@@ -1,5 +1,5 @@
 //! Records of commands are read as they are written.
-use crate::{read_record, write_entry};
+use crate::{LastMinute, read_record, write_entry};
 use arrayvec::ArrayVec;
 use desk_base::{Minute, split_once};
 use desk_model::{Entry, Reply, Stated};
@@ -16,7 +16,7 @@ pub fn read_fields(record: &[u8]) -> Result<Stated, u8> {
     for field in record.split(|b| *b == b',') {
         fields.try_push(field).map_err(|_| u8::MAX)?;
     }
-    read_record(fields.as_slice())
+    read_record(&mut LastMinute::new(), fields.as_slice())
 }
 
 fn a_minute() -> Result<Minute, Fail> {

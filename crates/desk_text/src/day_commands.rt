@@ -4,6 +4,7 @@ ghost use Rattle.csv.specs.Records.{fields_of};
 ghost use Rattle.record_rows.specs.Rows.{HasLeft};
 ghost use Rattle.desk_text.specs.DayCommands.{StatesOrWrong};
 
+use crate::last_minute::LastMinute;
 use crate::limits::RECORD_LIMIT;
 use crate::record_row::read_row;
 use crate::wrong_place::WrongPlace;
@@ -24,14 +25,14 @@ pub struct DayCommands {
 
 impl DayCommands {
     // Takes the record of this number, the next. What is behind a wrong one is passed over.
-    fn take(&mut self, record_no: u32, row: &ByteRecord) -> Result<(), NoMemory>
+    fn take(&mut self, record_no: u32, last: &mut LastMinute, row: &ByteRecord) -> Result<(), NoMemory>
         ensures { IfOk result (λ _. (records : List (List (List ℕ)))
             → record_no ≡ length records + 2
             → StatesOrWrong self.old.wrong self.old.commands.items records
             → StatesOrWrong self.new.wrong self.new.commands.items (records ++ fields_of row.now ∷ [])) }
     {
         if self.wrong.is_none() {
-            match read_row(row) {
+            match read_row(last, row) {
                 Ok(stated) => self.commands.push(stated)?,
                 Err(field) => self.wrong = Some(WrongPlace { record_no, field }),
             }
@@ -56,11 +57,12 @@ pub fn read_commands(
         commands: Vec::with_capacity(alloc, room)?,
         wrong: None,
     };
+    let mut last = LastMinute::new();
     for record_no in 2..=RECORD_LIMIT as u32 {
         if !rows.next(row)? {
             return Ok(Some(told));
         }
-        told.take(record_no, row)?;
+        told.take(record_no, &mut last, row)?;
     }
     if rows.next(row)? {
         Ok(None)

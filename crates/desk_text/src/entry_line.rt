@@ -2,6 +2,7 @@
 ghost use Rattle.std.specs.Prelude.{◌≡◌};
 ghost use Rattle.desk_model.specs.Journal.{entry_line};
 
+use crate::last_minute::LastMinute;
 use crate::line_text::{LineText, put, put_number};
 use crate::reply_line::put_reply;
 use crate::stated_line::put_stated;
@@ -12,20 +13,20 @@ pub fn write_entry(entry: &Entry) -> LineText
     ensures { result.items ≡ entry_line entry.now }
 {
     let mut line = LineText::new();
-    fill_with_entry(&mut line, entry);
+    fill_with_entry(&mut line, &mut LastMinute::new(), entry);
     line
 }
 
 /// Makes a line that of the entry. What stood in it is gone.
-pub fn fill_with_entry(line: &mut LineText, entry: &Entry)
+pub fn fill_with_entry(line: &mut LineText, last: &mut LastMinute, entry: &Entry)
     ensures { line.new.items ≡ entry_line entry.now }
 {
     line.clear();
     put_number(line, u32::from(entry.caller()));
     put(line, b"|");
-    put_stated(line, entry.stated());
+    put_stated(line, last, entry.stated());
     put(line, b"|");
-    put(line, &entry.moment().write());
+    put(line, &last.write(entry.moment()));
     put(line, b"|");
     put_reply(line, &entry.reply());
     put(line, b"\n");

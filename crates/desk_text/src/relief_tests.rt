@@ -1,6 +1,6 @@
 //! The record of a relief vacancy.
 use crate::command_tests::read_text;
-use crate::read_record;
+use crate::{LastMinute, read_record};
 use arrayvec::ArrayVec;
 use desk_base::{Code, Minute, VacNo};
 use desk_model::{Chain, Cmd, Job};
@@ -46,7 +46,7 @@ fn wrong_behind_the_word(about: &[u8]) -> Result<Option<u8>, Fail> {
     for field in about.split(|b| *b == b',') {
         fields.try_push(field).map_err(|_| "no room")?;
     }
-    Ok(read_record(fields.as_slice()).err())
+    Ok(read_record(&mut LastMinute::new(), fields.as_slice()).err())
 }
 
 #[test]

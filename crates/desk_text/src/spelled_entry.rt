@@ -6,6 +6,7 @@ ghost use Rattle.desk_model.specs.Statement.{StatedValue};
 ghost use Rattle.desk_text.specs.SpelledEntry.{IsEntryLine, SpellsStated, SpellsEntry};
 
 use crate::command_record::read_record;
+use crate::last_minute::LastMinute;
 use crate::cut::{before, cut};
 use crate::line_fields::fields_of_line;
 use crate::spelled_reply::read_reply;
@@ -56,5 +57,5 @@ fn read_stated(text: &[u8]) -> Option<Stated>
     ensures some { IfSome result (SpellsStated text.now) }
     ensures only { (s : StatedValue) → SpellsStated text.now s → result ≡ Some s }
 {
-    read_record(fields_of_line(text).as_slice()).ok()
+    read_record(&mut LastMinute::new(), fields_of_line(text).as_slice()).ok()
 }

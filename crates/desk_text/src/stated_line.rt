@@ -5,23 +5,24 @@ ghost use Rattle.arrayvec.specs.ArrayVec.{array_vec_len};
 ghost use Rattle.desk_model.specs.StatedTexts.{command_fields, stated_fields, kind_text, event_fields, job_word, job_fields};
 ghost use Rattle.desk_text.specs.Marked.{marked};
 
+use crate::last_minute::LastMinute;
 use crate::line_text::{LineText, put, put_field, put_number_field};
 use desk_base::{PersonNo, VacNo};
 use desk_model::{Cmd, Job, Stated};
 use duty_events::{Event, Kind};
 
 /// Adds the fields of what is stated, joined by commas, 360 bytes at most.
-pub fn put_stated(line: &mut LineText, stated: &Stated)
+pub fn put_stated(line: &mut LineText, last: &mut LastMinute, stated: &Stated)
     requires { array_vec_len line.old + 360 ≤ 512 }
     ensures text { line.new.items ≡ line.old.items ++ join_with_byte 44 (stated_fields stated.now) }
     ensures len { array_vec_len line.new ≤ array_vec_len line.old + 360 }
 {
-    put(line, &stated.minute().write());
-    put_command(line, stated.cmd());
+    put(line, &last.write(stated.minute()));
+    put_command(line, last, stated.cmd());
 }
 
 // Adds each field of the command behind a comma.
-fn put_command(line: &mut LineText, cmd: &Cmd)
+fn put_command(line: &mut LineText, last: &mut LastMinute, cmd: &Cmd)
     requires { array_vec_len line.old + 340 ≤ 512 }
     ensures text { line.new.items ≡ line.old.items ++ marked (command_fields cmd.now) }
     ensures len { array_vec_len line.new ≤ array_vec_len line.old + 340 }
@@ -64,11 +65,11 @@ fn put_command(line: &mut LineText, cmd: &Cmd)
         }
         Cmd::Past { person, event } => {
             put_about_person(line, b"past", *person);
-            put_event(line, event);
+            put_event(line, last, event);
         }
         Cmd::Happened { person, event } => {
             put_about_person(line, b"event", *person);
-            put_event(line, event);
+            put_event(line, last, event);
         }
         Cmd::Vacancy(job) => {
             put_field(line, job_word(job.is_relief()));
@@ -128,7 +129,7 @@ fn put_about_offer(line: &mut LineText, word: &[u8], vac: VacNo, person: PersonN
 }
 
 // Adds each field of the event behind a comma.
-fn put_event(line: &mut LineText, event: &Event)
+fn put_event(line: &mut LineText, last: &mut LastMinute, event: &Event)
     requires { array_vec_len line.old + 60 ≤ 512 }
     ensures text { line.new.items ≡ line.old.items ++ marked (event_fields event.now) }
     ensures len { array_vec_len line.new ≤ array_vec_len line.old + 60 }
@@ -136,33 +137,33 @@ fn put_event(line: &mut LineText, event: &Event)
     match event {
         Event::Ride(at) => {
             put_field(line, b"ride");
-            put_field(line, &at.write());
+            put_field(line, &last.write(*at));
         }
         Event::Duty(at) => {
             put_field(line, b"duty");
-            put_field(line, &at.write());
+            put_field(line, &last.write(*at));
         }
         Event::Interim(at, kind, place) => {
             put_field(line, b"interim");
-            put_field(line, &at.write());
+            put_field(line, &last.write(*at));
             put_field(line, kind_text(kind));
             put_field(line, place.text());
         }
         Event::Resume(at) => {
             put_field(line, b"resume");
-            put_field(line, &at.write());
+            put_field(line, &last.write(*at));
         }
         Event::Relieve(at) => {
             put_field(line, b"relieve");
-            put_field(line, &at.write());
+            put_field(line, &last.write(*at));
         }
         Event::RideHome(at) => {
             put_field(line, b"ridehome");
-            put_field(line, &at.write());
+            put_field(line, &last.write(*at));
         }
         Event::Final(at, place) => {
             put_field(line, b"final");
-            put_field(line, &at.write());
+            put_field(line, &last.write(*at));
             put_field(line, place.text());
         }
         Event::Other(span, place) => {

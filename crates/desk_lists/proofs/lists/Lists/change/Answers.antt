@@ -12,6 +12,6 @@ returns c h e legal next is names keeps =
     let few : length (persons h) ≤ length words = omega (arith, keeps.lists.few_persons, keeps.words) in
     record {
       lists = done-keep h e told n words c.change-2.new.self.words.items c.of-word.result c.args.self.now.orders.boards.items c.change.new.self.boards.items laws is names keeps.lists
-          c.of-word.ensures c.change.ensures.many c.change.ensures.each (c.change-2.ensures.each (room h e told n (length words) laws is names few keeps.lists.few_boards));
+          c.of-word.ensures c.change.ensures.many (c.change.ensures.each (omega (arith, keeps.lists.many))) (c.change-2.ensures.each (room h e told n (length words) laws is names few keeps.lists.few_boards));
       words = c.change-2.ensures.many ∙ keeps.words;
     }

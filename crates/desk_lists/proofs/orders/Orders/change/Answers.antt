@@ -1,30 +1,31 @@
-use Rattle.std.proofs.Common.{◌<◌, length, refl, arith, ◌∙◌, sym, subst}
+use Rattle.std.proofs.Common.{◌<◌, ◌≤◌, length, refl, arith, ◌∙◌}
 use Rattle.std.proofs.lemmas.List.{length-set}
 use Rattle.std.proofs.lemmas.Option.{slice_get_read}
 use Rattle.desk_lists.specs.Changes.{BecomesBy}
-use Rattle.desk_lists.proofs.ListLemmas.{Upto, upto-more, upto-stays, upto-all, becomes-untouched}
+use Rattle.desk_lists.proofs.ListLemmas.{except-less, except-past, except-touched}
 use Rattle.desk_lists.proofs.orders.Orders.change.Goals as goal
-use Rattle.desk_lists.proofs.orders.Orders.change.Goals.{then-is_touched, else-is_touched}
+use Rattle.desk_lists.proofs.orders.Orders.change.Goals.{then-place-len, else-place-len}
 
-pub loop-place-preserved : goal.loop-place-preserved
-loop-place-preserved c =
-    let i = c.loop-place.place in
+pub loop-left-init : goal.loop-left-init
+loop-left-init c = (refl, λ few. except-touched c.args.cmd.now c.args.named.now c.args.word _ c.args.self.now.boards.items few c.touched-left.ensures)
+
+pub loop-left-preserved : goal.loop-left-preserved
+loop-left-preserved c =
+    let i = c.first_board-place.result in
     let old = c.args.self.now.boards.items in
-    let now = c.loop-place.self.boards.items in
+    let now = c.loop-left.self.boards.items in
     let becomes = BecomesBy c.args.cmd.now c.args.named.now c.args.word in
-    let within : i < length now = omega (arith, c.loop-place.invariant.0) in
-    elim c.if-is_touched.branch [
-      | then-is_touched w ↦
-          let made = upto-more becomes i old now w.index_mut.result.now w.change_board.new.board c.loop-place.invariant.1
-          (slice_get_read now (length now) i w.index_mut.result.now refl within w.index_mut.ensures.value) w.change_board.ensures in
-          rw (w.self-is) (length-set now i w.change_board.new.board ∙ c.loop-place.invariant.0, made)
-      | else-is_touched w ↦
-          rw (w.self-is) (c.loop-place.invariant.0, upto-stays becomes i old now c.loop-place.invariant.1
-          (λ b. becomes-untouched c.args.cmd.now c.args.named.now c.args.word i b (sym c.is_touched.ensures ∙ w.if-is_touched.false)))
+    let before = c.loop-left.invariant in
+    elim c.if-place-len.branch [
+      | then-place-len w ↦
+          let within : i < length now = omega (arith, w.if-place-len.true, c.len.ensures, c.loop-left.self.boards.ok.0) in
+          rw (w.self-is) (
+            length-set now i w.change_board.new.board ∙ before.0,
+            λ few. except-less becomes i c.loop-left.left _ old now w.index_mut.result.now w.change_board.new.board (before.1 few)
+                c.first_board-place.ensures.has c.with_board-left.ensures.has
+                (slice_get_read now (length now) i w.index_mut.result.now refl within w.index_mut.ensures.value) w.change_board.ensures,
+          )
+      | else-place-len w ↦
+          let past : length old ≤ i = omega (arith, w.if-place-len.false, c.len.ensures, c.loop-left.self.boards.ok.0, before.0) in
+          rw (w.self-is) (before.0, λ few. except-past becomes i c.loop-left.left _ old now (before.1 few) c.with_board-left.ensures.has past)
     ]
-
-pub returns-clause-each : goal.returns-clause-each
-returns-clause-each c =
-    let i = c.loop-place.place in
-    let old = c.args.self.now.boards.items in
-    upto-all (BecomesBy c.args.cmd.now c.args.named.now c.args.word) i old c.loop-place.self.boards.items (omega arith) c.loop-place.invariant.1

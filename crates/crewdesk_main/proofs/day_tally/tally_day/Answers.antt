@@ -1,0 +1,27 @@
+use Rattle.std.proofs.Common.{sym, subst, arith}
+use Rattle.desk_text.specs.Tally.{Counts}
+use Rattle.crewdesk_main.proofs.HistoryLemmas.{day_history-none, day_history-next, day_history-few}
+use Rattle.crewdesk_main.proofs.day_tally.tally_day.Goals as goal
+
+pub loop-stated-init : goal.loop-stated-init
+loop-stated-init g c =
+    let start = sym (day_history-none c.args.opening.now) in
+    record {
+      left = omega (arith, c.requires.left);
+      stands = subst (g.C.DeskCore.stands c.args.core.now) start c.requires.start;
+      counts = subst (Counts c.new-tally.result) start c.new-tally.ensures;
+    }
+
+pub loop-stated-preserved : goal.loop-stated-preserved
+loop-stated-preserved g c =
+    let before = c.loop-stated.invariant in
+    let o = c.args.opening.now in
+    let commands = c.args.commands.now in
+    let place = c.loop-stated.stated-index in
+    let next = day_history-next o commands place c.stated-item.result c.step.result
+    c.loop-stated-test.true c.stated-item.is (c.step.ensures.answer _ before.stands) in
+    record {
+      left = omega (arith, c.step.ensures.room, before.left);
+      stands = subst (g.C.DeskCore.stands c.step.new.self) next (c.step.ensures.stands _ before.stands);
+      counts = subst (Counts c.count.new.self) next (c.count.ensures _ (day_history-few o commands place c.requires.few c.loop-stated-test.true) before.counts);
+    }
