@@ -2,8 +2,14 @@
 use denial_rules::Bar;
 use desk_model::Reply;
 
-/// A bit for each kind of reply but those of tables that are full.
-pub const ALL_KINDS: u64 = (1 << 48) - 1;
+// A bit for each kind of reply but those of tables that are full.
+const ALL_KINDS: u64 = (1 << 48) - 1;
+
+/// Those of the first edition: nobody is held, and no relief vacancy is made.
+pub const FIRST_KINDS: u64 = ALL_KINDS & !(1 << 22 | 1 << 40);
+
+/// Those of the second edition, which knows each command.
+pub const SECOND_KINDS: u64 = ALL_KINDS & !(1 << 23);
 
 /// The number of a reply's kind: 0 to 47, and 48 for a table that is full.
 pub fn kind(reply: &Reply) -> u8 {
