@@ -1,5 +1,5 @@
 -- Of two lines neither begins the other.
-use Rattle.std.proofs.Common.{◌≡◌, ◌≢◌, ◌∙◌, ℕ, ◌==◌, true, false, nat_le, List, [], ◌∷◌, ◌++◌, get_or, drop, decimal, refl, sym, ap, arith, append_assoc}
+use Rattle.std.proofs.Common.{◌≡◌, ◌≢◌, ◌∙◌, ℕ, ◌==◌, true, false, nat_le, List, [], ◌∷◌, ◌++◌, get_or, drop, decimal, refl, sym, ap, arith, append_assoc, append-nil}
 use Rattle.std.specs.List.{All, join_with_byte}
 use Rattle.std.proofs.lemmas.Bool.Decides.{nat_tests}
 use Rattle.std.proofs.lemmas.Fmt.{decimal_injective}
@@ -27,18 +27,23 @@ use Rattle.desk_text.proofs.SpelledEntryLemmas.{fields-split, parts_text, entry_
 -- ---- lines
 
 -- a line's text has no line feed
-unfed : (text : List ℕ) → IsPlain text → All (λ b. (b == 10) ≡ false) text
+pub unfed : (text : List ℕ) → IsPlain text → All (λ b. (b == 10) ≡ false) text
 unfed text is k d within = other (get_or text k d) (AllPass-from_list_all (λ b. nat_le 32 b) text is.above k d within)
   where
     other : (b : ℕ) → nat_le 32 b ≡ true → (b == 10) ≡ false
     other b h = grind (arith, nat_tests, h)
 
+-- where two texts that begin with lines are one, so are the lines, and what is behind them
+pub lines-two : (a b x y : List ℕ) → IsLine a → IsLine b → a ++ x ≡ b ++ y → (a ≡ b) × (x ≡ y)
+lines-two a b x y one other e =
+    let both : one.text ++ 10 ∷ x ≡ other.text ++ 10 ∷ y =
+    sym (append_assoc one.text (10 ∷ []) x) ∙ ap (λ t. t ++ x) (sym one.is) ∙ e ∙ ap (λ t. t ++ y) other.is ∙ append_assoc other.text (10 ∷ []) y in
+    let cut = cut-one 10 one.text other.text x y (unfed one.text one.plain) (unfed other.text other.plain) both in
+    (one.is ∙ ap (λ t. t ++ 10 ∷ []) cut.0 ∙ sym other.is, cut.1)
+
 -- where a line begins a line, they are one
 line-one : (a b rest : List ℕ) → IsLine a → IsLine b → b ≡ a ++ rest → (a ≡ b) × (rest ≡ [])
-line-one a b rest one other e =
-    let both : one.text ++ 10 ∷ rest ≡ other.text ++ 10 ∷ [] = sym (append_assoc one.text (10 ∷ []) rest) ∙ ap (λ t. t ++ rest) (sym one.is) ∙ sym e ∙ other.is in
-    let cut = cut-one 10 one.text other.text rest [] (unfed one.text one.plain) (unfed other.text other.plain) both in
-    (one.is ∙ ap (λ t. t ++ 10 ∷ []) cut.0 ∙ sym other.is, cut.1)
+line-one a b rest one other e = lines-two a b rest [] one other (sym e ∙ sym (append-nil b))
 
 -- ---- entries
 
@@ -47,7 +52,7 @@ entry-of : (e : EntryValue) (caller : ℕ) (stated : StatedValue) (moment : ℕ)
     → entry_of caller stated moment reply ≡ e
 entry-of e caller stated moment reply a b c d = rw (a, b, c, d) refl
 
-entry_line-one : (a b : EntryValue) → Fits a → Fits b → entry_line a ≡ entry_line b → a ≡ b
+pub entry_line-one : (a b : EntryValue) → Fits a → Fits b → entry_line a ≡ entry_line b → a ≡ b
 entry_line-one a b ha hb e =
     let text = append_cancel_right (parts_text a) (parts_text b) (10 ∷ []) (sym (entry_line-parts a) ∙ e ∙ entry_line-parts b) in
     let caller = cut-one 124 _ _ _ _ (caller-unbarred a ha) (caller-unbarred b hb) text in
@@ -68,7 +73,7 @@ entry-begins a b rest ha hb e =
 
 -- ---- openings
 
-opening_line-one : (a b : OpeningValue) → IsOpening a → IsOpening b → opening_line a ≡ opening_line b → a ≡ b
+pub opening_line-one : (a b : OpeningValue) → IsOpening a → IsOpening b → opening_line a ≡ opening_line b → a ≡ b
 unfolding opening_line
 opening_line-one a b ha hb e =
     let text = append_cancel_right (join_with_byte 44 (opening_fields a)) (join_with_byte 44 (opening_fields b)) (10 ∷ []) e in
