@@ -1,8 +1,8 @@
-use Rattle.std.proofs.Common.{◌<◌, length, refl, arith, ◌∙◌, sym, subst}
+use Rattle.std.proofs.Common.{◌<◌, length, refl, arith, ◌∙◌, sym}
 use Rattle.std.proofs.lemmas.List.{length-set}
 use Rattle.std.proofs.lemmas.Option.{slice_get_read}
 use Rattle.desk_lists.specs.Changes.{BecomesBy}
-use Rattle.desk_lists.proofs.ListLemmas.{Upto, upto-more, upto-stays, upto-all, becomes-untouched}
+use Rattle.desk_lists.proofs.ListLemmas.{upto-more, upto-stays, upto-all, becomes-untouched}
 use Rattle.desk_lists.proofs.orders.Orders.change.Goals as goal
 use Rattle.desk_lists.proofs.orders.Orders.change.Goals.{then-is_touched, else-is_touched}
 
@@ -19,8 +19,11 @@ loop-place-preserved c =
           (slice_get_read now (length now) i w.index_mut.result.now refl within w.index_mut.ensures.value) w.change_board.ensures in
           rw (w.self-is) (length-set now i w.change_board.new.board ∙ c.loop-place.invariant.0, made)
       | else-is_touched w ↦
-          rw (w.self-is) (c.loop-place.invariant.0, upto-stays becomes i old now c.loop-place.invariant.1
-          (λ b. becomes-untouched c.args.cmd.now c.args.named.now c.args.word i b (sym c.is_touched.ensures ∙ w.if-is_touched.false)))
+          rw (w.self-is) (
+            c.loop-place.invariant.0,
+            upto-stays becomes i old now c.loop-place.invariant.1
+                (λ b. becomes-untouched c.args.cmd.now c.args.named.now c.args.word i b (sym c.is_touched.ensures ∙ w.if-is_touched.false)),
+          )
     ]
 
 pub returns-clause-each : goal.returns-clause-each
