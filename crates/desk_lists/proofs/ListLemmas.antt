@@ -77,6 +77,7 @@ becomes-untouched c n word j b not = by_both c (or-none (is_of j n.board) (has_b
     or-none : (x y : Bool) → (x || y) ≡ false → (x ≡ false) × (y ≡ false)
     or-none false y not = (refl, not)
     or-none true y not = absurd (false≢true (sym not))
+
     by_both : (c : Cmd) → (is_of j n.board ≡ false) × (has_board word j ≡ false) → BecomesBy c n word j b b
     by_both (cmd.Board board extra place) both = no-then _ _ b both.0
     by_both (cmd.List p board) both = no-then _ _ b both.0

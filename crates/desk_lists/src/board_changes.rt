@@ -54,7 +54,7 @@ fn set_up(board: &mut Board, here: bool, place: Code, extra: bool)
 fn take_on(board: &mut Board, here: bool, person: PersonNo, ready: Minute)
     ensures { IsThen here (TakesOn person ready) board.old board.new }
 {
-    if here && board.position(person).is_none() {
+    if here && !board.has(person) {
         let _full = board.list(person, ready);
     }
 }
@@ -63,7 +63,7 @@ fn take_on(board: &mut Board, here: bool, person: PersonNo, ready: Minute)
 fn let_go(board: &mut Board, here: bool, person: PersonNo)
     ensures { IsThen here (LetsGo person) board.old board.new }
 {
-    if here && board.position(person).is_some() {
+    if here && board.has(person) {
         board.unlist(person);
     }
 }
@@ -72,7 +72,7 @@ fn let_go(board: &mut Board, here: bool, person: PersonNo)
 fn move_on(board: &mut Board, here: bool, last: bool, person: PersonNo, ready: Minute)
     ensures { IsThen here (Moves last person ready) board.old board.new }
 {
-    if !here || board.position(person).is_none() {
+    if !here || !board.has(person) {
         return;
     }
     board.set_ready(person, ready);

@@ -1,9 +1,11 @@
 -- Who isn't enrolled is on no board, and nobody is on one that wasn't set up.
-use Rattle.std.proofs.Common.{◌≡◌, ℕ, Bool, true, false, Option, None, Some, is_some, List, [], ◌∷◌, length, filter, refl, sym, ap, ◌∙◌}
+use Rattle.std.proofs.Common.{◌≡◌, ℕ, ◌+◌, Bool, true, false, ◌||◌, nat_eq, Option, None, Some, is_some, List, [], ◌∷◌, length, filter, refl, sym, ap, ◌∙◌, arith}
+use Rattle.std.specs.List.{find, list_any}
 use Rattle.std.proofs.lemmas.Bool.{false≢true}
+use Rattle.std.proofs.lemmas.Bool.Decides.{nat_tests}
 use Rattle.desk_model.specs.History.{History}
 use Rattle.desk_model.specs.Register.{person_of, board_of, persons, boards}
-use Rattle.desk_model.specs.Boards.{is_on, boards_of, order}
+use Rattle.desk_model.specs.Boards.{is_on, boards_of, links, order}
 use Rattle.desk_model.specs.RestsOn.{IsListed}
 use Rattle.desk_register.specs.Among.{place_among, board_place}
 
@@ -48,3 +50,13 @@ unset h b placed none = go (board_of h b) (sym (placed b) ∙ ap is_some none)
 -- so such a board has no members
 pub order-nowhere : (h : History) (b : List ℕ) → ((c : List ℕ) → board_of h c ≡ None → order h c ≡ []) → BoardsHavePlaces h → board_place (boards h) b ≡ None → order h b ≡ []
 order-nowhere h b empty placed none = empty b (unset h b placed none)
+
+-- who isn't on a board has no link of it
+pub not-linked : (b : List ℕ) (p : ℕ) (ps : List ℕ) (n : ℕ) → list_any (nat_eq p) ps ≡ false → None ≡ find (λ link. nat_eq link.person p) (links b n ps)
+not-linked b p [] n out = refl
+not-linked b p (q ∷ ps) n out = go (nat_eq p q) refl out (not-linked b p ps (n + 1))
+  where
+    go : (here : Bool) → nat_eq p q ≡ here → (here || list_any (nat_eq p) ps) ≡ false
+        → (list_any (nat_eq p) ps ≡ false → None ≡ find (λ link. nat_eq link.person p) (links b (n + 1) ps)) → None ≡ find (λ link. nat_eq link.person p) (links b n (q ∷ ps))
+    go true is out rest = absurd (false≢true (sym out))
+    go false is out rest = let other : nat_eq q p ≡ false = grind (arith, nat_tests, is) in rw other (rest out)

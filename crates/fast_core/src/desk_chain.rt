@@ -7,7 +7,9 @@ ghost use Rattle.fast_core.specs.Desk.{Tells};
 
 use crate::desk::Desk;
 use desk_base::{Code, PersonNo};
-use desk_model::{Chain, Link, boards_and_chains_are_bounded, who_is_on_a_board_is_listed};
+use desk_model::{
+    Chain, Link, boards_and_chains_are_bounded, order_is_by_rank, who_is_on_a_board_is_listed,
+};
 use desk_register::who_is_enrolled_has_a_place;
 
 impl Desk {
@@ -22,9 +24,16 @@ impl Desk {
     {
         who_is_on_a_board_is_listed();
         who_is_enrolled_has_a_place();
+        order_is_by_rank();
+        let Some(place) = self.person_place(person) else {
+            return None;
+        };
         let Some(at) = self.board_place(board) else {
             return None;
         };
+        if !self.lists.is_on(place, at) {
+            return None;
+        }
         let position = self.lists.position(person, at)?;
         Some(Link {
             board: *board,

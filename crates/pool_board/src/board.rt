@@ -126,6 +126,13 @@ impl Board {
         }
     }
 
+    /// Whether a person is listed.
+    pub fn has(&self, person: PersonNo) -> bool
+        ensures { result ≡ is_listed person self.now.members }
+    {
+        find(&self.tree, self.hints.of(person), person).is_some()
+    }
+
     /// The place of a person; `None` exactly where the person isn't listed.
     pub fn position(&self, person: PersonNo) -> Option<u16>
         ensures at { IfSome result (λ place. at_place (persons self.now.members) place ≡ Some person) }

@@ -148,6 +148,16 @@ fn the_first_in_order_and_not_the_longest_rested(rt: HostRuntime) -> Result<(), 
 }
 
 #[test]
+fn who_is_taken_off_is_on_it_no_more(rt: HostRuntime) -> Result<(), Fail> {
+    let mut pool = three(rt.alloc())?;
+    act_on_board(&mut pool, 8, Act::Unlist)?;
+    for (number, expected) in [(6, false), (7, true), (8, false), (9, true)] {
+        assert_eq!(rt; pool.has(person(number)?), expected);
+    }
+    Ok(())
+}
+
+#[test]
 fn a_board_starts_again(rt: HostRuntime) -> Result<(), Fail> {
     let mut pool = three(rt.alloc())?;
     let copy = pool.copy(rt.alloc())?;

@@ -1,6 +1,6 @@
 -- The numbers of slots, and what a search of them finds.
-use Rattle.std.proofs.Common.{◌≡◌, ◌≢◌, ℕ, ◌+◌, ◌-◌, ◌*◌, ◌^◌, ◌<◌, ◌≤◌, inl, inr, true, false, Option, None, Some, List, length, replicate, set, slice_index, refl, sym, ap, ◌∙◌, arith}
-use Rattle.std.proofs.lemmas.Bool.{cases_lt, cases_eq, cases_order, le-leb, lt-leb}
+use Rattle.std.proofs.Common.{◌≡◌, ℕ, ◌+◌, ◌-◌, ◌*◌, ◌^◌, ◌<◌, ◌≤◌, inl, inr, true, false, Option, None, Some, List, length, replicate, set, slice_index, refl, sym, ap, ◌∙◌, arith}
+use Rattle.std.proofs.lemmas.Bool.{cases_lt, cases_order, le-leb, lt-leb}
 use Rattle.std.proofs.lemmas.List.{length-set, length-replicate, get_or-replicate, get_or_past}
 use Rattle.std.proofs.lemmas.Nat.{pow_below}
 use Rattle.std.proofs.Math.Nat.{pow-le-pow_right}
@@ -9,7 +9,6 @@ use Rattle.slot_tree.specs.declared.nodes.TheConstants.{EMPTY}
 use Rattle.slot_tree.specs.Slots.{slot_at, is_ready, filled_end}
 use Rattle.slot_tree.specs.Search.{IsFirstReady, FindsReady}
 use Rattle.slot_tree.specs.Nodes.{key, KeysStand, AreLeast, Keeps, IsFirstBelow, FindsBelow}
-use Rattle.slot_tree.proofs.SlotLemmas.{slot_at-written, slot_at-others}
 use Rattle.slot_tree.proofs.EndLemmas.{empties, filled_end-is}
 
 -- one power of two is of one exponent
@@ -45,7 +44,7 @@ finds-ready slots nodes from m many at many_is long keys small found = record {
   behind = omega (arith, found.behind);
   ready = key-ready (slot_at slots (at - many)) m small (omega (arith, found.below, here));
   first = λ s low high.
-      let is = keys s (omega (arith, high, found.within, long, many_is)) in
+      let is = (keys s (omega (arith, high, found.within, long, many_is))).0 in
       let place : many + s ≡ length slots + s = omega (arith, many_is) in
       let same : slice_index nodes (many + s) ≡ slice_index nodes (length slots + s) = ap (slice_index nodes) place in
       key-later (slot_at slots s) m (omega (arith, found.first (many + s) (omega (arith, low)) (omega (arith, high)), is, same));
@@ -54,7 +53,7 @@ finds-ready slots nodes from m many at many_is long keys small found = record {
     here : slice_index nodes at ≡ key (slot_at slots (at - many))
     here =
         let place : at ≡ length slots + (at - many) = omega (arith, found.behind, many_is) in
-        ap (slice_index nodes) place ∙ keys (at - many) (omega (arith, found.within, found.behind, long, many_is))
+        ap (slice_index nodes) place ∙ (keys (at - many) (omega (arith, found.within, found.behind, long, many_is))).0
 
 pub finds-none : (slots : List (Option Slot)) (nodes : List ℕ) (from m many : ℕ) → many ≡ length slots → length nodes ≡ 2 * length slots → KeysStand slots nodes
     → FindsBelow nodes (many + from) m None → FindsReady slots from m None
@@ -62,22 +61,9 @@ finds-none slots nodes from m many many_is long keys none s low = elim (cases_lt
   | inl within ↦
       let place : many + s ≡ length slots + s = omega (arith, many_is) in
       let same : slice_index nodes (many + s) ≡ slice_index nodes (length slots + s) = ap (slice_index nodes) place in
-      key-later (slot_at slots s) m (omega (arith, none (many + s) (omega (arith, low)) (omega (arith, within, long, many_is)), keys s within, same))
+      key-later (slot_at slots s) m (omega (arith, none (many + s) (omega (arith, low)) (omega (arith, within, long, many_is)), (keys s within).0, same))
   | inr beyond ↦ ap (is_ready m) (past slots s beyond)
 ]
-
--- one slot is written, and its number
-pub keys-written : (slots : List (Option Slot)) (old new : List ℕ) (i at : ℕ) (x : Option Slot) (number : ℕ) → i < length slots → at ≡ length slots + i → number ≡ key x → KeysStand slots old
-    → slice_index new at ≡ number → ((n : ℕ) → length slots ≤ n → n ≢ at → slice_index new n ≡ slice_index old n) → KeysStand (set slots i x) new
-keys-written slots old new i at x number within at_is number_is keys written others s low =
-    let long : length (set slots i x) ≡ length slots = length-set slots i x in
-    rw long (elim (cases_eq s i) [
-      | inl same ↦
-          let place : length slots + s ≡ at = omega (arith, same, at_is) in
-          ap (slice_index new) place ∙ written ∙ number_is ∙ ap key (sym (ap (slot_at (set slots i x)) same ∙ slot_at-written slots i x within))
-      | inr other ↦
-          others (length slots + s) (omega arith) (λ e. other (omega (arith, e, at_is))) ∙ keys s (omega (arith, low, long)) ∙ ap key (sym (slot_at-others slots i s x other))
-    ])
 
 -- a tree after a slot was written
 pub keeps-written : (height next was : ℕ) (slots new_slots : List (Option Slot)) (nodes new_nodes : List ℕ) (i : ℕ) (x : Option Slot) → Keeps height was slots nodes
@@ -105,7 +91,9 @@ keeps-new height many low is = record {
       omega (arith, here, left, right);
   keys = λ s within.
       let long = length-replicate {A = Option Slot} many None in
-      get_or-replicate (2 * many) (length (replicate many None) + s) EMPTY 0 (omega (arith, within, long)) ∙ ap key (sym (get_or-replicate many s None None (omega (arith, within, long))));
+      let number : slice_index (replicate (2 * many) EMPTY) (length (replicate {A = Option Slot} many None) + s) ≡ EMPTY = get_or-replicate (2 * many) (length (replicate {A = Option Slot} many None) + s) EMPTY 0 (omega (arith, within, long)) in
+      let slot : slot_at (replicate many None) s ≡ None = get_or-replicate many s None None (omega (arith, within, long)) in
+      rw (number, slot) (refl, refl);
   ends = sym (filled_end-empty many);
 }
   where

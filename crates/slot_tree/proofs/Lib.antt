@@ -2,3 +2,4 @@ pub mod LeastLemmas
 pub mod SlotLemmas
 pub mod EndLemmas
 pub mod KeepLemmas
+pub mod CountLemmas

@@ -1,11 +1,12 @@
 ghost use Rattle.std.specs.Prelude.{◌≡◌, ℕ, ◌+◌, ◌-◌, ◌*◌, ◌^◌, ◌<◌, ◌≤◌, IfOk, true, None, Some, [], ◌∷◌, ◌++◌, is_some, length, take, replicate, slice_set};
 ghost use Rattle.slot_tree.specs.Slots.{slot_at, with_ready, filled, filled_end, compacted};
 ghost use Rattle.slot_tree.specs.Search.{FindsReady, FindsFilled};
-ghost use Rattle.slot_tree.specs.Nodes.{key, AreLeast, KeysStand};
+ghost use Rattle.slot_tree.specs.Nodes.{AreLeast, KeysStand, AreKeys};
 
+use crate::keys::{filled_as, filled_before};
 use crate::nodes::{EMPTY, fill, key_of, mend, write};
 use crate::search::first_below;
-use crate::slots::{add_empty, end_before, filled_as, filled_before};
+use crate::slots::{add_empty, end_before};
 use crate::{Slot, Steps};
 use desk_base::{Minute, NoMemory, PersonNo};
 use std::alloc::Global;
@@ -124,18 +125,25 @@ impl SlotTree {
         }
     }
 
+    // The numbers of the slots in order.
+    fn keys(&self) -> &[u32]
+        ensures { AreKeys self.now result.now }
+    {
+        &self.nodes[self.slots.len()..]
+    }
+
     /// How many of the slots before this one are filled.
     pub fn before(&self, slot: u32) -> u32
         ensures { result ≡ length (filled (take slot self.now)) }
     {
-        filled_before(&self.slots, slot as usize) as u32
+        filled_before(self.keys(), slot as usize)
     }
 
     /// The slot that is filled as this number from the front, from 1; `None` exactly where there is none.
     pub fn nth(&self, place: u32) -> Option<u32>
         ensures { FindsFilled self.now place result }
     {
-        let at = filled_as(&self.slots, place as usize)?;
+        let at = filled_as(self.keys(), place)?;
         Some(at as u32)
     }
 

@@ -1,7 +1,6 @@
 //! The slots of a tree, scanned.
-ghost use Rattle.std.specs.Prelude.{◌≡◌, ℕ, ◌+◌, ◌-◌, ◌≤◌, ◌<◌, ◌++◌, None, length, take, replicate, vec_capacity};
-ghost use Rattle.slot_tree.specs.Slots.{slot_at, filled, filled_end};
-ghost use Rattle.slot_tree.specs.Search.{FindsFilled};
+ghost use Rattle.std.specs.Prelude.{◌≡◌, ℕ, ◌-◌, ◌≤◌, ◌++◌, None, length, replicate, vec_capacity};
+ghost use Rattle.slot_tree.specs.Slots.{slot_at, filled_end};
 
 use crate::Slot;
 
@@ -16,35 +15,6 @@ pub(crate) fn end_before(slots: &[Option<Slot>], from: usize) -> usize
         end -= 1;
     }
     end
-}
-
-/// How many of the slots before one are filled.
-pub(crate) fn filled_before(slots: &[Option<Slot>], slot: usize) -> usize
-    ensures { result ≡ length (filled (take slot slots.now)) }
-{
-    let mut count = 0;
-    for i in 0..slot.min(slots.len()) {
-        if slots[i].is_some() {
-            count += 1;
-        }
-    }
-    count
-}
-
-/// The slot that is filled as this number from the front, from 1; `None` exactly where there is none.
-pub(crate) fn filled_as(slots: &[Option<Slot>], place: usize) -> Option<usize>
-    ensures { FindsFilled slots.now place result }
-{
-    let mut before = 0;
-    for i in 0..slots.len() {
-        if slots[i].is_some() {
-            before += 1;
-            if before == place {
-                return Some(i);
-            }
-        }
-    }
-    None
 }
 
 /// Adds empty slots until there are so many, for which there is room.

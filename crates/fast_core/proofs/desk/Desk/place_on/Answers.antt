@@ -1,11 +1,29 @@
-use Rattle.std.proofs.Common.{nat_eq, sym, ap, ◌∙◌}
+use Rattle.std.proofs.Common.{◌≡◌, ℕ, None, false, nat_eq, List, sym, ◌∙◌}
 use Rattle.std.specs.List.{find}
-use Rattle.desk_model.specs.Boards.{links}
-use Rattle.fast_core.proofs.PlaceLemmas.{order-nowhere}
+use Rattle.desk_model.specs.History.{History}
+use Rattle.desk_model.specs.Boards.{is_on, links, order}
+use Rattle.desk_model.specs.Rank.{IsByRank}
+use Rattle.fast_core.proofs.PlaceLemmas.{off-nobody, off-nowhere, not-linked}
 use Rattle.fast_core.proofs.desk.Desk.place_on.Goals as goal
+
+-- who isn't on the board
+off : (h : History) (p : ℕ) (b : List ℕ) → IsByRank h b (order h b) → false ≡ is_on h p b → None ≡ find (λ link. nat_eq link.person p) (links b 1 (order h b))
+off h p b ranked out = not-linked b p (order h b) 1 (ranked.those p ∙ sym out)
 
 pub returns-in_default : goal.returns-in_default
 returns-in_default c h tells =
-    let none = order-nowhere h c.args.board.now (c.who_is_on_a_board_is_listed.ensures.empty h tells.legal) (c.who_is_enrolled_has_a_place.ensures.boards h)
-    (sym (c.board_place.ensures.place h tells) ∙ c.in_default.is) in
-    sym (ap (λ ps. find (λ link. nat_eq link.person c.args.person) (links c.args.board.now 1 ps)) none)
+    off h c.args.person c.args.board.now (c.order_is_by_rank.ensures.by_rank h c.args.board.now)
+    (off-nobody h c.args.person c.args.board.now (c.who_is_on_a_board_is_listed.ensures.listed h tells.legal) (c.who_is_enrolled_has_a_place.ensures.persons h)
+    (sym (c.person_place.ensures h tells) ∙ c.in_default.is))
+
+pub returns-in_default-board_place : goal.returns-in_default-board_place
+returns-in_default-board_place c h tells =
+    off h c.args.person c.args.board.now (c.order_is_by_rank.ensures.by_rank h c.args.board.now)
+    (off-nowhere h c.args.person c.args.board.now (c.who_is_on_a_board_is_listed.ensures.listed h tells.legal) (c.who_is_enrolled_has_a_place.ensures.boards h)
+    (sym (c.board_place.ensures.place h tells) ∙ c.in_default-board_place.is))
+
+pub returns-then-not-is_on : goal.returns-then-not-is_on
+returns-then-not-is_on c h tells =
+    off h c.args.person c.args.board.now (c.order_is_by_rank.ensures.by_rank h c.args.board.now)
+    (sym c.if-not-is_on.true
+    ∙ c.is_on.ensures h c.args.person c.args.board.now tells.lists (sym (c.person_place.ensures h tells) ∙ c.in-Some.is) (sym (c.board_place.ensures.place h tells) ∙ c.in-Some-board_place.is))

@@ -1,8 +1,8 @@
 use Rattle.std.proofs.Common.{◌≡◌, ◌+◌, ◌-◌, ◌++◌, None, is_some, length, replicate, sym, ap, subst, ◌∙◌, rules, arith}
 use Rattle.std.specs.List.{filter}
 use Rattle.std.proofs.lemmas.Fn.{filter_same}
-use Rattle.slot_tree.specs.Slots.{filled, filled_end, compacted}
-use Rattle.slot_tree.specs.Nodes.{KeysStand}
+use Rattle.slot_tree.specs.Slots.{slot_at, filled, filled_end, compacted}
+use Rattle.slot_tree.specs.Nodes.{IsKeyOf, KeysStand}
 use Rattle.slot_tree.proofs.EndLemmas.{length-compacted, filled_end-compacted, filled-compacted, filled_end-front}
 use Rattle.slot_tree.proofs.slot_tree.SlotTree.compact.Goals as goal
 
@@ -21,8 +21,8 @@ invariant_of-self c =
       twice = c.mend.ensures.length ∙ c.fill.ensures.length ∙ c.self.invariant.twice;
       least = c.mend.ensures.least;
       keys = λ s within.
-          c.mend.ensures.lowest (length c.add_empty.new.slots.items + s) (omega (arith, c.fill.ensures.length, c.self.invariant.twice, c.self.invariant.many, long))
-          ∙ subst (λ xs. KeysStand xs c.fill.new.nodes.items) c.deref.ensures.value c.fill.ensures.keys s within;
+          let lowest = c.mend.ensures.lowest (length c.add_empty.new.slots.items + s) (omega (arith, c.fill.ensures.length, c.self.invariant.twice, c.self.invariant.many, long)) in
+          subst (IsKeyOf (slot_at c.add_empty.new.slots.items s)) (sym lowest) (subst (λ xs. KeysStand xs c.fill.new.nodes.items) c.deref.ensures.value c.fill.ensures.keys s within);
       ends = c.len-self-inside.ensures ∙ c.retain.new.self.ok.0 ∙ ap length kept ∙ sym (filled_end-compacted slots) ∙ ap filled_end (sym are);
     }
 

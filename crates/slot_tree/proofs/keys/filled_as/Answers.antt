@@ -1,0 +1,20 @@
+use Rattle.std.proofs.Common.{◌-◌, arith}
+use Rattle.std.proofs.lemmas.Simd.{length-chunk}
+use Rattle.slot_tree.proofs.CountLemmas.{counted-block, found-in-block}
+use Rattle.slot_tree.proofs.keys.filled_as.Goals as goal
+
+pub returns-then-place-more : goal.returns-then-place-more
+returns-then-place-more c =
+    found-in-block c.args.keys.now c.loop-start.start c.min-end.result c.args.place c.loop-start.before c.in_ok-at.at (omega arith) (omega arith) c.loop-start.invariant.counted c.in_ok-at.ensures
+
+pub loop-start-preserved : goal.loop-start-preserved
+loop-start-preserved c =
+    let more = counted-block c.args.keys.now c.loop-start.start c.min-end.result (omega arith) in
+    let long = length-chunk c.loop-start.start (c.min-end.result - c.loop-start.start) c.args.keys.now (omega arith) in
+    record {
+      within = omega arith;
+      counted = omega (arith, more, c.count.ensures.count, c.loop-start.invariant.counted);
+      few = omega (arith, c.count.ensures.few, long, c.loop-start.invariant.few);
+      passed = λ some. omega arith;
+      least = omega arith;
+    }

@@ -1,0 +1,68 @@
+//! The numbers of slots in order, counted: that of a filled slot is below `EMPTY`.
+ghost use Rattle.std.specs.Prelude.{◌≡◌, ℕ, ◌+◌, ◌≤◌, ◌<◌, None, length, take};
+ghost use Rattle.std.specs.List.{count_by};
+ghost use Rattle.slot_tree.specs.Nodes.{marks_filled, FindsMarked};
+
+use crate::nodes::EMPTY;
+
+// How many numbers are counted at once.
+const BLOCK: usize = 64;
+
+// How many of these are numbers of filled slots. No branch depends on them.
+fn count(keys: &[u32]) -> u32
+    requires { length keys.now ≤ 1_024 }
+    ensures count { result ≡ count_by marks_filled keys.now }
+    ensures few { result ≤ length keys.now }
+{
+    let mut count = 0;
+    for key in keys {
+        count += u32::from(*key < EMPTY);
+    }
+    count
+}
+
+/// How many of those before one are numbers of filled slots.
+pub(crate) fn filled_before(keys: &[u32], slot: usize) -> u32
+    requires { length keys.now ≤ 1_024 }
+    ensures { result ≡ count_by marks_filled (take slot keys.now) }
+{
+    count(&keys[..slot.min(keys.len())])
+}
+
+// The number that is a filled slot's as this one from the front, from 1, read one by one.
+fn filled_in(keys: &[u32], place: u32) -> Option<usize>
+    requires { length keys.now ≤ 1_024 }
+    ensures { FindsMarked keys.now place result }
+{
+    let mut before = 0;
+    for i in 0..keys.len() {
+        if keys[i] < EMPTY {
+            before += 1;
+            if before == place {
+                return Some(i);
+            }
+        }
+    }
+    None
+}
+
+/// The number that is a filled slot's as this one from the front, from 1; `None` exactly where there is none.
+pub(crate) fn filled_as(keys: &[u32], place: u32) -> Option<usize>
+    requires { length keys.now ≤ 1_024 }
+    ensures { FindsMarked keys.now place result }
+{
+    let mut before = 0;
+    let mut start = 0;
+    while start < keys.len() {
+        let end = keys.len().min(start + BLOCK);
+        let block = &keys[start..end];
+        let more = before + count(block);
+        if place <= more {
+            let at = filled_in(block, place - before)?;
+            return Some(start + at);
+        }
+        before = more;
+        start = end;
+    }
+    None
+}
