@@ -23,14 +23,14 @@ use desk_base::{Code, Minute, Month, PersonNo, VacNo};
 use desk_model::{BoardSetup, Chain, Job, Link, Offer, Opening, Person, VacState};
 use duty_events::{Event, EventFault, Stage};
 
-/// What can tell of the history that it stands for. It may want memory to work in.
+/// What can tell of the history that it stands for. It may want something to work with: lists, or a count of steps.
 pub trait Reads {
     ghost use Rattle.std.specs.Prelude.{ℕ};
     ghost use Rattle.desk_model.specs.Job.{JobValue};
     ghost use Rattle.desk_model.specs.History.{History};
     ghost use Rattle.desk_model.specs.Legal.{IsLegal};
 
-    /// The memory that it works in.
+    /// What it is lent to work with.
     type Work;
 
     // It stands for this history.
@@ -39,10 +39,10 @@ pub trait Reads {
     // What it stands for is legal.
     ghost legal: { (reads : Self) (h : History) → tells reads h → IsLegal h };
 
-    // The memory has room enough for it.
+    // That has room enough for it.
     ghost suits: { Self → Self.Work → Type 0 };
 
-    // How many steps were taken in the memory, each of a search of boards.
+    // How many steps were counted there, each of a search of boards.
     ghost steps: { Self.Work → ℕ };
 
     // At most so many does a search of a job's chain take at a moment.
@@ -172,8 +172,8 @@ pub trait Reads {
         ensures suits { suits self.now work.new }
         ensures steps { steps work.new ≡ steps work.old };
 
-    /// The first place of the chain of a vacancy that was made whose person nothing bars from it at this moment, which isn't past
-    /// its report; `None` where all are barred.
+    /// Of the job's chain the first place whose person nothing bars; `None` where all are barred. The vacancy was made, and the
+    /// moment isn't past its report.
     fn first_free(&self, work: &mut Self::Work, moment: Minute, job: &Job) -> Option<Link>
         requires { suits self.now work.old }
         ensures answer { (h : History) → tells self.now h → IsAsked h moment job.now

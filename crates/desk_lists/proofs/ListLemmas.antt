@@ -95,6 +95,7 @@ except-touched c n word touched old few are k b at = (b, (at, go (has_board touc
   where
     within : k < BOARD_LIMIT
     within = omega (arith, few, slice_get_within old k b at)
+
     go : (t : Bool) → has_board touched k ≡ t → IsThen (not t) (BecomesBy c n word k) b b
     go true has = refl
     go false none = becomes-untouched c n word k b (sym (are k within) ∙ none)

@@ -37,8 +37,8 @@ impl Lists {
         self.listings.change(cmd, named);
     }
 
-    /// Keeps what an entry changes, the next one of a legal history, where what it names is named by its places; of any other
-    /// entry nothing is promised.
+    /// Keeps what an entry changes, the next one of a legal history, where `named` has the places of its person and of its board; of
+    /// any other entry nothing is promised.
     pub fn keep(&mut self, entry: &Entry, named: &Named)
         ensures { (h : History) → IsLegal h → IsNext h entry.now → Names h entry.now named.now
             → Keeps self.old h → Keeps self.new (with_entry h entry.now) }

@@ -1,4 +1,4 @@
--- What a command rests on that is done, and what an offer rests on.
+-- Some of what a command rests on that is done, and of what an offer rests on: who and what is there, and that there is room.
 use Rattle.std.specs.Prelude.{◌≡◌, ℕ, ◌<◌, true, false, None, is_some, List, length, ⊤}
 use Rattle.desk_model.specs.declared.limits.TheConstants.{PERSON_LIMIT, BOARD_LIMIT, MEMBER_LIMIT, VACANCY_LIMIT}
 use Rattle.desk_model.specs.declared.command.Cmd.{Cmd}

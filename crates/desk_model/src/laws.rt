@@ -92,8 +92,8 @@ pub fn each_run_around_names_the_first()
     ensures { (h : History) → IsLegal h → All RunsAroundRightly (steps h) }
 {}
 
-/// Who is in a tour of duty is barred from every job at every moment, and so is who isn't, before their rest ends. It only names
-/// the law that it rests on: its clauses are the laws.
+/// Who is in a tour of duty is barred from every job at every moment, and who is in none at every moment before their rest ends. It
+/// only names the law that it rests on: its clauses are the laws.
 pub fn who_is_not_ready_is_barred()
     ensures tour { (h : History) (m : ℕ) (job : JobValue) (p : ℕ) (person : Person) → in_tour h p ≡ true
         → is_some (bar_of h m job p person) ≡ true }

@@ -13,8 +13,8 @@ ghost use Rattle.desk_model.specs.Offers.{asks_for};
 ghost use Rattle.desk_model.specs.RestsOn.{RestsOn, MayOffer, IsListed};
 ghost use Rattle.desk_model.specs.Legal.{last_moment, IsNext, IsLegal};
 
-/// What holds before an entry that is right and whose command is done: whom it names is enrolled, whom or what it makes is new
-/// and there is room, whose offer it settles has that offer. And before one that offers a vacancy: it was made and has no open
+/// Some of what holds before an entry that is right and whose command is done: who is named is enrolled, who is enrolled and what
+/// is set up or made by it is new, and there is room for it, and whose offer it settles has that offer. And before one that offers a vacancy: it was made and has no open
 /// offer, and the person has none and is on the board that it is offered from. It does nothing: its clauses are the laws.
 pub fn what_is_done_rests_on()
     ensures done { (h : History) (e : EntryValue) → IsNext h e → is_done e.reply ≡ true → RestsOn h e.stated.cmd }

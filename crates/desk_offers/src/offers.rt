@@ -6,5 +6,6 @@ use offer_flight::Flight;
 pub struct Offers {
     pub(crate) flight: Flight,
     pub(crate) holds: Holds,
+    /// How many minutes there are to answer an offer.
     pub(crate) answer: u8,
 }

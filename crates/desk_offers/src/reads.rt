@@ -46,7 +46,7 @@ impl Offers {
     }
 
     /// Until when a person is held by a board, both by their places among all, from 0, in either edition of the rules: 480 minutes
-    /// after the last offer from that board that they declined. The first minute of all where they declined none.
+    /// after they last declined an offer from that board. The first minute of all where they declined none.
     pub fn hold_end(&self, person: usize, board: usize) -> Minute
         ensures { (h : History) (p : ℕ) (b : List ℕ) → Keeps self.now h → place_among (persons h) p ≡ Some person
             → board_place (boards h) b ≡ Some board → result ≡ hold_end h (b ∷ []) p }

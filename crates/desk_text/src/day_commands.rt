@@ -25,7 +25,12 @@ pub struct DayCommands {
 
 impl DayCommands {
     // Takes the record of this number, the next. What is behind a wrong one is passed over.
-    fn take(&mut self, record_no: u32, last: &mut LastMinute, row: &ByteRecord) -> Result<(), NoMemory>
+    fn take(
+        &mut self,
+        record_no: u32,
+        last: &mut LastMinute,
+        row: &ByteRecord,
+    ) -> Result<(), NoMemory>
         ensures { IfOk result (λ _. (records : List (List (List ℕ)))
             → record_no ≡ length records + 2
             → StatesOrWrong self.old.wrong self.old.commands.items records

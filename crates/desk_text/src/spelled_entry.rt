@@ -6,8 +6,8 @@ ghost use Rattle.desk_model.specs.Statement.{StatedValue};
 ghost use Rattle.desk_text.specs.SpelledEntry.{IsEntryLine, SpellsStated, SpellsEntry};
 
 use crate::command_record::read_record;
-use crate::last_minute::LastMinute;
 use crate::cut::{before, cut};
+use crate::last_minute::LastMinute;
 use crate::line_fields::fields_of_line;
 use crate::spelled_reply::read_reply;
 use desk_base::{Minute, read_decimal};

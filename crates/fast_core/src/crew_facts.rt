@@ -18,8 +18,8 @@ use desk_model::{Job, no_event_lies_ahead};
 use duty_events::Stage;
 
 impl Crew {
-    /// What bears at a moment on whether an enrolled person may have the job, to whom this vacancy is on offer and who is held
-    /// until then; `None` where nobody has the number.
+    /// What bears at a moment on whether an enrolled person may have the job; `None` where nobody has the number. `offered` is the
+    /// vacancy that is on offer to them, and `until` the minute up to which they are held.
     pub fn facts_of(
         &self,
         moment: Minute,

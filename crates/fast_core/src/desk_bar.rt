@@ -12,7 +12,7 @@ use desk_model::Job;
 
 impl Desk {
     /// The first bar that keeps a person from the job of a vacancy that was made, at this moment, which isn't past its report;
-    /// `None` where nothing does. Nobody may have it who isn't enrolled.
+    /// `None` where nothing does. Who isn't enrolled counts as marked off.
     pub fn bar(&self, moment: Minute, job: &Job, number: PersonNo) -> Option<Bar>
         ensures { (h : History) → Tells self.now h → IsAsked h moment job.now
             → result ≡ bar_for h moment job.now number }

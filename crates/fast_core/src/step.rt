@@ -29,8 +29,8 @@ impl FastCore {
         Ok(FastCore { desk, left: steps })
     }
 
-    /// As `step`, and counts the nodes that its searches of boards read: for `next` and `offer`, in the vacancy's chain, at most
-    /// 4 * (10 + 1) on each board for each member who is ready and has a bar, and once more; for all else none.
+    /// As `step`, and counts the nodes that its searches of boards read: for `next` and `offer` at most 44 for each board of the
+    /// vacancy's chain, and 44 more for each of its members who is ready and has a bar; for all else none.
     pub fn step_counted<L: Ledger>(
         &mut self,
         caller: u8,

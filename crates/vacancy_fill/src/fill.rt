@@ -21,8 +21,8 @@ pub struct Found {
     pub position: u16,
 }
 
-/// The first of the chain whom nothing bars; `None` exactly where each has a bar: as long as the judge says what bars each, and a
-/// member of the chain's boards who isn't ready at the minute has a bar. The chain names at most 4 boards by their indexes. The
+/// The first of the chain whom nothing bars; `None` exactly where each has a bar: by every function from persons to bars that the
+/// judge agrees with and that gives a bar to each member of the chain's boards who isn't ready at the minute. The chain names at most 4 boards by their indexes. The
 /// steps are nodes that searches of boards read.
 pub fn first<J: Judge, L: Ledger>(
     boards: &[Board],
