@@ -38,9 +38,11 @@ pub fn write_journal<C: DeskCore, K: Sink>(
         return false;
     }
     let mut line = LineText::new();
-    let mut last = LastMinute::new();
+    let mut stated_last = LastMinute::new();
+    let mut moment_last = LastMinute::new();
     for stated in commands {
-        fill_with_entry(&mut line, &mut last, &core.step(0, *stated));
+        let entry = core.step(0, *stated);
+        fill_with_entry(&mut line, &mut stated_last, &mut moment_last, &entry);
         if !gather(buffer, line.as_slice(), sink) {
             return false;
         }

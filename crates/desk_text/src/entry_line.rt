@@ -13,20 +13,28 @@ pub fn write_entry(entry: &Entry) -> LineText
     ensures { result.items ≡ entry_line entry.now }
 {
     let mut line = LineText::new();
-    fill_with_entry(&mut line, &mut LastMinute::new(), entry);
+    let mut stated = LastMinute::new();
+    let mut moment = LastMinute::new();
+    fill_with_entry(&mut line, &mut stated, &mut moment, entry);
     line
 }
 
-/// Makes a line that of the entry. What stood in it is gone.
-pub fn fill_with_entry(line: &mut LineText, last: &mut LastMinute, entry: &Entry)
+/// Makes a line that of the entry. What stood in it is gone. `stated` and `moment` are those that the lines before it named last:
+/// they only spare work.
+pub fn fill_with_entry(
+    line: &mut LineText,
+    stated: &mut LastMinute,
+    moment: &mut LastMinute,
+    entry: &Entry,
+)
     ensures { line.new.items ≡ entry_line entry.now }
 {
     line.clear();
     put_number(line, u32::from(entry.caller()));
     put(line, b"|");
-    put_stated(line, last, entry.stated());
+    put_stated(line, stated, entry.stated());
     put(line, b"|");
-    put(line, &last.write(entry.moment()));
+    put(line, &moment.write(entry.moment()));
     put(line, b"|");
     put_reply(line, &entry.reply());
     put(line, b"\n");
