@@ -3,7 +3,7 @@ use Rattle.std.proofs.Common.{◌≡◌, ◌≢◌, ◌<◌, ◌^◌, ◌*◌, �
 use Rattle.std.specs.Prelude.{if◌then◌else◌}
 use Rattle.std.proofs.lemmas.Bool.Decides.{nat_tests}
 use Rattle.std.proofs.lemmas.List.{get_or-set_same, get_or-set_other}
-use Rattle.std.proofs.lemmas.Nat.Bits.{bit_at_set_same, bit_at_set_other, bit_at_clear_same, bit_at_clear_other, bit_at-zero, bit_at-trailing_zeros}
+use Rattle.std.proofs.lemmas.Nat.Bits.{bit_at_set_same, bit_at_set_other, bit_at_clear_same, bit_at_clear_other, bit_at-zero, bit_at-trailing_zeros, bit_at_and, bit_at-lt}
 use Rattle.std.proofs.lemmas.Nat.{and_le_l}
 use Rattle.std.proofs.lemmas.Bool.{false≢true}
 use Rattle.std.specs.Int.{bit_at, bit_not, trailing_zeros}
@@ -49,6 +49,18 @@ first-board word some fits =
     let lowest = bit_at-trailing_zeros w64 word some fits in
     let low : nat_lt (trailing_zeros w64 word) BOARD_LIMIT ≡ true = grind (arith, nat_tests, lowest.0) in
     (lowest.0, ap (λ t. t && (bit_at word (trailing_zeros w64 word) == 1)) low ∙ ap (λ x. x == 1) lowest.1)
+
+-- what two words have both has each
+pub both-have : (a b j : ℕ) → has_board (bit_and a b) j ≡ true → (has_board a j ≡ true) × (has_board b j ≡ true)
+both-have a b j both = go (nat_lt j BOARD_LIMIT) both
+  where
+    go : (low : Bool) → (low && (bit_at (bit_and a b) j == 1)) ≡ true → ((low && (bit_at a j == 1)) ≡ true) × ((low && (bit_at b j == 1)) ≡ true)
+    go true is =
+        let one : bit_at (bit_and a b) j ≡ 1 = grind (arith, nat_tests, is) in (
+          grind (arith, nat_tests, one, bit_at_and a b j, bit_at-lt a j, bit_at-lt b j),
+          grind (arith, nat_tests, one, bit_at_and a b j, bit_at-lt a j, bit_at-lt b j),
+        )
+    go false is = absurd (false≢true is)
 
 -- words of which one was written
 pub set-word : (words : List ℕ) (person board later i j : ℕ) (to : Bool) → person < length words

@@ -1,4 +1,4 @@
-mod BitLemmas
+pub mod BitLemmas
 mod ListLemmas
 mod LawLemmas
 mod PlacedLemmas

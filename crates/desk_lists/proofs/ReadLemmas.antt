@@ -1,11 +1,12 @@
 -- What is told of what is kept.
-use Rattle.std.proofs.Common.{◌≡◌, ◌<◌, ◌≤◌, ◌+◌, ◌-◌, ◌%◌, ◌/◌, ◌^◌, ◌==◌, ◌||◌, ℕ, zero, suc, Bool, true, false, cond, nat_eq, nat_lt, max, slice_index_or, List, [], ◌∷◌, length, filter, Option, None, Some, is_some, refl, sym, ap, ◌∙◌, inl, inr, arith}
+use Rattle.std.proofs.Common.{◌≡◌, ◌<◌, ◌≤◌, ◌+◌, ◌-◌, ◌%◌, ◌/◌, ◌^◌, ◌==◌, ◌||◌, ℕ, zero, suc, Bool, true, false, not, cond, bit_and, w64, nat_eq, nat_lt, max, slice_index_or, List, [], ◌∷◌, length, filter, Option, None, Some, is_some, refl, sym, ap, ◌∙◌, inl, inr, arith}
 use Rattle.std.proofs.lemmas.Bool.{false≢true, cases_lt}
 use Rattle.std.proofs.lemmas.Bool.Decides.{nat_tests}
 use Rattle.std.proofs.lemmas.Option.{slice_get_within, same_Some}
 use Rattle.std.proofs.lemmas.Nat.Bits.{bit_at_lowest, bit_at-suc, bit_at-zero, bit_at_above}
 use Rattle.std.specs.Prelude.{IfSome}
-use Rattle.std.specs.Int.{bit_at}
+use Rattle.std.proofs.lemmas.Nat.{and_le_r}
+use Rattle.std.specs.Int.{bit_at, trailing_zeros}
 use Rattle.std.specs.Int.Count.{ones_in, ones}
 use Rattle.std.specs.List.{slice_get, list_any, find}
 use Rattle.std.specs.Option.{option_map}
@@ -22,7 +23,8 @@ use Rattle.desk_model.specs.Rank.{IsOnce}
 use Rattle.desk_register.specs.Among.{place_among, board_place}
 use Rattle.desk_register.proofs.PersonLemmas.{same}
 use Rattle.desk_lists.specs.Places.{has_board, is_in}
-use Rattle.desk_lists.specs.Lists.{KeepsLists}
+use Rattle.desk_lists.specs.Lists.{KeepsLists, IsOnOne}
+use Rattle.desk_lists.proofs.BitLemmas.{first-board, both-have}
 use Rattle.desk_lists.proofs.PlacedLemmas.{board-at}
 use Rattle.desk_lists.proofs.ListLemmas.{get-within}
 
@@ -140,3 +142,22 @@ boards-counted kept words h p i word keeps placed fits is = ones-are word ∙ on
   where
     bit : (j : ℕ) → j < BOARD_LIMIT → (bit_at word j == 1) ≡ has_board word j
     bit j low = let within : nat_lt j BOARD_LIMIT ≡ true = grind (arith, nat_tests, low) in rw within refl
+
+-- ---- on one of some boards
+
+pub on-one : (kept : List BoardValue) (words : List ℕ) (h : History) (p i searched : ℕ) → KeepsLists kept (is_in words) h → searched < 2 ^ 64 → place_among (persons h) p ≡ Some i
+    → not (bit_and (slice_index_or words i 0) searched == 0) ≡ true → IsOnOne h p searched
+on-one kept words h p i searched keeps fits placed some =
+    let word = slice_index_or words i 0 in
+    let both = bit_and word searched in
+    let above : 0 < both = grind (arith, nat_tests, some) in
+    let first = first-board both above (omega (arith, and_le_r word searched, fits)) in
+    let j = trailing_zeros w64 both in
+    let has = both-have word searched j first.1 in
+    go j has.0 has.1 (slice_get (boards h) j) refl
+  where
+    go : (j : ℕ) → is_in words i j ≡ true → has_board searched j ≡ true → (b : Option (List ℕ)) → slice_get (boards h) j ≡ b → IsOnOne h p searched
+    go j listed has None at =
+        let past : length (boards h) ≤ j = omega (arith, λ (low : j < length (boards h)). false≢true (ap is_some (sym at) ∙ get-within (boards h) j low)) in
+        absurd (false≢true (sym (keeps.nowhere i j past) ∙ listed))
+    go j listed has (Some b) at = record { place = j; board = b; at = at; has = has; on_it = sym (keeps.on p i j b placed at) ∙ listed }

@@ -1,5 +1,5 @@
 -- The boards' members and who is on which board, beside what a history says.
-use Rattle.std.specs.Prelude.{◌≡◌, ℕ, ◌≤◌, Bool, false, Option, None, Some, List, [], length, if◌then◌else◌}
+use Rattle.std.specs.Prelude.{◌≡◌, ℕ, ◌≤◌, ◌==◌, Bool, true, false, not, bit_and, slice_index_or, Option, None, Some, List, [], length, if◌then◌else◌}
 use Rattle.std.specs.List.{slice_get}
 use Rattle.std.specs.Option.{option_map}
 use Rattle.rest_rules.specs.Rest.{rest_end}
@@ -17,7 +17,7 @@ use Rattle.desk_model.specs.Offers.{open_offer}
 use Rattle.desk_model.specs.Boards.{is_on, order}
 use Rattle.desk_model.specs.Duty.{events, in_tour}
 use Rattle.desk_register.specs.Among.{place_among, board_place}
-use Rattle.desk_lists.specs.Places.{is_in}
+use Rattle.desk_lists.specs.Places.{has_board, is_in}
 use Rattle.desk_lists.specs.declared.named.Named.{Named}
 use Rattle.desk_lists.specs.declared.named.TheConstants.{NEVER}
 use Rattle.desk_lists.specs.declared.lists.Lists.{Lists}
@@ -57,6 +57,18 @@ words_kept l = l.listings.words.items
 pub record Keeps (l : Lists) (h : History) : Type 0 where
   pub lists : KeepsLists (boards_kept l) (is_in (words_kept l)) h
   pub words : length (words_kept l) ≡ PERSON_LIMIT
+
+-- the person at this place is kept as on one of the boards of the word
+abbrev pub is_on_one : Lists → ℕ → ℕ → Bool
+is_on_one l i boards = not (bit_and (slice_index_or (words_kept l) i 0) boards == 0)
+
+-- the person is on a board that the word has
+pub record IsOnOne (h : History) (p word : ℕ) : Type 0 where
+  pub place : ℕ
+  pub board : List ℕ
+  pub at : slice_get (boards h) place ≡ Some board
+  pub has : has_board word place ≡ true
+  pub on_it : is_on h p board ≡ true
 
 -- ---- what an entry names
 

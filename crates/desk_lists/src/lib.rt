@@ -10,6 +10,8 @@ mod lists_reads;
 mod named;
 mod orders;
 
+pub use laws::who_is_kept_on_a_board_is_on_it;
+pub use listings::with_board;
 pub use lists::Lists;
 pub use named::{NEVER, Named};
 

@@ -23,8 +23,8 @@ pub(crate) fn first_board(word: u64) -> usize
     word.trailing_zeros() as usize
 }
 
-/// The word with the board at this place, or without it.
-pub(crate) fn with_board(word: u64, board: usize, on: bool) -> u64
+/// The word with the board at this place, below 64, or without it.
+pub fn with_board(word: u64, board: usize, on: bool) -> u64
     requires { board < BOARD_LIMIT }
     ensures lesser { on ≡ false → has_board word board ≡ true → result < word }
     ensures has { (j : ℕ) → has_board result j ≡ (if nat_eq board j then on else has_board word j) }

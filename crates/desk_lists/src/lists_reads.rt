@@ -6,7 +6,7 @@ ghost use Rattle.desk_model.specs.Register.{persons, boards};
 ghost use Rattle.desk_model.specs.Boards.{is_on, boards_of, links, order};
 ghost use Rattle.desk_model.specs.LookAnswer.{member_at};
 ghost use Rattle.desk_register.specs.Among.{place_among, board_place};
-ghost use Rattle.desk_lists.specs.Lists.{boards_kept, Keeps};
+ghost use Rattle.desk_lists.specs.Lists.{boards_kept, Keeps, is_on_one};
 
 use crate::board_changes::has_board;
 use crate::lists::Lists;
@@ -35,6 +35,13 @@ impl Lists {
             → board_place (boards h) b ≡ Some board → result ≡ is_on h p b }
     {
         has_board(self.listings.of(Some(person)), board)
+    }
+
+    /// Whether the person at this place among all is on one of the boards that the word has, each as a bit by its place among all.
+    pub fn is_on_one(&self, person: usize, boards: u64) -> bool
+        ensures { result ≡ is_on_one self.now person boards }
+    {
+        self.listings.of(Some(person)) & boards != 0
     }
 
     /// On how many boards the person at this place among all is.

@@ -1,7 +1,10 @@
 -- A search of boards by who is ready, beside the chain of a vacancy.
-use Rattle.std.proofs.Common.{◌≡◌, ◌≤◌, ◌<◌, ℕ, ◌+◌, Bool, true, false, cond, Option, None, Some, is_some, is_none, List, [], ◌∷◌, drop, get_or, length, refl, sym, ap, subst, ◌∙◌, arith, append-nil}
-use Rattle.std.specs.Option.{option_map}
-use Rattle.std.specs.List.{All, find}
+use Rattle.std.proofs.Common.{◌≡◌, ◌≤◌, ◌<◌, ℕ, ◌+◌, ◌*◌, ◌^◌, suc, Bool, true, false, ◌||◌, ◌&&◌, cond, nat_eq, filter, Option, None, Some, is_some, is_none, List, [], ◌∷◌, drop, get_or, length, refl, sym, ap, subst, ◌∙◌, arith, append-nil}
+use Rattle.std.specs.Option.{option_map, option_map_or}
+use Rattle.std.specs.List.{All, find, list_any, slice_get}
+use Rattle.std.proofs.lemmas.Bool.{false≢true}
+use Rattle.std.proofs.lemmas.Bool.Decides.{nat_tests}
+use Rattle.std.proofs.lemmas.Option.{same_Some}
 use Rattle.std.proofs.lemmas.List.{at_drop_more}
 use Rattle.std.proofs.lemmas.List.Elements.{All-nil, All-cons}
 use Rattle.rest_rules.specs.Rest.{rest_end}
@@ -9,19 +12,27 @@ use Rattle.denial_rules.specs.declared.bar.Bar.{Bar}
 use Rattle.pool_board.specs.Board.{BoardValue}
 use Rattle.pool_board.specs.Members.{persons as members_in}
 use Rattle.vacancy_fill.specs.declared.fill.Found.{Found}
-use Rattle.vacancy_fill.specs.Chain.{members_at, places, chain_from, first_free as first_found, BarsUnready, most_steps}
+use Rattle.vacancy_fill.specs.Chain.{members_at, places, chain_from, first_free as first_found, BarsUnready, is_passed_over, passed_over, most_steps}
 use Rattle.desk_model.specs.declared.link.Link.{Link}
 use Rattle.desk_model.specs.declared.person.Person.{Person}
 use Rattle.desk_model.specs.Job.{JobValue}
 use Rattle.desk_model.specs.History.{History}
-use Rattle.desk_model.specs.Register.{person_of, boards}
-use Rattle.desk_model.specs.Boards.{links, order}
+use Rattle.desk_model.specs.Register.{person_of, persons, boards}
+use Rattle.slot_tree.specs.declared.slot.Slot.{Slot}
+use Rattle.slot_tree.specs.Slots.{is_ready}
+use Rattle.desk_model.specs.Boards.{is_on, links, order}
+use Rattle.desk_model.specs.Offers.{is_of}
 use Rattle.desk_model.specs.Duty.{events, in_tour}
 use Rattle.desk_model.specs.Bars.{bar_of, may_have, is_free}
-use Rattle.desk_register.specs.Among.{board_place}
+use Rattle.desk_register.specs.Among.{place_among, board_place}
 use Rattle.desk_lists.specs.declared.named.TheConstants.{NEVER}
-use Rattle.desk_lists.specs.Lists.{KeepsLists}
-use Rattle.fast_core.specs.Search.{bar_by, bar_for, board_steps, chain_steps}
+use Rattle.desk_lists.specs.Places.{has_board}
+use Rattle.desk_lists.specs.declared.lists.Lists.{Lists}
+use Rattle.desk_lists.specs.Lists.{KeepsLists, Keeps, is_on_one, IsOnOne}
+use Rattle.fast_core.specs.declared.desk.Desk.{Desk}
+use Rattle.fast_core.specs.Desk.{Tells}
+use Rattle.desk_lists.proofs.BitLemmas.{no-board}
+use Rattle.fast_core.specs.Search.{bar_by, bar_for, bar_unless, was_searched, HasSearched, board_steps, chain_steps}
 use Rattle.fast_core.proofs.OfferLemmas.{code-at}
 
 -- the law: who isn't ready is barred
@@ -49,6 +60,34 @@ bar_for-free h m job p = go (person_of h p)
     go None = refl
     go (Some person) = refl
 
+-- a judge agrees with what bars persons on who has a bar
+abbrev pub Agrees : (ℕ → Option Bar) → History → ℕ → JobValue → Type 0
+Agrees barred h m job = (p : ℕ) → is_some (barred p) ≡ is_some (bar_for h m job p)
+
+-- so does one that bars whom it need not judge again
+pub unless-agrees : (searched : Bool) (bar : Option Bar) → (searched ≡ true → is_some bar ≡ true) → is_some (bar_unless searched bar) ≡ is_some bar
+unless-agrees true bar some = sym (some refl)
+unless-agrees false bar some = refl
+
+none-some : (a b : Option Bar) → is_some a ≡ is_some b → is_none a ≡ is_none b
+none-some None None same = refl
+none-some None (Some y) same = absurd (false≢true same)
+none-some (Some x) None same = absurd (false≢true (sym same))
+none-some (Some x) (Some y) same = refl
+
+-- as many are passed over
+over-same : (barred other : ℕ → Option Bar) (m : ℕ) (members : List Slot) → ((p : ℕ) → is_some (barred p) ≡ is_some (other p)) → passed_over barred m members ≡ passed_over other m members
+over-same barred other m [] same = refl
+over-same barred other m (s ∷ members) same =
+    ap (λ t. length (cond (is_ready m (Some s) && t) (s ∷ filter (is_passed_over barred m) members) (filter (is_passed_over barred m) members))) (same s.person)
+    ∙ go (is_ready m (Some s) && is_some (other s.person)) (over-same barred other m members same)
+  where
+    go : (t : Bool) → passed_over barred m members ≡ passed_over other m members
+        → length (cond t (s ∷ filter (is_passed_over barred m) members) (filter (is_passed_over barred m) members))
+        ≡ length (cond t (s ∷ filter (is_passed_over other m) members) (filter (is_passed_over other m) members))
+    go true rest = ap suc rest
+    go false rest = rest
+
 abbrev pub link_at : List ℕ → Found → Link
 link_at b f = record { board = b; position = f.position; person = f.person }
 
@@ -65,13 +104,13 @@ find-places barred free same b k i (p ∷ ps) = go (free p) (same p) (find-place
     go false is rest = rw is rest
 
 -- what a search of one board finds is the first of it who may have the job
-pub found-on : (h : History) (m : ℕ) (job : JobValue) (kept : List BoardValue) (on : ℕ → ℕ → Bool) (b : List ℕ) (j : ℕ) (found : Option Found) → KeepsLists kept on h
-    → board_place (boards h) b ≡ Some j → found ≡ first_found (bar_for h m job) (chain_from kept 0 (j ∷ []))
+pub found-on : (h : History) (m : ℕ) (job : JobValue) (kept : List BoardValue) (on : ℕ → ℕ → Bool) (b : List ℕ) (j : ℕ) (found : Option Found) (barred : ℕ → Option Bar) → Agrees barred h m job
+    → KeepsLists kept on h → board_place (boards h) b ≡ Some j → found ≡ first_found barred (chain_from kept 0 (j ∷ []))
     → option_map (link_at b) found ≡ find (λ link. is_free h m job link.person) (links b 1 (order h b))
-found-on h m job kept on b j found lists at is =
-    ap (option_map (link_at b)) (is ∙ ap (find (λ f. is_none (bar_for h m job f.person))) (append-nil (places 0 1 (members_in (members_at kept j)))
+found-on h m job kept on b j found barred agrees lists at is =
+    ap (option_map (link_at b)) (is ∙ ap (find (λ f. is_none (barred f.person))) (append-nil (places 0 1 (members_in (members_at kept j)))
     ∙ ap (places 0 1) (lists.order j b (code-at (boards h) b j at))))
-    ∙ find-places (bar_for h m job) (is_free h m job) (bar_for-free h m job) b 0 1 (order h b)
+    ∙ find-places barred (is_free h m job) (λ p. none-some (barred p) (bar_for h m job p) (agrees p) ∙ bar_for-free h m job p) b 0 1 (order h b)
 
 pub found-some : (b : List ℕ) (found : Option Found) (f : Found) (whole : Option Link) → found ≡ Some f → option_map (link_at b) found ≡ whole
     → Some (record { board = b; position = f.position; person = f.person }) ≡ whole
@@ -87,28 +126,91 @@ chain_steps-next kept barred m codes chain i b within is =
     at_drop_more (chain_steps kept barred m codes) chain i b within ∙ ap (λ a. chain_steps kept barred m codes (a ∷ drop (i + 1) chain)) (sym is)
 
 -- the members of one board, by themselves
-alone-unready : (h : History) (m : ℕ) (job : JobValue) (kept seen : List BoardValue) (on : ℕ → ℕ → Bool) (j : ℕ) → BarsTours h → BarsRest h → KeepsLists kept on h → seen ≡ kept
-    → All (λ index. BarsUnready (bar_for h m job) m (members_at seen index)) (j ∷ [])
-alone-unready h m job kept seen on j tours rest lists same =
-    subst (λ ks. All (λ index. BarsUnready (bar_for h m job) m (members_at ks index)) (j ∷ [])) (sym same)
-    (All-cons (λ index. BarsUnready (bar_for h m job) m (members_at kept index)) j [] (members-unready h m job kept on j tours rest lists)
-    (All-nil (λ index. BarsUnready (bar_for h m job) m (members_at kept index))))
+alone-unready : (h : History) (m : ℕ) (job : JobValue) (kept seen : List BoardValue) (on : ℕ → ℕ → Bool) (j : ℕ) (barred : ℕ → Option Bar) → Agrees barred h m job → BarsTours h → BarsRest h
+    → KeepsLists kept on h → seen ≡ kept → All (λ index. BarsUnready barred m (members_at seen index)) (j ∷ [])
+alone-unready h m job kept seen on j barred agrees tours rest lists same =
+    subst (λ ks. All (λ index. BarsUnready barred m (members_at ks index)) (j ∷ [])) (sym same)
+    (All-cons (λ index. BarsUnready barred m (members_at kept index)) j [] (λ p ready at below. agrees p ∙ members-unready h m job kept on j tours rest lists p ready at below)
+    (All-nil (λ index. BarsUnready barred m (members_at kept index))))
 
 -- so what is found of them is the first who may have the job
-pub found-first : (h : History) (m : ℕ) (job : JobValue) (kept seen : List BoardValue) (on : ℕ → ℕ → Bool) (b : List ℕ) (j : ℕ) (found : Option Found) → BarsTours h → BarsRest h
-    → KeepsLists kept on h → seen ≡ kept → board_place (boards h) b ≡ Some j
-    → (All (λ index. BarsUnready (bar_for h m job) m (members_at seen index)) (j ∷ []) → found ≡ first_found (bar_for h m job) (chain_from seen 0 (j ∷ [])))
+pub found-first : (h : History) (m : ℕ) (job : JobValue) (kept seen : List BoardValue) (on : ℕ → ℕ → Bool) (b : List ℕ) (j : ℕ) (found : Option Found) (barred : ℕ → Option Bar)
+    → Agrees barred h m job → BarsTours h → BarsRest h → KeepsLists kept on h → seen ≡ kept → board_place (boards h) b ≡ Some j
+    → (All (λ index. BarsUnready barred m (members_at seen index)) (j ∷ []) → found ≡ first_found barred (chain_from seen 0 (j ∷ [])))
     → option_map (link_at b) found ≡ find (λ link. is_free h m job link.person) (links b 1 (order h b))
-found-first h m job kept seen on b j found tours rest lists same at searched =
-    found-on h m job kept on b j found lists at
-    (searched (alone-unready h m job kept seen on j tours rest lists same) ∙ ap (λ ks. first_found (bar_for h m job) (chain_from ks 0 (j ∷ []))) same)
+found-first h m job kept seen on b j found barred agrees tours rest lists same at searched =
+    found-on h m job kept on b j found barred agrees lists at
+    (searched (alone-unready h m job kept seen on j barred agrees tours rest lists same) ∙ ap (λ ks. first_found barred (chain_from ks 0 (j ∷ []))) same)
 
 -- and no more is read than its members give
-pub found-steps : (h : History) (m : ℕ) (job : JobValue) (kept seen : List BoardValue) (on : ℕ → ℕ → Bool) (b : List ℕ) (j old new : ℕ) → BarsTours h → BarsRest h
-    → KeepsLists kept on h → seen ≡ kept → board_place (boards h) b ≡ Some j
-    → (All (λ index. BarsUnready (bar_for h m job) m (members_at seen index)) (j ∷ []) → new ≤ old + most_steps (bar_for h m job) m seen (j ∷ []))
+pub found-steps : (h : History) (m : ℕ) (job : JobValue) (kept seen : List BoardValue) (on : ℕ → ℕ → Bool) (b : List ℕ) (j old new : ℕ) (barred : ℕ → Option Bar)
+    → Agrees barred h m job → BarsTours h → BarsRest h → KeepsLists kept on h → seen ≡ kept → board_place (boards h) b ≡ Some j
+    → (All (λ index. BarsUnready barred m (members_at seen index)) (j ∷ []) → new ≤ old + most_steps barred m seen (j ∷ []))
     → new ≤ old + board_steps kept (bar_for h m job) m (board_place (boards h) b)
-found-steps h m job kept seen on b j old new tours rest lists same at searched =
-    let cost : new ≤ old + most_steps (bar_for h m job) m kept (j ∷ []) =
-    subst (λ ks. new ≤ old + most_steps (bar_for h m job) m ks (j ∷ [])) same (searched (alone-unready h m job kept seen on j tours rest lists same)) in
-    rw at (omega (arith, cost))
+found-steps h m job kept seen on b j old new barred agrees tours rest lists same at searched =
+    let cost : new ≤ old + most_steps barred m kept (j ∷ []) =
+    subst (λ ks. new ≤ old + most_steps barred m ks (j ∷ [])) same (searched (alone-unready h m job kept seen on j barred agrees tours rest lists same)) in
+    let over : passed_over barred m (members_at kept j) ≡ passed_over (bar_for h m job) m (members_at kept j) = over-same barred (bar_for h m job) m (members_at kept j) agrees in
+    rw at (omega (arith, cost, ap (λ n. (n + 1) * (4 * (10 + 1))) over))
+
+-- ---- boards that were searched
+
+-- where nobody on a board may have the job, each has a bar
+all-barred : (h : History) (m : ℕ) (job : JobValue) (b : List ℕ) (p : ℕ) (ps : List ℕ) (n : ℕ) → list_any (nat_eq p) ps ≡ true
+    → None ≡ find (λ link. is_free h m job link.person) (links b n ps) → is_free h m job p ≡ false
+all-barred h m job b p [] n there none = absurd (false≢true there)
+all-barred h m job b p (q ∷ ps) n there none = go (nat_eq p q) (is_free h m job q) refl refl there none (all-barred h m job b p ps (n + 1))
+  where
+    go : (here free : Bool) → nat_eq p q ≡ here → is_free h m job q ≡ free → (here || list_any (nat_eq p) ps) ≡ true
+        → None ≡ cond free (Some (record { board = b; position = n; person = q })) (find (λ link. is_free h m job link.person) (links b (n + 1) ps))
+        → (list_any (nat_eq p) ps ≡ true → None ≡ find (λ link. is_free h m job link.person) (links b (n + 1) ps) → is_free h m job p ≡ false)
+        → is_free h m job p ≡ false
+    go here true at is there none rest = absurd (false≢true (ap is_some none))
+    go true false at is there none rest = let same : p ≡ q = grind (arith, nat_tests, at) in ap (is_free h m job) same ∙ is
+    go false false at is there none rest = rest there none
+
+some-free : (bar : Option Bar) → is_none bar ≡ false → is_some bar ≡ true
+some-free None e = absurd (false≢true (sym e))
+some-free (Some x) e = refl
+
+-- none was searched yet
+pub searched-none : (h : History) (m : ℕ) (job : JobValue) → HasSearched h m job 0
+searched-none h m job = record { fits = omega arith; barred = λ p on. absurd (false≢true (sym (no-board on.place) ∙ on.has)) }
+
+-- a board more
+pub searched-more : (h : History) (m : ℕ) (job : JobValue) (searched later : ℕ) (b : List ℕ) → ((p : ℕ) → list_any (nat_eq p) (order h b) ≡ is_on h p b) → later < 2 ^ 64
+    → HasSearched h m job searched → ((j : ℕ) → has_board later j ≡ (is_of j (board_place (boards h) b) || has_board searched j))
+    → None ≡ find (λ link. is_free h m job link.person) (links b 1 (order h b)) → HasSearched h m job later
+searched-more h m job searched later b those fits before has none = record {
+  fits = fits;
+  barred = λ p on. go p on (board_place (boards h) b) refl (sym (has on.place) ∙ on.has);
+}
+  where
+    here-barred : (p : ℕ) → is_on h p b ≡ true → is_some (bar_for h m job p) ≡ true
+    here-barred p here = some-free (bar_for h m job p) (bar_for-free h m job p ∙ all-barred h m job b p (order h b) 1 (those p ∙ here) none)
+
+    older : (p : ℕ) (on : IsOnOne h p later) → has_board searched on.place ≡ true → is_some (bar_for h m job p) ≡ true
+    older p on was = before.barred p (record { place = on.place; board = on.board; at = on.at; has = was; on_it = on.on_it })
+
+    by_bit : (p : ℕ) (on : IsOnOne h p later) (j : ℕ) (here : Bool) → board_place (boards h) b ≡ Some j → nat_eq j on.place ≡ here → (here || has_board searched on.place) ≡ true
+        → is_some (bar_for h m job p) ≡ true
+    by_bit p on j true at same is =
+        let place : j ≡ on.place = grind (arith, nat_tests, same) in
+        let board : on.board ≡ b = same_Some on.board b (sym on.at ∙ ap (slice_get (boards h)) (sym place) ∙ code-at (boards h) b j at) in
+        here-barred p (ap (is_on h p) (sym board) ∙ on.on_it)
+    by_bit p on j false at other is = older p on is
+
+    go : (p : ℕ) (on : IsOnOne h p later) (at : Option ℕ) → board_place (boards h) b ≡ at → (is_of on.place at || has_board searched on.place) ≡ true → is_some (bar_for h m job p) ≡ true
+    go p on None at is = older p on is
+    go p on (Some j) at is = by_bit p on j (nat_eq j on.place) at refl is
+
+-- the law: who is kept as on one of some boards is on it
+abbrev pub KeptIsOn : Type 0
+KeptIsOn = (l : Lists) (h : History) (p i word : ℕ) → Keeps l h → word < 2 ^ 64 → place_among (persons h) p ≡ Some i → is_on_one l i word ≡ true → IsOnOne h p word
+
+pub was-on : KeptIsOn → (d : Desk) (h : History) (p searched : ℕ) → Tells d h → searched < 2 ^ 64 → was_searched d h searched p ≡ true → IsOnOne h p searched
+was-on law d h p searched tells fits was = go (place_among (persons h) p) refl was
+  where
+    go : (at : Option ℕ) → place_among (persons h) p ≡ at → option_map_or (λ i. is_on_one d.lists i searched) at false ≡ true → IsOnOne h p searched
+    go None at was = absurd (false≢true was)
+    go (Some i) at was = law d.lists h p i searched tells.lists fits at was

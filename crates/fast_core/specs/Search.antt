@@ -1,5 +1,6 @@
 -- Who may have a vacancy, for a search of its chain, and how much of the boards that reads.
-use Rattle.std.specs.Prelude.{◌≡◌, ℕ, ◌+◌, ◌*◌, Option, None, Some, List, [], ◌∷◌}
+use Rattle.std.specs.Prelude.{◌≡◌, ℕ, ◌+◌, ◌*◌, ◌<◌, ◌^◌, Bool, true, false, is_some, Option, None, Some, List, [], ◌∷◌}
+use Rattle.std.specs.Option.{option_map_or}
 use Rattle.denial_rules.specs.declared.bar.Bar.{Bar}
 use Rattle.denial_rules.specs.declared.bar.Bar.TheVariants as bar
 use Rattle.pool_board.specs.Board.{BoardValue}
@@ -7,11 +8,11 @@ use Rattle.vacancy_fill.specs.Chain.{members_at, passed_over}
 use Rattle.desk_model.specs.declared.person.Person.{Person}
 use Rattle.desk_model.specs.Job.{JobValue}
 use Rattle.desk_model.specs.History.{History}
-use Rattle.desk_model.specs.Register.{person_of, boards}
+use Rattle.desk_model.specs.Register.{person_of, persons, boards}
 use Rattle.desk_model.specs.Bars.{bar_of}
 use Rattle.desk_answers.specs.Asked.{IsAsked}
-use Rattle.desk_register.specs.Among.{board_place}
-use Rattle.desk_lists.specs.Lists.{boards_kept}
+use Rattle.desk_register.specs.Among.{place_among, board_place}
+use Rattle.desk_lists.specs.Lists.{boards_kept, is_on_one, IsOnOne}
 use Rattle.fast_core.specs.Desk.{Tells}
 use Rattle.fast_core.specs.declared.desk.Desk.{Desk}
 
@@ -28,11 +29,25 @@ pub record Asks (d : Desk) (m : ℕ) (job : JobValue) (h : History) : Type 0 whe
   pub tells : Tells d h
   pub asked : IsAsked h m job
 
--- that is so, and each person is barred so
-pub record Judges (d : Desk) (m : ℕ) (job : JobValue) (barred : ℕ → Option Bar) : Type 0 where
+-- the person is kept as on one of the boards that were searched, each a bit by its place among all
+abbrev pub was_searched : Desk → History → ℕ → ℕ → Bool
+was_searched d h searched p = option_map_or (λ i. is_on_one d.lists i searched) (place_among (persons h) p) false
+
+-- who is on one of them is barred
+pub record HasSearched (h : History) (m : ℕ) (job : JobValue) (searched : ℕ) : Type 0 where
+  pub fits : searched < 2 ^ 64
+  pub barred : (p : ℕ) → IsOnOne h p searched → is_some (bar_for h m job p) ≡ true
+
+-- so they need not be judged again
+abbrev pub bar_unless : Bool → Option Bar → Option Bar
+bar_unless true other = Some bar.MarkedOff
+bar_unless false other = other
+
+-- the desk tells of a history in which the vacancy is asked about, and each person is barred so
+pub record Judges (d : Desk) (m : ℕ) (job : JobValue) (searched : ℕ) (barred : ℕ → Option Bar) : Type 0 where
   pub history : History
   pub asks : Asks d m job history
-  pub bars : (p : ℕ) → barred p ≡ bar_for history m job p
+  pub bars : (p : ℕ) → barred p ≡ bar_unless (was_searched d history searched p) (bar_for history m job p)
 
 -- a search of a board of 2^10 slots reads at most 4 * (10 + 1) nodes for each member who is ready at the moment and has a bar, and
 -- as many once more

@@ -1,15 +1,19 @@
 //! Who is on which board, and where.
-ghost use Rattle.std.specs.Prelude.{◌≡◌, ◌<◌, IfSome, length};
+ghost use Rattle.std.specs.Prelude.{◌≡◌, ◌<◌, ◌||◌, ℕ, IfSome, length};
 ghost use Rattle.desk_model.specs.declared.limits.TheConstants.{BOARD_LIMIT};
 ghost use Rattle.desk_model.specs.History.{History};
 ghost use Rattle.desk_model.specs.Register.{persons, boards};
 ghost use Rattle.desk_model.specs.Boards.{is_on, boards_of, order};
 ghost use Rattle.desk_model.specs.LookAnswer.{member_at};
 ghost use Rattle.desk_register.specs.Among.{place_among, board_place};
+ghost use Rattle.desk_model.specs.Offers.{is_of};
+ghost use Rattle.desk_lists.specs.Places.{has_board};
 ghost use Rattle.fast_core.specs.Desk.{Tells};
+ghost use Rattle.fast_core.specs.Search.{was_searched};
 
 use crate::desk::Desk;
 use desk_base::{Code, PersonNo};
+use desk_lists::with_board;
 use desk_model::who_is_on_a_board_is_listed;
 use desk_register::who_is_enrolled_has_a_place;
 
@@ -42,6 +46,27 @@ impl Desk {
             return false;
         };
         self.lists.is_on(place, at)
+    }
+
+    /// Whether the person is on one of the boards that the word has, each as a bit by its place among all.
+    pub fn is_on_one(&self, person: PersonNo, boards: u64) -> bool
+        ensures { (h : History) → Tells self.now h → result ≡ was_searched self.now h boards person }
+    {
+        match self.person_place(person) {
+            Some(place) => self.lists.is_on_one(place, boards),
+            None => false,
+        }
+    }
+
+    /// The word with this board, too.
+    pub fn with_board(&self, word: u64, board: &Code) -> u64
+        ensures { (h : History) → Tells self.now h → (j : ℕ)
+            → has_board result j ≡ (is_of j (board_place (boards h) board.now) || has_board word j) }
+    {
+        match self.board_place(board) {
+            Some(place) => with_board(word, place, true),
+            None => word,
+        }
     }
 
     /// On how many boards the person is.

@@ -1,5 +1,4 @@
 //! What a desk tells of the history that it stands for.
-use crate::call::Call;
 use crate::looks::Looks;
 use denial_rules::Bar;
 use desk_answers::Reads;
@@ -138,12 +137,7 @@ impl<L: Ledger> Reads for Looks<'_, L> {
     }
 
     fn first_free(&self, work: &mut Steps<L>, moment: Minute, job: &Job) -> Option<Link> {
-        let call = Call {
-            desk: self.desk,
-            moment,
-            job,
-        };
-        call.first(work)
+        self.desk.first_free(moment, job, work)
     }
 
     fn place_in(&self, _work: &mut Steps<L>, boards: &Chain, person: PersonNo) -> Option<Link> {

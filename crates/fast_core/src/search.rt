@@ -2,12 +2,16 @@
 ghost use Rattle.std.specs.Prelude.{◌≡◌, ◌≤◌, ◌+◌};
 ghost use Rattle.desk_model.specs.History.{History};
 ghost use Rattle.desk_model.specs.Bars.{first_free};
-ghost use Rattle.fast_core.specs.Search.{Asks, search_steps};
+ghost use Rattle.fast_core.specs.Search.{Asks, HasSearched, search_steps};
 
 use crate::call::Call;
+use crate::desk::Desk;
 use denial_rules::Bar;
-use desk_base::{Code, PersonNo};
-use desk_model::{Link, who_is_not_ready_is_barred, who_is_on_a_board_is_listed};
+use desk_base::{Code, Minute, PersonNo};
+use desk_lists::who_is_kept_on_a_board_is_on_it;
+use desk_model::{
+    Job, Link, order_is_by_rank, who_is_not_ready_is_barred, who_is_on_a_board_is_listed,
+};
 use desk_register::who_is_enrolled_has_a_place;
 use slot_tree::Steps;
 use std::sync::ledger::Ledger;
@@ -16,10 +20,14 @@ use vacancy_fill::{Judge, first};
 impl Judge for Call<'_> {
     ghost use Rattle.fast_core.specs.Search.{Judges};
 
-    ghost judges = { λ call barred. Judges call.desk.now call.moment call.job.now barred };
+    ghost judges = { λ call barred. Judges call.desk.now call.moment call.job.now call.searched barred };
 
     fn bar(&self, person: PersonNo) -> Option<Bar> {
-        self.desk.bar(self.moment, self.job, person)
+        if self.desk.is_on_one(person, self.searched) {
+            Some(Bar::MarkedOff)
+        } else {
+            self.desk.bar(self.moment, self.job, person)
+        }
     }
 }
 
@@ -35,11 +43,13 @@ impl Call<'_> {
     // The first place of the board whose person nothing bars; `None` where all are barred.
     fn first_on<L: Ledger>(&self, board: &Code, steps: &mut Steps<L>) -> Option<Link>
         ensures first { (h : History) → Asks self.now.desk.now self.now.moment self.now.job.now h
-            → result ≡ find (λ link. is_free h self.now.moment self.now.job.now link.person) (links board.now 1 (order h board.now)) }
+            → HasSearched h self.now.moment self.now.job.now self.now.searched → result ≡ find (λ link. is_free h self.now.moment self.now.job.now link.person) (links board.now 1 (order h board.now)) }
         ensures steps { (h : History) → Asks self.now.desk.now self.now.moment self.now.job.now h
+            → HasSearched h self.now.moment self.now.job.now self.now.searched
             → steps.new ≤ steps.old + board_steps (boards_kept self.now.desk.now.lists) (bar_for h self.now.moment self.now.job.now) self.now.moment (board_place (boards h) board.now) }
     {
         who_is_not_ready_is_barred();
+        who_is_kept_on_a_board_is_on_it();
         who_is_on_a_board_is_listed();
         who_is_enrolled_has_a_place();
         let Some(at) = self.desk.board_place(board) else {
@@ -58,20 +68,35 @@ impl Call<'_> {
             None => None,
         }
     }
+}
 
-    /// The first place of the job's chain whose person nothing bars; `None` where all are barred. The steps are nodes that searches
-    /// of boards read.
-    pub fn first<L: Ledger>(&self, steps: &mut Steps<L>) -> Option<Link>
-        ensures first { (h : History) → Asks self.now.desk.now self.now.moment self.now.job.now h
-            → result ≡ first_free h self.now.moment self.now.job.now }
-        ensures steps { (h : History) → Asks self.now.desk.now self.now.moment self.now.job.now h
-            → steps.new ≤ steps.old + search_steps self.now.desk.now h self.now.moment self.now.job.now }
+impl Desk {
+    /// The first place of the job's chain whose person nothing bars at this moment; `None` where all are barred. The steps are nodes
+    /// that searches of boards read. Who was barred on one board isn't judged again on the next.
+    pub fn first_free<L: Ledger>(
+        &self,
+        moment: Minute,
+        job: &Job,
+        steps: &mut Steps<L>,
+    ) -> Option<Link>
+        ensures first { (h : History) → Asks self.now moment job.now h → result ≡ first_free h moment job.now }
+        ensures steps { (h : History) → Asks self.now moment job.now h
+            → steps.new ≤ steps.old + search_steps self.now h moment job.now }
     {
-        let chain = self.job.chain();
+        order_is_by_rank();
+        let chain = job.chain();
+        let mut searched: u64 = 0;
         for board in chain.codes() {
-            if let Some(link) = self.first_on(board, steps) {
+            let call = Call {
+                desk: self,
+                moment,
+                job,
+                searched,
+            };
+            if let Some(link) = call.first_on(board, steps) {
                 return Some(link);
             }
+            searched = self.with_board(searched, board);
         }
         None
     }
