@@ -23,12 +23,12 @@ loop-stated-init g c =
 pub loop-stated-preserved : goal.loop-stated-preserved
 loop-stated-preserved g c =
     let before = c.loop-stated.invariant in
-    let next = day_history-next c.args.opening.now c.args.commands.now c.loop-stated.stated-index c.stated-item.result c.step.result
-    c.loop-stated-test.true c.stated-item.is (c.step.ensures.answer _ before.stands) in
+    let next = day_history-next c.args.opening.now c.args.commands.now c.loop-stated.stated-index c.stated-item.result c.step-entry.result
+    c.loop-stated-test.true c.stated-item.is (c.step-entry.ensures.answer _ before.stands) in
     record {
-      left = omega (arith, c.step.ensures.room, before.left);
-      stands = subst (g.C.DeskCore.stands c.step.new.self) next (c.step.ensures.stands _ before.stands);
-      gathered = Gathers-journal _ _ _ _ _ c.step.result _ _ _ next (c.as_slice-in-loop-stated.ensures.value ∙ c.fill_with_entry.ensures) before.gathered c.if-not-gather-2.ensures.all;
+      left = omega (arith, c.step-entry.ensures.room, before.left);
+      stands = subst (g.C.DeskCore.stands c.step-entry.new.self) next (c.step-entry.ensures.stands _ before.stands);
+      gathered = Gathers-journal _ _ _ _ _ c.step-entry.result _ _ _ next (c.as_slice-in-loop-stated.ensures.value ∙ c.fill_with_entry.ensures) before.gathered c.if-not-gather-2.ensures.all;
       room = omega (arith, before.room, c.if-not-gather-2.ensures.capacity);
       unfaulted = c.if-not-gather-2.ensures.no_fault ∙ before.unfaulted;
     }
