@@ -1,0 +1,58 @@
+-- What is found, as lines are read one after another.
+use Rattle.std.proofs.Common.{◌≡◌, ◌≢◌, ◌∙◌, ℕ, ◌==◌, Bool, true, false, not, nat_eq, List, [], ◌∷◌, ◌++◌, length, refl, sym, ap, arith, append_assoc, append-nil}
+use Rattle.std.proofs.lemmas.Bool.{false≢true}
+use Rattle.std.proofs.lemmas.Bool.Decides.{Decides-eqb}
+use Rattle.std.proofs.lemmas.Slice.Eq.{slice_eq-Decides}
+use Rattle.std.specs.Cmp.Lexicographic.{pointwise}
+use Rattle.std.proofs.lemmas.Grind.{flat_map-append}
+use Rattle.desk_model.specs.Entry.{EntryValue}
+use Rattle.desk_model.specs.History.{History, with_entry}
+use Rattle.desk_model.specs.Legal.{next}
+use Rattle.desk_model.specs.Journal.{opening_line, entry_line, entry_lines, journal}
+use Rattle.audit_desk.specs.Found.{outcome_of}
+
+-- an entry more is a line more
+pub journal-next : (h : History) (e : EntryValue) → journal (with_entry h e) ≡ journal h ++ entry_line e
+journal-next h e =
+    ap (λ t. opening_line h.opening ++ t) (flat_map-append entry_line h.entries (e ∷ []) ∙ ap (λ t. entry_lines h.entries ++ t) (append-nil (entry_line e)))
+    ∙ sym (append_assoc (opening_line h.opening) (entry_lines h.entries) (entry_line e))
+
+-- what was read goes on with the line of the entry that comes next
+pub journal-goes_on : (h : History) (e : EntryValue) (text left line behind : List ℕ) → text ≡ journal h ++ left → left ≡ line ++ behind → line ≡ entry_line e
+    → text ≡ journal (with_entry h e) ++ behind
+journal-goes_on h e text left line behind read parts is =
+    read ∙ ap (λ t. journal h ++ t) (parts ∙ ap (λ l. l ++ behind) is)
+    ∙ sym (append_assoc (journal h) (entry_line e) behind) ∙ ap (λ t. t ++ behind) (sym (journal-next h e))
+
+-- an entry with the outcome of the one that comes next is the one that comes next
+pub entry-same : (h : History) (e right : EntryValue) → right ≡ next h e.caller e.stated → outcome_of e ≡ outcome_of right → e ≡ right
+unfolding next
+entry-same h e right is same =
+    rw (is) (rw (ap (λ o. o.moment) (same ∙ ap outcome_of is), ap (λ o. o.reply) (same ∙ ap outcome_of is)) refl)
+
+-- texts that a comparison finds the same, or not
+pub same-text : (a b : List ℕ) → false ≡ not (pointwise nat_eq a b) → a ≡ b
+same-text a b e = (slice_eq-Decides Decides-eqb _ _ _ refl).0 (go (pointwise nat_eq a b) e)
+  where
+    go : (t : Bool) → false ≡ not t → t ≡ true
+    go true e = refl
+    go false e = absurd (false≢true e)
+
+pub other-text : (a b : List ℕ) → true ≡ not (pointwise nat_eq a b) → a ≢ b
+other-text a b e same = go (pointwise nat_eq a b) e ((slice_eq-Decides Decides-eqb a b (pointwise nat_eq a b) refl).1 same)
+  where
+    go : (t : Bool) → true ≡ not t → t ≡ true → ⊥
+    go true e is = false≢true (sym e)
+    go false e is = false≢true is
+
+-- what isn't empty has a byte
+pub some-left : (left : List ℕ) → false ≡ (length left == 0) → left ≢ []
+some-left [] e none = false≢true e
+some-left (b ∷ left) e none = omega (arith, ap length none)
+
+-- the text is the journal of a history that a desk stands for, which has so many entries, and what is left
+pub record Reached (Stands : History → Type 0) (text left : List ℕ) (count : ℕ) : Type 0 where
+  pub history : History
+  pub stands : Stands history
+  pub read : text ≡ journal history ++ left
+  pub count_is : count ≡ length history.entries

@@ -1,0 +1,19 @@
+//! The first line of a text.
+ghost use Rattle.std.specs.Prelude.{◌≡◌, ◌≢◌, ◌<◌, ◌++◌, ℕ, List, [], length};
+ghost use Rattle.desk_text.specs.Line.{IsLine};
+
+use desk_base::split_once;
+
+/// The first line of a text, with its line feed, and what is behind it. A text without a line feed is one line.
+pub(crate) fn first_line(text: &[u8]) -> (&[u8], &[u8])
+    ensures parts { text.now ≡ result.0.now ++ result.1.now }
+    ensures line { (line rest : List ℕ) → IsLine line → text.now ≡ line ++ rest
+        → (result.0.now ≡ line) × (result.1.now ≡ rest) }
+    ensures shorter { text.now ≢ [] → length result.1.now < length text.now }
+{
+    let (front, behind) = split_once(text, b'\n');
+    match behind {
+        Some(_) => text.split_at(front.len() + 1),
+        None => (text, &[]),
+    }
+}

@@ -1,0 +1,17 @@
+//! The audit of a journal: whether it is that of a legal history, and else which line is the first that is wrong.
+#![tactic(auto)]
+
+mod audit_entries;
+mod first_line;
+mod journal;
+mod laws;
+mod outcome;
+mod verdict;
+
+pub use journal::{BYTE_LIMIT, audit};
+pub use laws::an_audit_finds_one_verdict;
+pub use outcome::Outcome;
+pub use verdict::Verdict;
+
+#[cfg(test)]
+mod tests;
