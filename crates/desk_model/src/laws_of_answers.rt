@@ -14,8 +14,9 @@ ghost use Rattle.desk_model.specs.RestsOn.{RestsOn, MayOffer, IsListed};
 ghost use Rattle.desk_model.specs.Legal.{last_moment, IsNext, IsLegal};
 
 /// Some of what holds before an entry that is right and whose command is done: who is named is enrolled, who is enrolled and what
-/// is set up or made by it is new, and there is room for it, and whose offer it settles has that offer. And before one that offers a vacancy: it was made and has no open
-/// offer, and the person has none and is on the board that it is offered from. It does nothing: its clauses are the laws.
+/// is set up or made by it is new, and there is room for it, and whose offer it settles has that offer. And before one that offers
+/// a vacancy: it was made and has no open offer, and the person has none and is on the board that it is offered from. It does
+/// nothing: its clauses are the laws.
 pub fn what_is_done_rests_on()
     ensures done { (h : History) (e : EntryValue) → IsNext h e → is_done e.reply ≡ true → RestsOn h e.stated.cmd }
     ensures offered { (h : History) (e : EntryValue) (v p k : ℕ) (b : List ℕ) → IsLegal h → IsNext h e

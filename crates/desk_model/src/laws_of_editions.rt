@@ -51,7 +51,8 @@ pub fn a_decline_holds_for_eight_hours()
         → held h m job.chain p ≡ Some until → bar_of h m job p person ≢ None }
 {}
 
-/// A chain would hold a person, in the edition that knows holds, until the greatest of the ends by each of its boards alone. It does nothing: its clauses are the laws.
+/// A chain would hold a person, in the edition that knows holds, until the greatest of the ends by each of its boards alone. It does
+/// nothing: its clauses are the laws.
 pub fn a_hold_is_by_boards()
     ensures none { (h : History) (p : ℕ) → hold_end h [] p ≡ 0 }
     ensures more { (h : History) (p : ℕ) (b : List ℕ) (codes : List (List ℕ))

@@ -28,11 +28,11 @@ use Rattle.desk_register.specs.Among.{place_among, board_place}
 use Rattle.desk_lists.specs.declared.named.TheConstants.{NEVER}
 use Rattle.desk_lists.specs.Places.{has_board}
 use Rattle.desk_lists.specs.declared.lists.Lists.{Lists}
-use Rattle.desk_lists.specs.Lists.{KeepsLists, Keeps, is_on_one, IsOnOne}
+use Rattle.desk_lists.specs.Lists.{KeepsLists, Keeps, boards_kept, is_on_one, IsOnOne}
 use Rattle.fast_core.specs.declared.desk.Desk.{Desk}
 use Rattle.fast_core.specs.Desk.{Tells}
 use Rattle.desk_lists.proofs.BitLemmas.{no-board}
-use Rattle.fast_core.specs.Search.{bar_by, bar_for, bar_unless, was_searched, HasSearched, board_steps, chain_steps}
+use Rattle.fast_core.specs.Search.{bar_by, bar_for, bar_unless, was_searched, Asks, Judges, HasSearched, board_steps, chain_steps}
 use Rattle.fast_core.proofs.OfferLemmas.{code-at}
 
 -- the law: who isn't ready is barred
@@ -65,7 +65,7 @@ abbrev pub Agrees : (ℕ → Option Bar) → History → ℕ → JobValue → Ty
 Agrees barred h m job = (p : ℕ) → is_some (barred p) ≡ is_some (bar_for h m job p)
 
 -- so does one that bars whom it need not judge again
-pub unless-agrees : (searched : Bool) (bar : Option Bar) → (searched ≡ true → is_some bar ≡ true) → is_some (bar_unless searched bar) ≡ is_some bar
+unless-agrees : (searched : Bool) (bar : Option Bar) → (searched ≡ true → is_some bar ≡ true) → is_some (bar_unless searched bar) ≡ is_some bar
 unless-agrees true bar some = sym (some refl)
 unless-agrees false bar some = refl
 
@@ -134,7 +134,7 @@ alone-unready h m job kept seen on j barred agrees tours rest lists same =
     (All-nil (λ index. BarsUnready barred m (members_at kept index))))
 
 -- so what is found of them is the first who may have the job
-pub found-first : (h : History) (m : ℕ) (job : JobValue) (kept seen : List BoardValue) (on : ℕ → ℕ → Bool) (b : List ℕ) (j : ℕ) (found : Option Found) (barred : ℕ → Option Bar)
+found-first : (h : History) (m : ℕ) (job : JobValue) (kept seen : List BoardValue) (on : ℕ → ℕ → Bool) (b : List ℕ) (j : ℕ) (found : Option Found) (barred : ℕ → Option Bar)
     → Agrees barred h m job → BarsTours h → BarsRest h → KeepsLists kept on h → seen ≡ kept → board_place (boards h) b ≡ Some j
     → (All (λ index. BarsUnready barred m (members_at seen index)) (j ∷ []) → found ≡ first_found barred (chain_from seen 0 (j ∷ [])))
     → option_map (link_at b) found ≡ find (λ link. is_free h m job link.person) (links b 1 (order h b))
@@ -143,7 +143,7 @@ found-first h m job kept seen on b j found barred agrees tours rest lists same a
     (searched (alone-unready h m job kept seen on j barred agrees tours rest lists same) ∙ ap (λ ks. first_found barred (chain_from ks 0 (j ∷ []))) same)
 
 -- and no more is read than its members give
-pub found-steps : (h : History) (m : ℕ) (job : JobValue) (kept seen : List BoardValue) (on : ℕ → ℕ → Bool) (b : List ℕ) (j old new : ℕ) (barred : ℕ → Option Bar)
+found-steps : (h : History) (m : ℕ) (job : JobValue) (kept seen : List BoardValue) (on : ℕ → ℕ → Bool) (b : List ℕ) (j old new : ℕ) (barred : ℕ → Option Bar)
     → Agrees barred h m job → BarsTours h → BarsRest h → KeepsLists kept on h → seen ≡ kept → board_place (boards h) b ≡ Some j
     → (All (λ index. BarsUnready barred m (members_at seen index)) (j ∷ []) → new ≤ old + most_steps barred m seen (j ∷ []))
     → new ≤ old + board_steps kept (bar_for h m job) m (board_place (boards h) b)
@@ -208,9 +208,44 @@ searched-more h m job searched later b those fits before has none = record {
 abbrev pub KeptIsOn : Type 0
 KeptIsOn = (l : Lists) (h : History) (p i word : ℕ) → Keeps l h → word < 2 ^ 64 → place_among (persons h) p ≡ Some i → is_on_one l i word ≡ true → IsOnOne h p word
 
-pub was-on : KeptIsOn → (d : Desk) (h : History) (p searched : ℕ) → Tells d h → searched < 2 ^ 64 → was_searched d h searched p ≡ true → IsOnOne h p searched
+was-on : KeptIsOn → (d : Desk) (h : History) (p searched : ℕ) → Tells d h → searched < 2 ^ 64 → was_searched d h searched p ≡ true → IsOnOne h p searched
 was-on law d h p searched tells fits was = go (place_among (persons h) p) refl was
   where
     go : (at : Option ℕ) → place_among (persons h) p ≡ at → option_map_or (λ i. is_on_one d.lists i searched) at false ≡ true → IsOnOne h p searched
     go None at was = absurd (false≢true was)
     go (Some i) at was = law d.lists h p i searched tells.lists fits at was
+
+-- what a call bars that needs judge nobody again
+by : Desk → History → ℕ → JobValue → ℕ → ℕ → Option Bar
+by d h m job searched p = bar_unless (was_searched d h searched p) (bar_for h m job p)
+
+by-agrees : KeptIsOn → (d : Desk) (h : History) (m : ℕ) (job : JobValue) (searched : ℕ) → Asks d m job h → HasSearched h m job searched → Agrees (by d h m job searched) h m job
+unfolding by
+by-agrees law d h m job searched asks before p =
+    unless-agrees (was_searched d h searched p) (bar_for h m job p) (λ was. before.barred p (was-on law d h p searched asks.tells before.fits was))
+
+by-judges : (d : Desk) (h : History) (m : ℕ) (job : JobValue) (searched : ℕ) → Asks d m job h → Judges d m job searched (by d h m job searched)
+unfolding by
+by-judges d h m job searched asks = record { history = h; asks = asks; bars = λ p. refl }
+
+-- so the call finds the first of a board who may have the job
+pub call-first : KeptIsOn → (d : Desk) (h : History) (m : ℕ) (job : JobValue) (searched : ℕ) (seen : List BoardValue) (b : List ℕ) (j : ℕ) (found : Option Found) → BarsTours h → BarsRest h
+    → Asks d m job h → HasSearched h m job searched → seen ≡ boards_kept d.lists → board_place (boards h) b ≡ Some j
+    → ((barred : ℕ → Option Bar) → Judges d m job searched barred → All (λ index. BarsUnready barred m (members_at seen index)) (j ∷ [])
+    → found ≡ first_found barred (chain_from seen 0 (j ∷ [])))
+    → option_map (link_at b) found ≡ find (λ link. is_free h m job link.person) (links b 1 (order h b))
+call-first law d h m job searched seen b j found tours rest asks before same at finds =
+    let barred = by d h m job searched in
+    found-first h m job (boards_kept d.lists) seen _ b j found barred (by-agrees law d h m job searched asks before) tours rest asks.tells.lists.lists same at
+    (finds barred (by-judges d h m job searched asks))
+
+-- and reads no more than the board's members give
+pub call-steps : KeptIsOn → (d : Desk) (h : History) (m : ℕ) (job : JobValue) (searched : ℕ) (seen : List BoardValue) (b : List ℕ) (j old new : ℕ) → BarsTours h → BarsRest h
+    → Asks d m job h → HasSearched h m job searched → seen ≡ boards_kept d.lists → board_place (boards h) b ≡ Some j
+    → ((barred : ℕ → Option Bar) → Judges d m job searched barred → All (λ index. BarsUnready barred m (members_at seen index)) (j ∷ [])
+    → new ≤ old + most_steps barred m seen (j ∷ []))
+    → new ≤ old + board_steps (boards_kept d.lists) (bar_for h m job) m (board_place (boards h) b)
+call-steps law d h m job searched seen b j old new tours rest asks before same at reads =
+    let barred = by d h m job searched in
+    found-steps h m job (boards_kept d.lists) seen _ b j old new barred (by-agrees law d h m job searched asks before) tours rest asks.tells.lists.lists same at
+    (reads barred (by-judges d h m job searched asks))

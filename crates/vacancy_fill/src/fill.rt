@@ -22,8 +22,8 @@ pub struct Found {
 }
 
 /// The first of the chain whom nothing bars; `None` exactly where each has a bar: by every function from persons to bars that the
-/// judge agrees with and that gives a bar to each member of the chain's boards who isn't ready at the minute. The chain names at most 4 boards by their indexes. The
-/// steps are nodes that searches of boards read.
+/// judge agrees with and that gives a bar to each member of the chain's boards who isn't ready at the minute. The chain names at
+/// most 4 boards by their indexes. The steps are nodes that searches of boards read.
 pub fn first<J: Judge, L: Ledger>(
     boards: &[Board],
     chain: &[u8],
