@@ -1,5 +1,5 @@
 -- What is found, as lines are read one after another.
-use Rattle.std.proofs.Common.{◌≡◌, ◌≢◌, ◌∙◌, ℕ, ◌==◌, Bool, true, false, not, nat_eq, List, [], ◌∷◌, ◌++◌, length, refl, sym, ap, arith, append_assoc, append-nil}
+use Rattle.std.proofs.Common.{◌≡◌, ◌≢◌, ◌∙◌, ℕ, ◌==◌, Bool, true, false, not, nat_eq, Some, List, [], ◌∷◌, ◌++◌, length, refl, sym, ap, subst, arith, append_assoc, append-nil}
 use Rattle.std.proofs.lemmas.Bool.{false≢true}
 use Rattle.std.proofs.lemmas.Bool.Decides.{Decides-eqb}
 use Rattle.std.proofs.lemmas.Slice.Eq.{slice_eq-Decides}
@@ -7,9 +7,13 @@ use Rattle.std.specs.Cmp.Lexicographic.{pointwise}
 use Rattle.std.proofs.lemmas.Grind.{flat_map-append}
 use Rattle.desk_model.specs.Entry.{EntryValue}
 use Rattle.desk_model.specs.History.{History, with_entry}
-use Rattle.desk_model.specs.Legal.{next}
+use Rattle.desk_model.specs.Fits.{Fits}
+use Rattle.desk_model.specs.Legal.{IsLegal, next}
 use Rattle.desk_model.specs.Journal.{opening_line, entry_line, entry_lines, journal}
-use Rattle.audit_desk.specs.Found.{outcome_of}
+use Rattle.desk_text.specs.Line.{IsLine}
+use Rattle.desk_text.specs.SpelledEntry.{IsEntryLine, statement_of}
+use Rattle.desk_text.specs.declared.statement.Statement.{Statement}
+use Rattle.audit_desk.specs.Found.{HasUnreadable, line_behind, outcome_of}
 
 -- an entry more is a line more
 pub journal-next : (h : History) (e : EntryValue) → journal (with_entry h e) ≡ journal h ++ entry_line e
@@ -23,6 +27,10 @@ pub journal-goes_on : (h : History) (e : EntryValue) (text left line behind : Li
 journal-goes_on h e text left line behind read parts is =
     read ∙ ap (λ t. journal h ++ t) (parts ∙ ap (λ l. l ++ behind) is)
     ∙ sym (append_assoc (journal h) (entry_line e) behind) ∙ ap (λ t. t ++ behind) (sym (journal-next h e))
+
+-- what comes next to who stated what by an entry
+pub next-statement : (h : History) (e right : EntryValue) (s : Statement) → Some s ≡ Some (statement_of e) → right ≡ next h s.caller s.stated → right ≡ next h e.caller e.stated
+next-statement h e right s same is = let it : s ≡ statement_of e = cc in subst (λ t. right ≡ next h t.caller t.stated) it is
 
 -- an entry with the outcome of the one that comes next is the one that comes next
 pub entry-same : (h : History) (e right : EntryValue) → right ≡ next h e.caller e.stated → outcome_of e ≡ outcome_of right → e ≡ right
@@ -56,3 +64,16 @@ pub record Reached (Stands : History → Type 0) (text left : List ℕ) (count :
   pub stands : Stands history
   pub read : text ≡ journal history ++ left
   pub count_is : count ≡ length history.entries
+
+-- what is behind the journal of a legal history that was read, and isn't the line of an entry
+pub HasUnreadable-line : (text left line behind : List ℕ) (h : History) (number : ℕ) → IsLegal h → text ≡ journal h ++ left → left ≢ []
+    → ((e : EntryValue) → Fits e → IsLine (entry_line e)) → ((front later : List ℕ) → IsLine front → left ≡ front ++ later → (line ≡ front) × (behind ≡ later))
+    → ((e : EntryValue) → IsEntryLine line e → ⊥) → number ≡ line_behind h → HasUnreadable text number
+HasUnreadable-line text left line behind h number legal read some ends first none is = record {
+  history = h;
+  rest = left;
+  begins = record { legal = legal; parts = read };
+  some = some;
+  none = λ e later fits begins. none e (record { valid = fits; line_is = (first (entry_line e) later (ends e fits) begins).0 });
+  line_is = is;
+}

@@ -1,13 +1,16 @@
 //! The lines behind the opening's, audited.
-ghost use Rattle.std.specs.Prelude.{◌≡◌, ◌≤◌, ◌<◌, ◌+◌, ◌^◌, ◌++◌, [], length};
+ghost use Rattle.std.specs.Prelude.{◌≡◌, ◌≢◌, ◌≤◌, ◌<◌, ◌+◌, ◌^◌, ◌++◌, ℕ, [], length, IfOk, IfErr};
 ghost use Rattle.desk_model.specs.History.{History};
 ghost use Rattle.desk_model.specs.Journal.{journal};
 ghost use Rattle.audit_desk.specs.Found.{Finds, outcome_of};
+ghost use Rattle.audit_desk.specs.Resumed.{Resumes};
 
 use crate::first_line::first_line;
 use crate::{Outcome, Verdict};
 use desk_model::{DeskCore, Entry};
-use desk_text::{each_line_ends_once, read_entry, write_entry};
+use desk_text::{
+    LastMinute, LineText, each_line_ends_once, fill_with_entry, read_entry, read_statement,
+};
 
 // What the desk answered by an entry.
 fn outcome_of(entry: &Entry) -> Outcome
@@ -19,30 +22,44 @@ fn outcome_of(entry: &Entry) -> Outcome
     }
 }
 
-/// What an audit finds in a journal, where this is behind the opening's line, and the desk was opened so and answered nothing yet.
-pub(crate) fn audit_entries<C: DeskCore>(core: &mut C, text: &[u8]) -> Verdict
+/// Audits a journal, where this is behind the opening's line, and the desk was opened so and answered nothing yet: how many
+/// entries it has, for which the desk stands then; or what is wrong in it.
+pub(crate) fn audit_entries<C: DeskCore>(core: &mut C, text: &[u8]) -> Result<u32, Verdict>
     requires few { length text.now + 2 < 2 ^ 32 }
     requires room { length text.now ≤ C.room core.old }
-    ensures { (h : History) → C.stands core.old h → h.entries ≡ [] → Finds (journal h ++ text.now) result }
+    ensures legal { IfOk result (λ count. (h : History) → C.stands core.old h → h.entries ≡ []
+        → Resumes (C.stands core.new) (journal h ++ text.now) count) }
+    ensures room { C.room core.old ≤ C.room core.new + length text.now }
+    ensures found { IfErr result (λ verdict. (h : History) → C.stands core.old h → h.entries ≡ []
+        → Finds (journal h ++ text.now) verdict) }
+    ensures wrong { IfErr result (λ verdict. (count : ℕ) → verdict ≢ Verdict.Legal count) }
 {
     each_line_ends_once();
     let mut left = text;
     let mut count: u32 = 0;
+    let mut right_line = LineText::new();
+    let mut read_last = LastMinute::new();
+    let mut stated_last = LastMinute::new();
+    let mut moment_last = LastMinute::new();
     while !left.is_empty() {
         let (line, behind) = first_line(left);
-        let Some(entry) = &read_entry(line) else {
-            return Verdict::Unreadable(count + 2);
+        let Some(statement) = read_statement(&mut read_last, line) else {
+            return Err(Verdict::Unreadable(count + 2));
         };
-        let right = core.step(entry.caller(), *entry.stated());
-        if line != write_entry(&right).as_slice() {
-            return Verdict::Wrong {
+        let right = core.step(statement.caller, statement.stated);
+        fill_with_entry(&mut right_line, &mut stated_last, &mut moment_last, &right);
+        if line != right_line.as_slice() {
+            let Some(entry) = &read_entry(line) else {
+                return Err(Verdict::Unreadable(count + 2));
+            };
+            return Err(Verdict::Wrong {
                 line: count + 2,
                 written: outcome_of(entry),
                 right: outcome_of(&right),
-            };
+            });
         }
         count += 1;
         left = behind;
     }
-    Verdict::Legal(count)
+    Ok(count)
 }

@@ -6,12 +6,16 @@ mod first_line;
 mod journal;
 mod laws;
 mod outcome;
+mod resumed;
 mod verdict;
+mod verdict_text;
 
-pub use journal::{BYTE_LIMIT, audit};
+pub use journal::{BYTE_LIMIT, audit, resume};
 pub use laws::an_audit_finds_one_verdict;
 pub use outcome::Outcome;
+pub use resumed::Resumed;
 pub use verdict::Verdict;
+pub use verdict_text::write_verdict;
 
 #[cfg(test)]
 mod tests;

@@ -1,7 +1,7 @@
 //! What an audit finds in one journal, in that journal cut anywhere, and in others that are wrong.
-use crate::{BYTE_LIMIT, Outcome, Verdict, audit};
-use desk_base::{Code, Minute, PersonNo};
-use desk_model::Reply;
+use crate::{BYTE_LIMIT, Outcome, Verdict, audit, resume, write_verdict};
+use desk_base::{Code, Minute, PersonNo, VacNo};
+use desk_model::{Cmd, DeskCore, Reply, Stated};
 use std::alloc::Global;
 use std::test::Fail;
 
@@ -59,6 +59,17 @@ fn offered(minute: &[u8], person: u32) -> Option<Outcome> {
     })
 }
 
+// What a person states who accepts a vacancy.
+fn accept(minute: &[u8], vac: u32, person: u32) -> Option<Stated> {
+    Stated::new(
+        Minute::read(minute)?,
+        Cmd::Accept {
+            vac: VacNo::new(vac)?,
+            person: PersonNo::new(person)?,
+        },
+    )
+}
+
 // The journal with its last line in place of which this stands.
 fn with_last(alloc: Global, last: &[u8]) -> Result<Vec<u8>, Fail> {
     let mut journal = Vec::from_slice(alloc, JOURNAL.get(..292).ok_or("too short")?)?;
@@ -103,5 +114,56 @@ fn an_entry_that_is_wrong(rt: HostRuntime) -> Result<(), Fail> {
         let journal = with_last(rt.alloc(), last)?;
         assert_eq!(rt; verdict_of(rt.alloc(), &journal), verdict);
     }
+    Ok(())
+}
+
+#[test]
+fn a_journal_with_a_byte_that_no_line_has(rt: HostRuntime) -> Result<(), Fail> {
+    for place in 0..JOURNAL.len() {
+        let mut journal = JOURNAL.to_vec(rt.alloc())?;
+        if let Some(byte) = journal.get_mut(place) {
+            *byte = b'#';
+        }
+        let verdict = match feeds(place) {
+            0 => Verdict::NoOpening,
+            line => Verdict::Unreadable(line.saturating_add(1)),
+        };
+        assert_eq!(rt; verdict_of(rt.alloc(), &journal), Some(verdict));
+    }
+    Ok(())
+}
+
+#[test]
+fn the_lines_that_tell_a_verdict(rt: HostRuntime) -> Result<(), Fail> {
+    let wrong = wrong_offer(b"2024-03-04 00:04", 102).ok_or("no verdict")?;
+    let none: &[u8] = b"";
+    let texts: [(Verdict, &[u8]); 5] = [
+        (Verdict::Legal(5), b"legal 5\n"),
+        (
+            wrong,
+            b"wrong 6\nwritten 2024-03-04 00:04|offered 102 P1 1\nright 2024-03-04 00:04|offered 101 P1 1\n",
+        ),
+        (Verdict::Unreadable(2), b"unreadable 2\n"),
+        (Verdict::NoOpening, none),
+        (Verdict::NoMemory, none),
+    ];
+    for (verdict, text) in texts {
+        assert_eq!(rt; write_verdict(rt.alloc(), &verdict)?.as_slice(), text);
+    }
+    Ok(())
+}
+
+#[test]
+fn a_desk_that_goes_on_behind_a_journal(rt: HostRuntime) -> Result<(), Fail> {
+    let Ok(mut resumed) = resume(rt.alloc(), JOURNAL, 1) else {
+        return Err(Fail::from("not legal"));
+    };
+    assert_eq!(rt; resumed.count, 5);
+    let stated = accept(b"2024-03-04 00:05", 12, 101).ok_or("no command")?;
+    assert!(rt; resumed.core.left() >= 1);
+    let entry = resumed.core.step(0, stated);
+    assert_eq!(rt; entry.reply(), Reply::Done);
+    let verdict = resume(rt.alloc(), JOURNAL.get(..36).ok_or("too short")?, 1).err();
+    assert_eq!(rt; verdict, Some(Verdict::Unreadable(2)));
     Ok(())
 }

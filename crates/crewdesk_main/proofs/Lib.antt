@@ -1,4 +1,5 @@
 pub mod HistoryLemmas
+pub mod InputLemmas
 pub mod JournalLemmas
+pub mod LineLemmas
 pub mod ReplayLemmas
-pub mod WordsLemmas

@@ -1,8 +1,7 @@
 -- What a replay reads and writes.
-use Rattle.std.specs.Prelude.{◌≡◌, ◌≢◌, ◌⊎◌, ℕ, ◌<◌, ◌≤◌, Bool, true, false, Option, None, Some, List, [], length, map, ⊤, if◌then◌else◌, String}
-use Rattle.std.specs.Global.{Global}
+use Rattle.std.specs.Prelude.{◌≡◌, ◌≢◌, ◌⊎◌, ℕ, Option, List, map}
 use Rattle.desk_io.specs.declared.status.Status.{Status}
-use Rattle.desk_io.specs.declared.status.Status.TheVariants.{Fine, ReadFault, WriteFault, TooLong, NoMemory, NoOpening, Unreadable}
+use Rattle.desk_io.specs.declared.status.Status.TheVariants.{Fine, ReadFault, WriteFault, TooLong, NoOpening, Unreadable}
 use Rattle.std.specs.Io.KnownBytes.{Appends}
 use Rattle.desk_io.specs.Faults.{Rose}
 use Rattle.desk_io.specs.Giving.{AddsFront}
@@ -14,16 +13,11 @@ use Rattle.desk_model.specs.Legal.{IsLegal, given, history}
 use Rattle.desk_model.specs.Journal.{journal}
 use Rattle.desk_text.specs.Line.{wrong_line}
 use Rattle.desk_text.specs.Tally.{tally_text}
-use Rattle.crewdesk_main.specs.Words.{is_tally}
+use Rattle.desk_text.specs.DayFile.{IsDayFile, IsSomeDayFile, HasTooMany, HasNoOpening, HasUnreadable, IsUnreadable}
 use Rattle.crewdesk_main.specs.declared.day_form.DayForm.{DayForm}
 use Rattle.crewdesk_main.specs.declared.day_form.DayForm.TheVariants as form
 use Rattle.crewdesk_main.specs.declared.limits.TheConstants.{BYTE_LIMIT}
-use Rattle.desk_text.specs.DayFile.{IsDayFile, IsSomeDayFile, HasTooMany, HasNoOpening, HasUnreadable, IsUnreadable}
-
--- a source that told its bytes told some within the limit that have P, and has none left
-abbrev pub WasRead : Option (List ℕ) → Option (List ℕ) → (List ℕ → Type 0) → Type 0
-WasRead None left P = ⊤
-WasRead (Some bytes) left P = (length bytes ≤ BYTE_LIMIT) × (left ≡ Some []) × P bytes
+use Rattle.crewdesk_main.specs.Ends.{WasRead, WritesOrFails, Tells, TellsMore, EndsAs}
 
 -- stated by caller 0, as a day file's commands are
 abbrev pub by_the_day_file : StatedValue → ℕ × StatedValue
@@ -44,7 +38,7 @@ pub record Replays (before after : Option (List ℕ)) (text : History → List �
   pub opening : OpeningValue
   pub valid : IsOpening opening
   pub commands : List StatedValue
-  pub read : WasRead before after (λ bytes. IsDayFile bytes opening commands)
+  pub read : WasRead BYTE_LIMIT before after (λ bytes. IsDayFile bytes opening commands)
   pub history : History
   pub replay : IsReplay opening commands history
   pub written : Writes (text history)
@@ -54,45 +48,20 @@ abbrev pub text_of : DayForm → History → List ℕ
 text_of form.Replay h = journal h
 text_of form.Tally h = tally_text h
 
--- what the words ask to be written of it
-abbrev pub asked_text : List (String Global) → History → List ℕ
-asked_text words h = if is_tally words then tally_text h else journal h
-
--- the text was written, or the sink had a fault, and a front of it was
-abbrev pub WritesOrFails : Option (List ℕ) → Option (List ℕ) → ℕ → ℕ → List ℕ → Type 0
-WritesOrFails held held' given given' text = (Appends held held' text × (given' ≡ given)) ⊎ (AddsFront held held' text × Rose given given')
-
 -- a day file with a wrong field was read, and this was done with the line that says which
 pub record FindsWrong (before after : Option (List ℕ)) (Writes : List ℕ → Type 0) : Type 0 where
   pub record_no : ℕ
   pub field : ℕ
-  pub read : WasRead before after (λ bytes. HasUnreadable bytes record_no field)
+  pub read : WasRead BYTE_LIMIT before after (λ bytes. HasUnreadable bytes record_no field)
   pub written : Writes (wrong_line record_no field)
-
--- the source tells bytes within the limit that have P
-pub record Tells (left : Option (List ℕ)) (P : List ℕ → Type 0) : Type 0 where
-  pub bytes : List ℕ
-  pub told : left ≡ Some bytes
-  pub within : length bytes ≤ BYTE_LIMIT
-  pub has : P bytes
-
--- the source tells more bytes than the limit
-pub record TellsMore (left : Option (List ℕ)) : Type 0 where
-  pub bytes : List ℕ
-  pub told : left ≡ Some bytes
-  pub more : BYTE_LIMIT < length bytes
-
--- the run ended so, unless the source had a fault or memory was wanting
-abbrev pub EndsAs : Status → Status → Type 0
-EndsAs result status = result ≢ ReadFault → result ≢ NoMemory → result ≡ status
 
 -- which status comes where, by the bytes that the source tells
 pub record EndsByTheDay (result : Status) (left : Option (List ℕ)) : Type 0 where
-  pub more_bytes : TellsMore left → EndsAs result TooLong
-  pub too_many : Tells left HasTooMany → EndsAs result TooLong
-  pub no_opening : Tells left HasNoOpening → EndsAs result NoOpening
-  pub unreadable : Tells left IsUnreadable → EndsAs result Unreadable
-  pub day : Tells left IsSomeDayFile → result ≢ WriteFault → EndsAs result Fine
+  pub more_bytes : TellsMore BYTE_LIMIT left → EndsAs result TooLong
+  pub too_many : Tells BYTE_LIMIT left HasTooMany → EndsAs result TooLong
+  pub no_opening : Tells BYTE_LIMIT left HasNoOpening → EndsAs result NoOpening
+  pub unreadable : Tells BYTE_LIMIT left IsUnreadable → EndsAs result Unreadable
+  pub day : Tells BYTE_LIMIT left IsSomeDayFile → result ≢ WriteFault → EndsAs result Fine
 
 -- a run that ended so did what a replay that ends so does, of whose history this text is written: what its source and sink
 -- told before and after, and how many faults they counted
@@ -101,15 +70,8 @@ pub record EndsReplay (result : Status) (text : History → List ℕ) (left left
   pub write_fault : result ≡ WriteFault → Replays left left' text (AddsFront held held')
   pub write_cause : result ≡ WriteFault → Rose given given'
   pub read_cause : result ≡ ReadFault → Rose asked asked'
-  pub too_long : result ≡ TooLong → TookMore left left' BYTE_LIMIT ⊎ WasRead left left' HasTooMany
+  pub too_long : result ≡ TooLong → TookMore left left' BYTE_LIMIT ⊎ WasRead BYTE_LIMIT left left' HasTooMany
   pub not_too_long : result ≢ TooLong → TookFront left left' BYTE_LIMIT
-  pub no_opening : result ≡ NoOpening → WasRead left left' HasNoOpening
+  pub no_opening : result ≡ NoOpening → WasRead BYTE_LIMIT left left' HasNoOpening
   pub unreadable : result ≡ Unreadable → FindsWrong left left' (WritesOrFails held held' given given')
   pub by_the_day : EndsByTheDay result left
-
--- the ways to end in which the sink was given something
-abbrev pub writes : Status → Bool
-writes Fine = true
-writes WriteFault = true
-writes Unreadable = true
-writes _ = false

@@ -15,6 +15,7 @@ abbrev pub help_text : List ℕ
 help_text =
     line (codes "crewdesk replay     reads a day file from standard input and writes its journal to standard output")
     ++ line (codes "crewdesk tally      reads a day file from standard input and writes its tally to standard output")
+    ++ line (codes "crewdesk audit      reads a journal from standard input and writes whether it is legal, or what is wrong in it")
     ++ line (codes "crewdesk --help     prints these lines")
     ++ line (codes "crewdesk --version  prints the program's name and version")
 

@@ -1,13 +1,18 @@
-//! The crew calling desk: reads a day file and writes its journal.
+//! The crew calling desk: replays day files, and audits journals.
 #![tactic(auto)]
 
+mod audit_form;
+mod count_lines;
 mod day_form;
 mod day_tally;
+mod form;
 mod forms;
 mod journal;
 mod limits;
 mod lines;
 mod replay;
+mod run;
+mod take_journal;
 mod words;
 mod write_text;
 

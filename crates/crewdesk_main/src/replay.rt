@@ -1,12 +1,12 @@
-ghost use Rattle.std.specs.Prelude.{◌≡◌, ◌≢◌, ◌≤◌, ◌⊎◌, ◌↔◌, false, true};
+ghost use Rattle.std.specs.Prelude.{◌≡◌, ◌≢◌, ◌≤◌, ◌⊎◌, false};
 ghost use Rattle.std.specs.Io.KnownBytes.{Appends, Keeps};
 ghost use Rattle.desk_io.specs.Faults.{Rose};
 ghost use Rattle.desk_io.specs.Giving.{AddsFront};
 ghost use Rattle.desk_io.specs.Input.{TookMore, TookFront};
 ghost use Rattle.desk_text.specs.Line.{wrong_line};
 ghost use Rattle.desk_text.specs.DayFile.{HasTooMany, HasNoOpening};
-ghost use Rattle.crewdesk_main.specs.Words.{reads_day};
-ghost use Rattle.crewdesk_main.specs.Replay.{Replays, FindsWrong, WritesOrFails, EndsByTheDay, WasRead, asked_text, day_history, text_of, writes};
+ghost use Rattle.crewdesk_main.specs.Ends.{WasRead, WritesOrFails, writes};
+ghost use Rattle.crewdesk_main.specs.Replay.{Replays, FindsWrong, EndsByTheDay, day_history, text_of};
 
 use crate::day_form::DayForm;
 use crate::day_tally::tally_day;
@@ -21,18 +21,16 @@ use std::alloc::Global;
 // How many bytes of the journal are put into the sink at once, at most.
 const BUFFER_BYTES: usize = 65_536;
 
-/// Runs the desk. With the word `replay` alone it reads a day file from the source, replays its commands and writes the
-/// journal to the sink, and with `tally` alone the tally; where a field of the file is wrong it writes a line that says
-/// which, or a front of it where the sink has a fault. It reads all of its input, and takes all memory for the replay,
-/// before it writes anything.
-pub fn run<S: Source, K: Sink>(
+/// Reads a day file from the source, replays its commands and writes the journal or the tally to the sink; where a field of the
+/// file is wrong it writes a line that says which, or a front of it where the sink has a fault. It reads all of its input, and
+/// takes all memory for the replay, before it writes anything.
+pub fn replay_day<S: Source, K: Sink>(
     alloc: Global,
-    words: &[String],
+    form: DayForm,
     source: &mut S,
     sink: &mut K,
 ) -> Status
-    ensures usage { result ≡ Status.Usage ↔ (reads_day words.now ≡ false) }
-    ensures unasked_left { result ≡ Status.Usage → S.left source.new ≡ S.left source.old }
+    ensures form { result ≢ Status.Usage }
     ensures read_count { result ≢ Status.ReadFault → S.faults source.new ≡ S.faults source.old }
     ensures write_count { result ≢ Status.WriteFault → result ≢ Status.Unreadable
         → K.faults sink.new ≡ K.faults sink.old }
@@ -40,10 +38,10 @@ pub fn run<S: Source, K: Sink>(
     ensures later_sink { K.faults sink.old ≤ K.faults sink.new }
 
     ensures fine { result ≡ Status.Fine
-        → Replays (S.left source.old) (S.left source.new) (asked_text words.now)
+        → Replays (S.left source.old) (S.left source.new) (text_of form)
         (Appends (K.held sink.old) (K.held sink.new)) }
     ensures write_fault { result ≡ Status.WriteFault
-        → Replays (S.left source.old) (S.left source.new) (asked_text words.now)
+        → Replays (S.left source.old) (S.left source.new) (text_of form)
         (AddsFront (K.held sink.old) (K.held sink.new)) }
     ensures silent { writes result ≡ false → Keeps (K.held sink.old) (K.held sink.new) }
 
@@ -53,11 +51,11 @@ pub fn run<S: Source, K: Sink>(
         → Rose (S.faults source.old) (S.faults source.new) }
     ensures too_long { result ≡ Status.TooLong
         → TookMore (S.left source.old) (S.left source.new) BYTE_LIMIT
-        ⊎ WasRead (S.left source.old) (S.left source.new) HasTooMany }
+        ⊎ WasRead BYTE_LIMIT (S.left source.old) (S.left source.new) HasTooMany }
     ensures not_too_long { result ≢ Status.TooLong
         → TookFront (S.left source.old) (S.left source.new) BYTE_LIMIT }
     ensures no_opening { result ≡ Status.NoOpening
-        → WasRead (S.left source.old) (S.left source.new) HasNoOpening }
+        → WasRead BYTE_LIMIT (S.left source.old) (S.left source.new) HasNoOpening }
     ensures unreadable { result ≡ Status.Unreadable
         → FindsWrong (S.left source.old) (S.left source.new)
         (WritesOrFails (K.held sink.old) (K.held sink.new)
@@ -65,12 +63,8 @@ pub fn run<S: Source, K: Sink>(
     ensures audit_wrong { result ≢ Status.AuditWrong }
 
     // And each of these comes where its cause is, unless memory or a fault is in the way.
-    ensures by_the_day { reads_day words.now ≡ true
-        → EndsByTheDay result (S.left source.old) }
+    ensures by_the_day { EndsByTheDay result (S.left source.old) }
 {
-    let Some(form) = DayForm::read(words) else {
-        return Status::Usage;
-    };
     let bytes = match take_all(alloc, source, BYTE_LIMIT) {
         Ok(bytes) => bytes,
         Err(fault) => return Status::from(fault),

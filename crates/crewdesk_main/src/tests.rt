@@ -1,6 +1,7 @@
 //! The program's runs on given bytes and words.
 use std::alloc::{AllocError, Global};
 
+mod audits;
 mod faults;
 mod forms;
 mod openings;

@@ -1,6 +1,6 @@
 -- The parts of an entry's line, and the fields of what it states.
 use Rattle.std.specs.Result.{result_ok}
-use Rattle.std.proofs.Common.{◌≡◌, ◌∙◌, ℕ, suc, Result, Ok, Err, IfOk, IfSome, ◌<◌, ◌==◌, Bool, true, false, not, List, [], ◌∷◌, ◌++◌, length, get_or, take, decimal, refl, sym, ap, arith, append_assoc}
+use Rattle.std.proofs.Common.{◌≡◌, ◌∙◌, ℕ, suc, Result, Ok, Err, IfOk, IfSome, ◌<◌, ◌≤◌, ◌==◌, Bool, true, false, not, List, [], ◌∷◌, ◌++◌, length, get_or, take, decimal, refl, sym, ap, arith, append_assoc}
 use Rattle.std.specs.List.{All, join_with_byte}
 use Rattle.std.proofs.lemmas.Bool.Decides.{nat_tests}
 use Rattle.std.proofs.lemmas.List.{take_all, append_cancel_right}
@@ -17,7 +17,9 @@ use Rattle.desk_model.specs.Journal.{entry_line}
 use Rattle.desk_model.specs.ReplyTexts.{reply_text}
 use Rattle.desk_model.specs.StatedTexts.{event_fields, command_fields, stated_fields}
 use Rattle.desk_model.specs.Statement.{StatedValue}
-use Rattle.desk_text.specs.SpelledEntry.{IsEntryLine, SpellsEntry}
+use Rattle.desk_model.specs.declared.limits.TheConstants.{LAST_CALLER}
+use Rattle.desk_text.specs.declared.statement.Statement.{Statement}
+use Rattle.desk_text.specs.SpelledEntry.{IsEntryLine, SpellsStated, SpellsEntry, BeginsEntry}
 use Rattle.desk_text.proofs.FirstFieldsLemmas.{take-short}
 use Rattle.desk_text.proofs.PlainLemmas.{Passes, IsInner, is_inner, join, weaker, number, minute_in}
 use Rattle.desk_text.proofs.LineLemmas.{stated_inner}
@@ -111,4 +113,19 @@ pub line-of-parts : (line front caller stated moment reply rest more : List ℕ)
 line-of-parts line front caller stated moment reply rest more e a b c d spells = record {
   valid = spells.valid;
   line_is = rw (a, b, c, d, spells.caller_is, spells.stated_is, spells.moment_is, spells.reply_is) (sym (entry_line-parts e));
+}
+
+-- the same, up to the outcome
+pub entry_line-beginning : (e : EntryValue) → entry_line e ≡ decimal e.caller ++ 124 ∷ (join_with_byte 44 (stated_fields e.stated) ++ 124 ∷ (minute_text e.moment ++ 124 ∷ (reply_text e.reply ++ 10 ∷ [])))
+unfolding entry_line
+entry_line-beginning e = simp append_assoc
+
+-- a caller and what is stated, spelled in a line's first parts, are who stated what by it
+pub BeginsEntry-parts : (line caller rest stated outcome : List ℕ) (s : Statement) → s.caller ≤ LAST_CALLER → line ≡ caller ++ 124 ∷ rest → rest ≡ stated ++ 124 ∷ outcome
+    → caller ≡ decimal s.caller → SpellsStated stated s.stated → BeginsEntry line s
+BeginsEntry-parts line caller rest stated outcome s is a b c spells = record {
+  caller_in = is;
+  valid = spells.valid;
+  outcome = outcome;
+  line_is = rw (a, b, c, spells.text_is) refl;
 }

@@ -1,5 +1,5 @@
 -- What lines of a journal, and their parts, say.
-use Rattle.std.specs.Prelude.{◌≡◌, ℕ, List, decimal}
+use Rattle.std.specs.Prelude.{◌≡◌, ℕ, ◌≤◌, List, ◌∷◌, ◌++◌, decimal}
 use Rattle.std.specs.List.{join_with_byte}
 use Rattle.desk_base.specs.Minute.{minute_text}
 use Rattle.desk_model.specs.Entry.{EntryValue}
@@ -8,6 +8,8 @@ use Rattle.desk_model.specs.Journal.{entry_line}
 use Rattle.desk_model.specs.ReplyTexts.{reply_text}
 use Rattle.desk_model.specs.StatedTexts.{stated_fields}
 use Rattle.desk_model.specs.Statement.{StatedValue}
+use Rattle.desk_model.specs.declared.limits.TheConstants.{LAST_CALLER}
+use Rattle.desk_text.specs.declared.statement.Statement.{Statement}
 
 -- the line is this entry's, each of whose values is in its range
 pub record IsEntryLine (line : List ℕ) (e : EntryValue) : Type 0 where
@@ -26,3 +28,14 @@ pub record SpellsEntry (caller stated moment reply : List ℕ) (e : EntryValue) 
   pub stated_is : stated ≡ join_with_byte 44 (stated_fields e.stated)
   pub moment_is : moment ≡ minute_text e.moment
   pub reply_is : reply ≡ reply_text e.reply
+
+-- who stated what by an entry
+abbrev pub statement_of : EntryValue → Statement
+statement_of e = record { caller = e.caller; stated = e.stated }
+
+-- the line begins with who stated what, as that of an entry does
+pub record BeginsEntry (line : List ℕ) (s : Statement) : Type 0 where
+  pub caller_in : s.caller ≤ LAST_CALLER
+  pub valid : IsStated s.stated
+  pub outcome : List ℕ
+  pub line_is : line ≡ decimal s.caller ++ 124 ∷ (join_with_byte 44 (stated_fields s.stated) ++ 124 ∷ outcome)

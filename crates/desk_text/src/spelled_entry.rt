@@ -1,15 +1,16 @@
-//! Entries, read from lines of a journal.
+//! Entries, and what was stated by whom, read from lines of a journal.
 ghost use Rattle.std.specs.Prelude.{◌≡◌, ◌≤◌, ℕ, decimal, IfSome};
 ghost use Rattle.desk_model.specs.declared.limits.TheConstants.{LAST_CALLER};
 ghost use Rattle.desk_model.specs.Entry.{EntryValue};
 ghost use Rattle.desk_model.specs.Statement.{StatedValue};
-ghost use Rattle.desk_text.specs.SpelledEntry.{IsEntryLine, SpellsStated, SpellsEntry};
+ghost use Rattle.desk_text.specs.SpelledEntry.{IsEntryLine, SpellsStated, SpellsEntry, BeginsEntry, statement_of};
 
 use crate::command_record::read_record;
 use crate::cut::{before, cut};
 use crate::last_minute::LastMinute;
 use crate::line_fields::fields_of_line;
 use crate::spelled_reply::read_reply;
+use crate::statement::Statement;
 use desk_base::{Minute, read_decimal};
 use desk_model::{Entry, LAST_CALLER, Stated};
 
@@ -25,13 +26,27 @@ pub fn read_entry(line: &[u8]) -> Option<Entry>
     read_parts(caller, stated, moment, reply)
 }
 
+/// Who stated what by a line of the journal, read as far as that stands in it: `caller|command|`. It is `None` where the line
+/// begins otherwise. `last` is the minute that the lines before it stated last: it only spares work.
+pub fn read_statement(last: &mut LastMinute, line: &[u8]) -> Option<Statement>
+    ensures some { IfSome result (BeginsEntry line.now) }
+    ensures only { (e : EntryValue) → IsEntryLine line.now e → result ≡ Some (statement_of e) }
+{
+    let (caller, rest) = cut(line, b'|')?;
+    let (stated, _outcome) = cut(rest, b'|')?;
+    Some(Statement {
+        caller: read_caller(caller)?,
+        stated: read_stated(last, stated)?,
+    })
+}
+
 fn read_parts(caller: &[u8], stated: &[u8], moment: &[u8], reply: &[u8]) -> Option<Entry>
     ensures some { IfSome result (SpellsEntry caller.now stated.now moment.now reply.now) }
     ensures only { (e : EntryValue) → SpellsEntry caller.now stated.now moment.now reply.now e
         → result ≡ Some e }
 {
     let caller = read_caller(caller)?;
-    let stated = read_stated(stated)?;
+    let stated = read_stated(&mut LastMinute::new(), stated)?;
     let moment = Minute::read(moment)?;
     let reply = read_reply(reply)?;
     Some(Entry::new(caller, stated, moment, reply))
@@ -53,9 +68,9 @@ fn read_caller(text: &[u8]) -> Option<u8>
 }
 
 // What was stated, and when: its record with plain commas.
-fn read_stated(text: &[u8]) -> Option<Stated>
+fn read_stated(last: &mut LastMinute, text: &[u8]) -> Option<Stated>
     ensures some { IfSome result (SpellsStated text.now) }
     ensures only { (s : StatedValue) → SpellsStated text.now s → result ≡ Some s }
 {
-    read_record(&mut LastMinute::new(), fields_of_line(text).as_slice()).ok()
+    read_record(last, fields_of_line(text).as_slice()).ok()
 }

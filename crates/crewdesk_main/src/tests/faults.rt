@@ -1,7 +1,7 @@
 //! Sources and sinks that fail at given calls.
 use super::replays::{FIRST_OFFER, refused_day};
 use super::{OPENING, words_of};
-use crate::replay::run;
+use crate::run::run;
 use desk_io::{MemorySink, MemorySource, Status, SureSource};
 use std::test::Fail;
 

@@ -1,7 +1,7 @@
 //! The forms of the command line.
 use super::{OPENING, words_of};
 use crate::forms::perform;
-use crate::replay::run;
+use crate::run::run;
 use crate::words::behind_the_name;
 use desk_io::{MemorySink, MemorySource, Status, SureSink, take_all};
 use std::test::Fail;

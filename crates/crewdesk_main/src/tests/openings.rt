@@ -1,6 +1,6 @@
 //! Openings, valid and not, and what is written of them.
 use super::{OPENING, words_of};
-use crate::replay::run;
+use crate::run::run;
 use desk_io::{MemorySink, MemorySource, Status, take_all};
 use std::test::Fail;
 

@@ -1,7 +1,7 @@
 //! Day files with commands, and those that are too long.
 use super::{OPENING, words_of};
 use crate::forms::perform;
-use crate::replay::run;
+use crate::run::run;
 use desk_io::{MemorySink, MemorySource, Status, SureSource};
 use std::alloc::{AllocError, Global};
 use std::test::Fail;

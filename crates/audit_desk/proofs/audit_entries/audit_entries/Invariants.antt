@@ -9,6 +9,7 @@ abbrev pub invariant-loop-left : goal.invariant-loop-left
 invariant-loop-left g l = record {
   left : length l.left ≤ g.C.DeskCore.room l.core;
   few : l.count + length l.left ≤ length l.text;
+  room : g.C.DeskCore.room l.fn.core + length l.left ≤ g.C.DeskCore.room l.core + length l.text;
   read : (h : History) → g.C.DeskCore.stands l.fn.core h → h.entries ≡ [] → Reached (g.C.DeskCore.stands l.core) (journal h ++ l.text) l.left l.count;
 }
 

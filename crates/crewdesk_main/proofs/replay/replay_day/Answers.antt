@@ -2,12 +2,13 @@ use Rattle.std.proofs.Common.{◌≡◌, arith, rules}
 use Rattle.std.specs.Io.KnownBytes.{Appends}
 use Rattle.desk_io.specs.Giving.{AddsFront}
 use Rattle.crewdesk_main.proofs.HistoryLemmas.{IsReplay-day}
-use Rattle.crewdesk_main.specs.Replay.{Tells, WritesOrFails}
+use Rattle.crewdesk_main.specs.Ends.{Tells, WritesOrFails}
+use Rattle.crewdesk_main.specs.declared.limits.TheConstants.{BYTE_LIMIT}
 use Rattle.desk_text.specs.declared.day_fault.DayFault.{DayFault}
 use Rattle.desk_text.specs.declared.day_fault.DayFault.TheVariants as fault
 use Rattle.desk_text.specs.DayFile.{HasFault}
 use Rattle.crewdesk_main.proofs.ReplayLemmas.{Replays-TookAll, FindsWrong-TookAll, one-cause, cause-day, day-cause, unreadable-cause}
-use Rattle.crewdesk_main.proofs.replay.run.Goals as goal
+use Rattle.crewdesk_main.proofs.replay.replay_day.Goals as goal
 
 pub returns-in-Ok-read_day-clause-fine : goal.returns-in-Ok-read_day-clause-fine
 returns-in-Ok-read_day-clause-fine g c = λ fine.
@@ -15,7 +16,7 @@ returns-in-Ok-read_day-clause-fine g c = λ fine.
     let day = c.in-Ok-read_day.ensures.day in
     let replay = IsReplay-day law.opening law.legal law.given _ _ day.opened.opening.valid day.states.valid in
     Replays-TookAll _ _ c.in-Ok.bytes.items _ _ _ _ (Appends _ _) c.in-Ok.ensures.whole (omega (arith, c.in-Ok.ensures.bounded, c.in-Ok.bytes.ok.0))
-    c.deref.ensures.value day replay (rw (c.in-Some.ensures.some.1 _) (c.print_day.ensures.fine fine))
+    c.deref.ensures.value day replay (c.print_day.ensures.fine fine)
 
 pub returns-in-Ok-read_day-clause-write_fault : goal.returns-in-Ok-read_day-clause-write_fault
 returns-in-Ok-read_day-clause-write_fault g c = λ fault.
@@ -23,7 +24,7 @@ returns-in-Ok-read_day-clause-write_fault g c = λ fault.
     let day = c.in-Ok-read_day.ensures.day in
     let replay = IsReplay-day law.opening law.legal law.given _ _ day.opened.opening.valid day.states.valid in
     Replays-TookAll _ _ c.in-Ok.bytes.items _ _ _ _ (AddsFront _ _) c.in-Ok.ensures.whole (omega (arith, c.in-Ok.ensures.bounded, c.in-Ok.bytes.ok.0))
-    c.deref.ensures.value day replay (rw (c.in-Some.ensures.some.1 _) (c.print_day.ensures.write_fault fault))
+    c.deref.ensures.value day replay (c.print_day.ensures.write_fault fault)
 
 pub returns-in-Err-Unreadable-clause-unreadable : goal.returns-in-Err-Unreadable-clause-unreadable
 returns-in-Err-Unreadable-clause-unreadable g c = λ told.
@@ -31,8 +32,8 @@ returns-in-Err-Unreadable-clause-unreadable g c = λ told.
     c.deref.ensures.value (rw (c.in-Err-Unreadable.field-0-is) at (c.in-Err-Unreadable.ensures.fault (λ e. let is = c.in-Err-Unreadable.field-0-is in cc))) (rw (c.in-Err-Unreadable.record_no-is, c.in-Err-Unreadable.field-is) at c.tell_wrong.ensures.written)
 
 pub returns-in-Ok-read_day-clause-by_the_day : goal.returns-in-Ok-read_day-clause-by_the_day
-returns-in-Ok-read_day-clause-by_the_day g c = λ words.
-    let without : (cause : DayFault) → Tells (g.S.Source.left c.args.source.now) (λ bytes. HasFault bytes cause) → ⊥ =
+returns-in-Ok-read_day-clause-by_the_day g c =
+    let without : (cause : DayFault) → Tells BYTE_LIMIT (g.S.Source.left c.args.source.now) (λ bytes. HasFault bytes cause) → ⊥ =
     λ cause tells. day-cause _ _ c.in-Ok.bytes.items _ _ _ cause c.in-Ok.ensures.whole c.deref.ensures.value c.in-Ok-read_day.ensures.day tells in
     record {
       more_bytes = search rules;
@@ -43,9 +44,9 @@ returns-in-Ok-read_day-clause-by_the_day g c = λ words.
     }
 
 pub returns-in-Err-NoOpening-clause-by_the_day : goal.returns-in-Err-NoOpening-clause-by_the_day
-returns-in-Err-NoOpening-clause-by_the_day g c = λ words.
+returns-in-Err-NoOpening-clause-by_the_day g c =
     let has = rw (c.in-Err-NoOpening.field-0-is) at (c.in-Err-NoOpening.ensures.fault (λ e. let is = c.in-Err-NoOpening.field-0-is in cc)) in
-    let one : (cause : DayFault) → Tells (g.S.Source.left c.args.source.now) (λ bytes. HasFault bytes cause) → fault.NoOpening ≡ cause =
+    let one : (cause : DayFault) → Tells BYTE_LIMIT (g.S.Source.left c.args.source.now) (λ bytes. HasFault bytes cause) → fault.NoOpening ≡ cause =
     λ cause tells. one-cause _ _ c.in-Ok.bytes.items _ fault.NoOpening cause c.in-Ok.ensures.whole c.deref.ensures.value has tells in
     record {
       more_bytes = search rules;
@@ -56,9 +57,9 @@ returns-in-Err-NoOpening-clause-by_the_day g c = λ words.
     }
 
 pub returns-in-Err-Unreadable-clause-by_the_day : goal.returns-in-Err-Unreadable-clause-by_the_day
-returns-in-Err-Unreadable-clause-by_the_day g c = λ words.
+returns-in-Err-Unreadable-clause-by_the_day g c =
     let has = rw (c.in-Err-Unreadable.field-0-is) at (c.in-Err-Unreadable.ensures.fault (λ e. let is = c.in-Err-Unreadable.field-0-is in cc)) in
-    let one : (cause : DayFault) → Tells (g.S.Source.left c.args.source.now) (λ bytes. HasFault bytes cause) → fault.Unreadable c.in-Err-Unreadable.record_no c.in-Err-Unreadable.field ≡ cause =
+    let one : (cause : DayFault) → Tells BYTE_LIMIT (g.S.Source.left c.args.source.now) (λ bytes. HasFault bytes cause) → fault.Unreadable c.in-Err-Unreadable.record_no c.in-Err-Unreadable.field ≡ cause =
     λ cause tells. one-cause _ _ c.in-Ok.bytes.items _ (fault.Unreadable c.in-Err-Unreadable.record_no c.in-Err-Unreadable.field) cause c.in-Ok.ensures.whole c.deref.ensures.value has tells in
     record {
       more_bytes = search rules;

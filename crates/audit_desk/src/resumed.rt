@@ -1,0 +1,10 @@
+use fast_core::FastCore;
+
+/// A desk that goes on behind a journal.
+#[derive(Drop)]
+pub struct Resumed {
+    /// The desk, as it stands behind the journal's last entry.
+    pub core: FastCore,
+    /// How many entries the journal has.
+    pub count: u32,
+}

@@ -1,0 +1,15 @@
+-- What a run does whose words are a form.
+use Rattle.std.specs.Prelude.{ℕ, Option, List}
+use Rattle.desk_io.specs.declared.status.Status.{Status}
+use Rattle.crewdesk_main.specs.declared.form.Form.{Form}
+use Rattle.crewdesk_main.specs.declared.form.Form.TheVariants as form
+use Rattle.crewdesk_main.specs.Texts.{EndsPrint, help_text, version_text}
+use Rattle.crewdesk_main.specs.Replay.{EndsReplay, text_of}
+use Rattle.crewdesk_main.specs.Audit.{EndsAudit}
+
+-- a run of the form that ended so did this: what its source and sink told before and after, and how many faults they counted
+abbrev pub Ends : Form → Status → Option (List ℕ) → Option (List ℕ) → ℕ → ℕ → Option (List ℕ) → Option (List ℕ) → ℕ → ℕ → Type 0
+Ends form.Help result left left' asked asked' held held' given given' = EndsPrint result help_text held held' given given'
+Ends form.Version result left left' asked asked' held held' given given' = EndsPrint result version_text held held' given given'
+Ends (form.Day how) result left left' asked asked' held held' given given' = EndsReplay result (text_of how) left left' asked asked' held held' given given'
+Ends form.Audit result left left' asked asked' held held' given given' = EndsAudit result left left' asked asked' held held' given given'

@@ -1,0 +1,45 @@
+//! The desk, run as its words say.
+ghost use Rattle.std.specs.Prelude.{◌≡◌, ◌≢◌, ◌≤◌, ◌↔◌, Some, false, true};
+ghost use Rattle.std.specs.Io.KnownBytes.{Keeps};
+ghost use Rattle.crewdesk_main.specs.declared.form.Form.{Form as FormValue};
+ghost use Rattle.crewdesk_main.specs.Ends.{writes};
+ghost use Rattle.crewdesk_main.specs.Forms.{Ends};
+ghost use Rattle.crewdesk_main.specs.Words.{form_of, is_asked, reads, runs};
+
+use crate::audit_form::audit_journal;
+use crate::form::Form;
+use crate::replay::replay_day;
+use desk_io::{Sink, Source, Status};
+use std::alloc::Global;
+
+/// Runs the desk as the words say: with `replay` it reads a day file from the source and writes its journal to the sink, with
+/// `tally` its tally; with `audit` it reads a journal and writes whether it is legal. It knows no other words.
+pub fn run<S: Source, K: Sink>(
+    alloc: Global,
+    words: &[String],
+    source: &mut S,
+    sink: &mut K,
+) -> Status
+    ensures usage { result ≡ Status.Usage ↔ (is_asked runs (form_of words.now) ≡ false) }
+    ensures ends { (form : FormValue) → form_of words.now ≡ Some form → runs form ≡ true
+        → Ends form result
+        (S.left source.old) (S.left source.new) (S.faults source.old) (S.faults source.new)
+        (K.held sink.old) (K.held sink.new) (K.faults sink.old) (K.faults sink.new) }
+
+    ensures unasked { is_asked reads (form_of words.now) ≡ false
+        → S.left source.new ≡ S.left source.old }
+    ensures unasked_faults { is_asked reads (form_of words.now) ≡ false
+        → S.faults source.new ≡ S.faults source.old }
+    ensures silent { writes result ≡ false → Keeps (K.held sink.old) (K.held sink.new) }
+    ensures read_count { result ≢ Status.ReadFault → S.faults source.new ≡ S.faults source.old }
+    ensures write_count { result ≢ Status.WriteFault → result ≢ Status.AuditWrong
+        → result ≢ Status.Unreadable → K.faults sink.new ≡ K.faults sink.old }
+    ensures later_source { S.faults source.old ≤ S.faults source.new }
+    ensures later_sink { K.faults sink.old ≤ K.faults sink.new }
+{
+    match Form::read(words) {
+        Some(Form::Day(form)) => replay_day(alloc, form, source, sink),
+        Some(Form::Audit) => audit_journal(alloc, source, sink),
+        Some(Form::Help) | Some(Form::Version) | None => Status::Usage,
+    }
+}
