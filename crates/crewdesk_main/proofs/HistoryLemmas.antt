@@ -9,12 +9,12 @@ use Rattle.desk_model.specs.Fits.{IsStated}
 use Rattle.desk_model.specs.Entry.{EntryValue}
 use Rattle.desk_model.specs.History.{History, opened, with_entry}
 use Rattle.desk_model.specs.Legal.{next, given, history_from, history, MayState, IsLegal}
-use Rattle.crewdesk_main.specs.Replay.{by_the_day_file, day_history, IsReplay}
+use Rattle.crewdesk_main.specs.Replay.{by_the_day_file, goes_on, day_history, IsReplay}
 
 -- no command has no entry
-pub day_history-none : (o : OpeningValue) → day_history o [] ≡ opened o
+pub goes_on-none : (h : History) → goes_on h [] ≡ h
 unfolding history_from
-day_history-none o = refl
+goes_on-none h = refl
 
 -- commands after others go on with the history of those
 history_from-append : (h : History) (commands later : List (ℕ × StatedValue)) → history_from h (commands ++ later) ≡ history_from (history_from h commands) later
@@ -23,51 +23,42 @@ history_from-append h [] later = refl
 history_from-append h ((caller, s) ∷ rest) later = history_from-append (with_entry h (next h caller s)) rest later
 
 -- the next command adds the entry that the rules give
-day_history-more : (o : OpeningValue) (commands : List StatedValue) (place : ℕ) (s : StatedValue) → place < length commands → s ≡ get_or commands place s
-    → day_history o (take (place + 1) commands) ≡ with_entry (day_history o (take place commands)) (next (day_history o (take place commands)) 0 s)
+goes_on-more : (h : History) (commands : List StatedValue) (place : ℕ) (s : StatedValue) → place < length commands → s ≡ get_or commands place s
+    → goes_on h (take (place + 1) commands) ≡ with_entry (goes_on h (take place commands)) (next (goes_on h (take place commands)) 0 s)
 unfolding history_from
-day_history-more o commands place s within at =
-    ap (day_history o) (take_more commands place s within ∙ ap (λ x. take place commands ++ x ∷ []) (sym at))
-    ∙ ap (history_from (opened o)) (map-append by_the_day_file (take place commands) (s ∷ []))
-    ∙ history_from-append (opened o) (map by_the_day_file (take place commands)) (by_the_day_file s ∷ [])
+goes_on-more h commands place s within at =
+    ap (goes_on h) (take_more commands place s within ∙ ap (λ x. take place commands ++ x ∷ []) (sym at))
+    ∙ ap (history_from h) (map-append by_the_day_file (take place commands) (s ∷ []))
+    ∙ history_from-append h (map by_the_day_file (take place commands)) (by_the_day_file s ∷ [])
 
 -- so the entry that comes next is the one that a desk answers which stands for the history so far
-pub day_history-next : (o : OpeningValue) (commands : List StatedValue) (place : ℕ) (s : StatedValue) (e : EntryValue)
-    → place < length commands → s ≡ get_or commands place s → e ≡ next (day_history o (take place commands)) 0 s
-    → with_entry (day_history o (take place commands)) e ≡ day_history o (take (place + 1) commands)
-day_history-next o commands place s e within at answer =
-    ap (with_entry (day_history o (take place commands))) answer ∙ sym (day_history-more o commands place s within at)
+pub goes_on-next : (h : History) (commands : List StatedValue) (place : ℕ) (s : StatedValue) (e : EntryValue)
+    → place < length commands → s ≡ get_or commands place s → e ≡ next (goes_on h (take place commands)) 0 s
+    → with_entry (goes_on h (take place commands)) e ≡ goes_on h (take (place + 1) commands)
+goes_on-next h commands place s e within at answer =
+    ap (with_entry (goes_on h (take place commands))) answer ∙ sym (goes_on-more h commands place s within at)
 
-history_from-opening : (h : History) (commands : List (ℕ × StatedValue)) → (history_from h commands).opening ≡ h.opening
-unfolding history_from
-history_from-opening h [] = refl
-history_from-opening h ((caller, s) ∷ rest) = history_from-opening (with_entry h (next h caller s)) rest
-
--- it is opened as was said
-pub day_history-opening : (o : OpeningValue) (commands : List StatedValue) → (day_history o commands).opening ≡ o
-day_history-opening o commands = history_from-opening (opened o) (map by_the_day_file commands)
-
--- and has an entry for each command
+-- it has an entry more for each command
 history_from-length : (h : History) (commands : List (ℕ × StatedValue)) → length (history_from h commands).entries ≡ length h.entries + length commands
 unfolding history_from
 history_from-length h [] = omega arith
 history_from-length h ((caller, s) ∷ rest) =
     omega (arith, history_from-length (with_entry h (next h caller s)) rest, length-append h.entries (next h caller s ∷ []))
 
-day_history-length : (o : OpeningValue) (commands : List StatedValue) → length (day_history o commands).entries ≡ length commands
-day_history-length o commands = omega (arith, history_from-length (opened o) (map by_the_day_file commands), length-map commands by_the_day_file)
+goes_on-length : (h : History) (commands : List StatedValue) → length (goes_on h commands).entries ≡ length h.entries + length commands
+goes_on-length h commands = omega (arith, history_from-length h (map by_the_day_file commands), length-map commands by_the_day_file)
 
 -- so of the first commands it has one entry for each, and one more is no more than all
 pub day_history-few : (o : OpeningValue) (commands : List StatedValue) (place : ℕ) → length commands < 2 ^ 64 → place < length commands
     → length (day_history o (take place commands)).entries + 1 < 2 ^ 64
-day_history-few o commands place few within = omega (arith, few, within, day_history-length o (take place commands), length-take-le place commands (omega (arith, within)))
+day_history-few o commands place few within = omega (arith, few, within, goes_on-length (opened o) (take place commands), length-take-le place commands (omega (arith, within)))
 
 -- the history of the first commands goes on with that of the rest
-pub day_history-behind : (o : OpeningValue) (commands : List StatedValue) (place : ℕ)
-    → history_from (day_history o (take place commands)) (map by_the_day_file (drop place commands)) ≡ day_history o commands
-day_history-behind o commands place =
-    sym (history_from-append (opened o) (map by_the_day_file (take place commands)) (map by_the_day_file (drop place commands)))
-    ∙ ap (history_from (opened o)) (sym (map-append by_the_day_file (take place commands) (drop place commands)) ∙ ap (map by_the_day_file) (take-append-drop place commands))
+pub goes_on-behind : (h : History) (commands : List StatedValue) (place : ℕ)
+    → history_from (goes_on h (take place commands)) (map by_the_day_file (drop place commands)) ≡ goes_on h commands
+goes_on-behind h commands place =
+    sym (history_from-append h (map by_the_day_file (take place commands)) (map by_the_day_file (drop place commands)))
+    ∙ ap (history_from h) (sym (map-append by_the_day_file (take place commands) (drop place commands)) ∙ ap (map by_the_day_file) (take-append-drop place commands))
 
 -- the day file's commands may be stated by caller 0
 day-MayState : (commands : List StatedValue) → All IsStated commands → All (λ c. MayState c.0 c.1) (map by_the_day_file commands)
@@ -83,7 +74,7 @@ pub IsReplay-day : ((o : OpeningValue) (commands : List (ℕ × StatedValue)) �
     → ((o : OpeningValue) (commands : List (ℕ × StatedValue)) → map given (history o commands).entries ≡ commands)
     → (o : OpeningValue) (commands : List StatedValue) → IsOpening o → All IsStated commands → IsReplay o commands (day_history o commands)
 IsReplay-day opening legal given_is o commands valid all = record {
-  opened = opening o (map by_the_day_file commands);
+  opening = opening o (map by_the_day_file commands);
   legal = legal o (map by_the_day_file commands) valid (day-MayState commands all);
   given = given_is o (map by_the_day_file commands);
 }

@@ -6,15 +6,14 @@ use Rattle.std.proofs.lemmas.List.{take-append-le}
 use Rattle.std.proofs.Math.Seq.{take-append-add}
 use Rattle.std.proofs.lemmas.Grind.{flat_map-append}
 use Rattle.desk_io.specs.Giving.{AddsFront}
-use Rattle.desk_model.specs.Opening.{OpeningValue}
 use Rattle.desk_model.specs.Entry.{EntryValue}
 use Rattle.desk_model.specs.Statement.{StatedValue}
 use Rattle.desk_model.specs.History.{History, with_entry}
 use Rattle.desk_model.specs.Legal.{next, history_from}
 use Rattle.desk_model.specs.Journal.{entry_line, opening_line, entry_lines, journal}
 use Rattle.crewdesk_main.specs.Gathered.{Gathers}
-use Rattle.crewdesk_main.specs.Replay.{by_the_day_file, day_history}
-use Rattle.crewdesk_main.proofs.HistoryLemmas.{day_history-behind}
+use Rattle.crewdesk_main.specs.Replay.{by_the_day_file, goes_on}
+use Rattle.crewdesk_main.proofs.HistoryLemmas.{goes_on-behind}
 
 -- ---- text that is gathered
 
@@ -75,6 +74,11 @@ journal-grows h ((caller, s) ∷ rest) =
       more.1 ∙ ap (λ t. t ++ more.0) (journal-next h e) ∙ append_assoc (journal h) (entry_line e) more.0,
     )
 
+-- the desk stands for a history whose journal was put into the sink, or waits
+pub record Written (Stands : History → Type 0) (a b : Option (List ℕ)) (h : History) (waiting : List ℕ) : Type 0 where
+  pub stands : Stands h
+  pub gathered : Gathers a b (journal h) waiting
+
 -- what was gathered with the line of the entry that comes next is the journal of one command more
 pub Gathers-journal : (a b c : Option (List ℕ)) (h later : History) (e : EntryValue) (line waiting gathered : List ℕ)
     → with_entry h e ≡ later → line ≡ entry_line e
@@ -85,9 +89,9 @@ Gathers-journal a b c h later e line waiting gathered goes spelled before next =
     (Gathers-more a b c (journal h) waiting line gathered before next)
 
 -- a front of the journal of the first commands is one of that of all
-pub AddsFront-journal : (a b : Option (List ℕ)) (o : OpeningValue) (commands : List StatedValue) (place : ℕ)
-    → AddsFront a b (journal (day_history o (take place commands))) → AddsFront a b (journal (day_history o commands))
-AddsFront-journal a b o commands place front =
-    let h = day_history o (take place commands) in
-    let more = journal-grows h (map by_the_day_file (drop place commands)) in
-    subst (AddsFront a b) (sym more.1 ∙ ap journal (day_history-behind o commands place)) (AddsFront-longer a b (journal h) more.0 front)
+pub AddsFront-journal : (a b : Option (List ℕ)) (h : History) (commands : List StatedValue) (place : ℕ)
+    → AddsFront a b (journal (goes_on h (take place commands))) → AddsFront a b (journal (goes_on h commands))
+AddsFront-journal a b h commands place front =
+    let first = goes_on h (take place commands) in
+    let more = journal-grows first (map by_the_day_file (drop place commands)) in
+    subst (AddsFront a b) (sym more.1 ∙ ap journal (goes_on-behind h commands place)) (AddsFront-longer a b (journal first) more.0 front)

@@ -8,8 +8,8 @@ use Rattle.desk_io.specs.Giving.{AddsFront}
 use Rattle.desk_io.specs.Input.{TookMore, TookFront}
 use Rattle.desk_model.specs.Opening.{OpeningValue, IsOpening}
 use Rattle.desk_model.specs.Statement.{StatedValue}
-use Rattle.desk_model.specs.History.{History}
-use Rattle.desk_model.specs.Legal.{IsLegal, given, history}
+use Rattle.desk_model.specs.History.{History, opened}
+use Rattle.desk_model.specs.Legal.{IsLegal, given, history_from}
 use Rattle.desk_model.specs.Journal.{journal}
 use Rattle.desk_text.specs.Line.{wrong_line}
 use Rattle.desk_text.specs.Tally.{tally_text}
@@ -23,13 +23,17 @@ use Rattle.crewdesk_main.specs.Ends.{WasRead, WritesOrFails, Tells, TellsMore, E
 abbrev pub by_the_day_file : StatedValue → ℕ × StatedValue
 by_the_day_file s = (0, s)
 
--- the history of a desk that was opened so and is given these commands by the day file
+-- a history that goes on with these commands, given by the day file
+abbrev pub goes_on : History → List StatedValue → History
+goes_on h commands = history_from h (map by_the_day_file commands)
+
+-- that of a desk that was opened so and is given these commands by the day file
 abbrev pub day_history : OpeningValue → List StatedValue → History
-day_history o commands = history o (map by_the_day_file commands)
+day_history o commands = goes_on (opened o) commands
 
 -- a legal history of a desk that was opened so, whose entries have these commands in order, each once, with caller 0
 pub record IsReplay (o : OpeningValue) (commands : List StatedValue) (h : History) : Type 0 where
-  pub opened : h.opening ≡ o
+  pub opening : h.opening ≡ o
   pub legal : IsLegal h
   pub given : map given h.entries ≡ map by_the_day_file commands
 

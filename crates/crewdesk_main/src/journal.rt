@@ -1,11 +1,13 @@
-ghost use Rattle.std.specs.Prelude.{◌≡◌, ◌≤◌, [], length, vec_capacity};
+//! Journals, written as a desk answers.
+ghost use Rattle.std.specs.Prelude.{◌≡◌, ◌≤◌, ℕ, List, Option, [], length, vec_capacity};
 ghost use Rattle.std.specs.Bool.{OnTrue, OnFalse};
 ghost use Rattle.std.specs.Io.KnownBytes.{Appends};
 ghost use Rattle.desk_io.specs.Faults.{Rose};
 ghost use Rattle.desk_io.specs.Giving.{AddsFront};
-ghost use Rattle.desk_model.specs.History.{opened};
+ghost use Rattle.desk_model.specs.History.{History, opened};
 ghost use Rattle.desk_model.specs.Journal.{journal};
-ghost use Rattle.crewdesk_main.specs.Replay.{day_history};
+ghost use Rattle.crewdesk_main.specs.Gathered.{Gathers};
+ghost use Rattle.crewdesk_main.specs.Replay.{day_history, goes_on};
 
 use crate::lines::gather;
 use desk_io::{Sink, put_all};
@@ -34,9 +36,31 @@ pub fn write_journal<C: DeskCore, K: Sink>(
     ensures cause { OnFalse result (Rose (K.faults sink.old) (K.faults sink.new)) }
     ensures no_fault { OnTrue result (K.faults sink.new ≡ K.faults sink.old) }
 {
-    if !gather(buffer, write_opening(opening).as_slice(), sink) {
-        return false;
-    }
+    gather(buffer, write_opening(opening).as_slice(), sink)
+        && write_entries(core, commands, buffer, sink)
+}
+
+/// Steps a desk through the commands as caller 0, and writes the lines of its entries behind the journal of its history so far,
+/// which was put into the sink, or waits in the buffer. It says whether the sink took all lines, and stops at the first fault.
+pub fn write_entries<C: DeskCore, K: Sink>(
+    core: &mut C,
+    commands: &[Stated],
+    buffer: &mut Vec<u8>,
+    sink: &mut K,
+) -> bool
+    requires left { length commands.now ≤ C.room core.old }
+    requires room { 512 ≤ vec_capacity buffer.old }
+
+    ensures all { OnTrue result ((before : Option (List ℕ)) (h : History) → C.stands core.old h
+        → Gathers before (K.held sink.old) (journal h) buffer.old.items
+        → Appends before (K.held sink.new) (journal (goes_on h commands.now))) }
+    ensures front { OnFalse result ((before : Option (List ℕ)) (h : History) → C.stands core.old h
+        → Gathers before (K.held sink.old) (journal h) buffer.old.items
+        → AddsFront before (K.held sink.new) (journal (goes_on h commands.now))) }
+    ensures later { K.faults sink.old ≤ K.faults sink.new }
+    ensures cause { OnFalse result (Rose (K.faults sink.old) (K.faults sink.new)) }
+    ensures no_fault { OnTrue result (K.faults sink.new ≡ K.faults sink.old) }
+{
     let mut line = LineText::new();
     let mut stated_last = LastMinute::new();
     let mut moment_last = LastMinute::new();

@@ -38,10 +38,10 @@ StateCommands-more records commands fields s states is = record {
 }
 
 -- one more record is the first wrong one where it states no command
-pub HasWrong-next : (records : List (List (List ℕ))) (commands : List StatedValue) (fields : List (List ℕ)) (record_no field : ℕ)
-    → StateCommands records commands → ((s : StatedValue) → ¬ StatesCommand fields s) → IsWrongAt fields field → record_no ≡ length records + 2
-    → HasWrong (records ++ fields ∷ []) record_no field
-HasWrong-next records commands fields record_no field states none at number = record {
+pub HasWrong-next : (first : ℕ) (records : List (List (List ℕ))) (commands : List StatedValue) (fields : List (List ℕ)) (record_no field : ℕ)
+    → StateCommands records commands → ((s : StatedValue) → ¬ StatesCommand fields s) → IsWrongAt fields field → record_no ≡ length records + first
+    → HasWrong first (records ++ fields ∷ []) record_no field
+HasWrong-next first records commands fields record_no field states none at number = record {
   before = records;
   bad = fields;
   after = [];
@@ -54,9 +54,9 @@ HasWrong-next records commands fields record_no field states none at number = re
 }
 
 -- and stays the first, whatever comes behind it
-pub HasWrong-more : (records : List (List (List ℕ))) (fields : List (List ℕ)) (record_no field : ℕ)
-    → HasWrong records record_no field → HasWrong (records ++ fields ∷ []) record_no field
-HasWrong-more records fields record_no field has = record {
+pub HasWrong-more : (first : ℕ) (records : List (List (List ℕ))) (fields : List (List ℕ)) (record_no field : ℕ)
+    → HasWrong first records record_no field → HasWrong first (records ++ fields ∷ []) record_no field
+HasWrong-more first records fields record_no field has = record {
   before = has.before;
   bad = has.bad;
   after = has.after ++ fields ∷ [];
@@ -69,25 +69,25 @@ HasWrong-more records fields record_no field has = record {
 }
 
 -- the same of what is told where a wrong place is
-pub StatesOrWrong-more : (wrong : Option WrongPlace) (commands : List StatedValue) (records : List (List (List ℕ))) (fields : List (List ℕ))
-    → is_some wrong ≡ true → StatesOrWrong wrong commands records → StatesOrWrong wrong commands (records ++ fields ∷ [])
-StatesOrWrong-more None commands records fields e tells = absurd (false≢true e)
-StatesOrWrong-more (Some place) commands records fields e tells = HasWrong-more records fields place.record_no place.field tells
+pub StatesOrWrong-more : (first : ℕ) (wrong : Option WrongPlace) (commands : List StatedValue) (records : List (List (List ℕ))) (fields : List (List ℕ))
+    → is_some wrong ≡ true → StatesOrWrong first wrong commands records → StatesOrWrong first wrong commands (records ++ fields ∷ [])
+StatesOrWrong-more first None commands records fields e tells = absurd (false≢true e)
+StatesOrWrong-more first (Some place) commands records fields e tells = HasWrong-more first records fields place.record_no place.field tells
 
--- what a reader has told of the records that it was left with, where the next has this number
-pub record HasRead (all : List (List (List ℕ))) (rows : Rows) (wrong : Option WrongPlace) (commands : List StatedValue) (next : ℕ) : Type 0 where
+-- what a reader has told of the records that it was left with, where the first has this number, and the next this one
+pub record HasRead (first : ℕ) (all : List (List (List ℕ))) (rows : Rows) (wrong : Option WrongPlace) (commands : List StatedValue) (next : ℕ) : Type 0 where
   pub read : List (List (List ℕ))
   pub rest : List (List (List ℕ))
   pub parts : all ≡ read ++ rest
-  pub number : next ≡ length read + 2
-  pub tells : StatesOrWrong wrong commands read
+  pub number : next ≡ length read + first
+  pub tells : StatesOrWrong first wrong commands read
   pub left : HasLeft rows rest
 
 -- with the next record that is one more
-pub HasRead-more : (all : List (List (List ℕ))) (rows : Rows) (wrong : Option WrongPlace) (commands : List StatedValue) (next : ℕ)
-    (has : HasRead all rows wrong commands next) (fields : List (List ℕ)) (rest : List (List (List ℕ))) (rows' : Rows) (wrong' : Option WrongPlace) (commands' : List StatedValue)
-    → has.rest ≡ fields ∷ rest → HasLeft rows' rest → StatesOrWrong wrong' commands' (has.read ++ fields ∷ []) → HasRead all rows' wrong' commands' (next + 1)
-HasRead-more all rows wrong commands next has fields rest rows' wrong' commands' parts left tells = record {
+pub HasRead-more : (first : ℕ) (all : List (List (List ℕ))) (rows : Rows) (wrong : Option WrongPlace) (commands : List StatedValue) (next : ℕ)
+    (has : HasRead first all rows wrong commands next) (fields : List (List ℕ)) (rest : List (List (List ℕ))) (rows' : Rows) (wrong' : Option WrongPlace) (commands' : List StatedValue)
+    → has.rest ≡ fields ∷ rest → HasLeft rows' rest → StatesOrWrong first wrong' commands' (has.read ++ fields ∷ []) → HasRead first all rows' wrong' commands' (next + 1)
+HasRead-more first all rows wrong commands next has fields rest rows' wrong' commands' parts left tells = record {
   read = has.read ++ fields ∷ [];
   rest = rest;
   parts = has.parts ∙ ap (λ list. has.read ++ list) parts ∙ sym (append_assoc has.read (fields ∷ []) rest);
@@ -97,11 +97,11 @@ HasRead-more all rows wrong commands next has fields rest rows' wrong' commands'
 }
 
 -- and with none left it is all
-pub HasRead-all : (all : List (List (List ℕ))) (rows : Rows) (wrong : Option WrongPlace) (commands : List StatedValue) (next : ℕ)
-    (has : HasRead all rows wrong commands next) → has.rest ≡ [] → (next ≡ length all + 2) × StatesOrWrong wrong commands all
-HasRead-all all rows wrong commands next has none =
+pub HasRead-all : (first : ℕ) (all : List (List (List ℕ))) (rows : Rows) (wrong : Option WrongPlace) (commands : List StatedValue) (next : ℕ)
+    (has : HasRead first all rows wrong commands next) → has.rest ≡ [] → (next ≡ length all + first) × StatesOrWrong first wrong commands all
+HasRead-all first all rows wrong commands next has none =
     let whole : all ≡ has.read = has.parts ∙ ap (λ list. has.read ++ list) none ∙ append-nil has.read in
-    (has.number ∙ ap (λ list. length list + 2) (sym whole), rw whole has.tells)
+    (has.number ∙ ap (λ list. length list + first) (sym whole), rw whole has.tells)
 
 -- of records that state commands each states one
 states-there : (records : List (List (List ℕ))) (commands : List StatedValue) → StateCommands records commands
@@ -117,37 +117,37 @@ states-there records commands states k within =
     )
 
 -- what stands behind the records before it, as its own place among all
-bad-there : (all : List (List (List ℕ))) (n f : ℕ) (has : HasWrong all n f) → get_or all (length has.before) [] ≡ has.bad
-bad-there all n f has = ap (λ l. get_or l (length has.before) []) has.parts ∙ get_or-append_seam has.before has.bad has.after []
+bad-there : (first : ℕ) (all : List (List (List ℕ))) (n f : ℕ) (has : HasWrong first all n f) → get_or all (length has.before) [] ≡ has.bad
+bad-there first all n f has = ap (λ l. get_or l (length has.before) []) has.parts ∙ get_or-append_seam has.before has.bad has.after []
 
 -- among records that state commands is no wrong one
-pub all-read : (all : List (List (List ℕ))) (commands : List StatedValue) → StateCommands all commands → (record_no field : ℕ) → ¬ HasWrong all record_no field
-all-read all commands states record_no field has =
+pub all-read : (first : ℕ) (all : List (List (List ℕ))) (commands : List StatedValue) → StateCommands all commands → (record_no field : ℕ) → ¬ HasWrong first all record_no field
+all-read first all commands states record_no field has =
     let within : length has.before < length all = omega (arith, ap length has.parts, length-append has.before (has.bad ∷ has.after)) in
     let there = states-there all commands states (length has.before) within in
-    has.wrong there.0 (rw (bad-there all record_no field has) at there.1)
+    has.wrong there.0 (rw (bad-there first all record_no field has) at there.1)
 
 -- no wrong record stands before the first one
-none-before : (all : List (List (List ℕ))) (n f m g : ℕ) (has : HasWrong all n f) (other : HasWrong all m g) → ¬ (length has.before < length other.before)
-none-before all n f m g has other less =
+none-before : (first : ℕ) (all : List (List (List ℕ))) (n f m g : ℕ) (has : HasWrong first all n f) (other : HasWrong first all m g) → ¬ (length has.before < length other.before)
+none-before first all n f m g has other less =
     let there = states-there other.before other.commands other.states (length has.before) less in
     let same : get_or other.before (length has.before) [] ≡ has.bad =
     sym (get_or_append_left other.before (other.bad ∷ other.after) [] (length has.before) less)
-    ∙ ap (λ l. get_or l (length has.before) []) (sym other.parts) ∙ bad-there all n f has in
+    ∙ ap (λ l. get_or l (length has.before) []) (sym other.parts) ∙ bad-there first all n f has in
     has.wrong there.0 (rw (same) at there.1)
 
 -- one field of one record is the first wrong one
-pub HasWrong-one : (all : List (List (List ℕ))) (n f m g : ℕ) → HasWrong all n f → HasWrong all m g → (n ≡ m) × (f ≡ g)
-HasWrong-one all n f m g has other =
-    let len : length has.before ≡ length other.before = omega (arith, none-before all n f m g has other, none-before all m g n f other has) in
-    let bad : has.bad ≡ other.bad = sym (bad-there all n f has) ∙ ap (λ k. get_or all k []) len ∙ bad-there all m g other in (
+pub HasWrong-one : (first : ℕ) (all : List (List (List ℕ))) (n f m g : ℕ) → HasWrong first all n f → HasWrong first all m g → (n ≡ m) × (f ≡ g)
+HasWrong-one first all n f m g has other =
+    let len : length has.before ≡ length other.before = omega (arith, none-before first all n f m g has other, none-before first all m g n f other has) in
+    let bad : has.bad ≡ other.bad = sym (bad-there first all n f has) ∙ ap (λ k. get_or all k []) len ∙ bad-there first all m g other in (
       omega (arith, len, has.record_is, other.record_is),
       wrong-one other.bad f g (rw (bad) at has.field_is) other.field_is,
     )
 
 -- ---- bytes are one day file at most
 
-commands-one : (cs ds : List StatedValue) → All IsStated cs → All IsStated ds → map stated_fields cs ≡ map stated_fields ds → cs ≡ ds
+pub commands-one : (cs ds : List StatedValue) → All IsStated cs → All IsStated ds → map stated_fields cs ≡ map stated_fields ds → cs ≡ ds
 commands-one [] [] hc hd e = refl
 commands-one [] (d ∷ ds) hc hd e = absurd (omega (arith, ap length e))
 commands-one (c ∷ cs) [] hc hd e = absurd (omega (arith, ap length e))
@@ -177,12 +177,12 @@ IsDayFile-one bytes o p cs ds is also =
 pub IsDayFile-readable : (bytes : List ℕ) (o : OpeningValue) (commands : List StatedValue) → IsDayFile bytes o commands
     → (record_no field : ℕ) → ¬ HasUnreadable bytes record_no field
 IsDayFile-readable bytes o commands day record_no field un =
-    all-read un.rest commands (rw (IsOpened-one bytes _ _ _ _ day.opened un.opened).1 at day.states) record_no field un.wrong
+    all-read 2 un.rest commands (rw (IsOpened-one bytes _ _ _ _ day.opened un.opened).1 at day.states) record_no field un.wrong
 
 -- and no other bytes have two first wrong fields
 pub HasUnreadable-one : (bytes : List ℕ) (n f m g : ℕ) → HasUnreadable bytes n f → HasUnreadable bytes m g → (n ≡ m) × (f ≡ g)
 HasUnreadable-one bytes n f m g has other =
-    HasWrong-one other.rest n f m g (rw (IsOpened-one bytes _ _ _ _ has.opened other.opened).1 at has.wrong) other.wrong
+    HasWrong-one 2 other.rest n f m g (rw (IsOpened-one bytes _ _ _ _ has.opened other.opened).1 at has.wrong) other.wrong
 
 -- ---- what a reader finds
 

@@ -12,6 +12,7 @@ pub mod LineLemmas
 pub mod OpeningLemmas
 pub mod DayLemmas
 pub mod LineReadLemmas
+pub mod MoreLemmas
 pub mod TallyLemmas
 pub mod CutLemmas
 pub mod PartLemmas

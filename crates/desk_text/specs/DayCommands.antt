@@ -1,10 +1,11 @@
--- What was read of the records behind an opening.
+-- What was read of records, one after another.
 use Rattle.std.specs.Prelude.{ℕ, Option, None, Some, List}
 use Rattle.desk_model.specs.Statement.{StatedValue}
 use Rattle.desk_text.specs.declared.wrong_place.WrongPlace.{WrongPlace}
 use Rattle.desk_text.specs.DayFile.{StateCommands, HasWrong}
 
--- the records state these commands; or, where a wrong place is told, it is that of the first which states none
-abbrev pub StatesOrWrong : Option WrongPlace → List StatedValue → List (List (List ℕ)) → Type 0
-StatesOrWrong None commands records = StateCommands records commands
-StatesOrWrong (Some place) commands records = HasWrong records place.record_no place.field
+-- the records, where the first has this number, state these commands; or, where a wrong place is told, it is that of the first
+-- which states none
+abbrev pub StatesOrWrong : ℕ → Option WrongPlace → List StatedValue → List (List (List ℕ)) → Type 0
+StatesOrWrong first None commands records = StateCommands records commands
+StatesOrWrong first (Some place) commands records = HasWrong first records place.record_no place.field

@@ -18,9 +18,8 @@ pub record StateCommands (records : List (List (List ℕ))) (commands : List Sta
   pub valid : All IsStated commands
   pub fields : records ≡ map stated_fields commands
 
--- of these records, behind the opening's, this is the first that states no command, where the opening's is record 1; and this
--- is its first wrong field
-pub record HasWrong (records : List (List (List ℕ))) (record_no field : ℕ) : Type 0 where
+-- of these records, where the first has this number, this is the first that states no command, and this is its first wrong field
+pub record HasWrong (first : ℕ) (records : List (List (List ℕ))) (record_no field : ℕ) : Type 0 where
   pub before : List (List (List ℕ))
   pub bad : List (List ℕ)
   pub after : List (List (List ℕ))
@@ -28,7 +27,7 @@ pub record HasWrong (records : List (List (List ℕ))) (record_no field : ℕ) :
   pub commands : List StatedValue
   pub states : StateCommands before commands
   pub wrong : (s : StatedValue) → ¬ StatesCommand bad s
-  pub record_is : record_no ≡ length before + 2
+  pub record_is : record_no ≡ length before + first
   pub field_is : IsWrongAt bad field
 
 -- there are no more records than a day file may have, the first is an opening's, and these are behind it
@@ -59,12 +58,12 @@ pub record HasNoOpening (bytes : List ℕ) : Type 0 where
   pub few : length (records_of bytes) ≤ RECORD_LIMIT
   pub none : (o : OpeningValue) (rest : List (List (List ℕ))) → ¬ IsOpened bytes o rest
 
--- of the records after the opening this is the first that states no command, and this its first wrong field
+-- of the records after the opening, which is record 1, this is the first that states no command, and this its first wrong field
 pub record HasUnreadable (bytes : List ℕ) (record_no field : ℕ) : Type 0 where
   pub opening : OpeningValue
   pub rest : List (List (List ℕ))
   pub opened : IsOpened bytes opening rest
-  pub wrong : HasWrong rest record_no field
+  pub wrong : HasWrong 2 rest record_no field
 
 -- what the fault says holds of the bytes; want of memory says nothing of them
 abbrev pub HasFault : List ℕ → DayFault → Type 0

@@ -5,6 +5,7 @@ pub mod Line
 pub mod RecordForms
 pub mod OpeningRecord
 pub mod DayFile
+pub mod MoreCommands
 pub mod DayCommands
 pub mod CommandLine
 pub mod Tally

@@ -1,11 +1,10 @@
-//! The commands of a day file.
-ghost use Rattle.std.specs.Prelude.{◌≡◌, ◌<◌, ◌≤◌, ◌+◌, ◌++◌, ◌∷◌, [], ℕ, List, length, MatchOption, IfOk};
+//! The commands of records.
+ghost use Rattle.std.specs.Prelude.{◌≡◌, ◌<◌, ◌≤◌, ◌+◌, ◌^◌, ◌++◌, ◌∷◌, [], ℕ, List, length, MatchOption, IfOk};
 ghost use Rattle.csv.specs.Records.{fields_of};
 ghost use Rattle.record_rows.specs.Rows.{HasLeft};
 ghost use Rattle.desk_text.specs.DayCommands.{StatesOrWrong};
 
 use crate::last_minute::LastMinute;
-use crate::limits::RECORD_LIMIT;
 use crate::record_row::read_row;
 use crate::wrong_place::WrongPlace;
 use csv::ByteRecord;
@@ -14,7 +13,7 @@ use desk_model::Stated;
 use record_rows::Rows;
 use std::alloc::Global;
 
-/// What the records behind an opening state, up to the first that states no command.
+/// What records state, up to the first that states no command.
 #[derive(Drop)]
 pub struct DayCommands {
     /// The commands, in their order.
@@ -31,10 +30,10 @@ impl DayCommands {
         last: &mut LastMinute,
         row: &ByteRecord,
     ) -> Result<(), NoMemory>
-        ensures { IfOk result (λ _. (records : List (List (List ℕ)))
-            → record_no ≡ length records + 2
-            → StatesOrWrong self.old.wrong self.old.commands.items records
-            → StatesOrWrong self.new.wrong self.new.commands.items (records ++ fields_of row.now ∷ [])) }
+        ensures { IfOk result (λ _. (first : ℕ) (records : List (List (List ℕ)))
+            → record_no ≡ length records + first
+            → StatesOrWrong first self.old.wrong self.old.commands.items records
+            → StatesOrWrong first self.new.wrong self.new.commands.items (records ++ fields_of row.now ∷ [])) }
     {
         if self.wrong.is_none() {
             match read_row(last, row) {
@@ -46,28 +45,31 @@ impl DayCommands {
     }
 }
 
-/// Reads the records that are left behind an opening, with room for so many commands at first. It is `None` where there
-/// are more than a day file may have.
+/// Reads the records that are left, the first of which has this number, with room for so many commands at first. It is `None`
+/// where there are more than `most`.
 pub fn read_commands(
     alloc: Global,
     room: usize,
+    first: u32,
+    most: u32,
     rows: &mut Rows,
     row: &mut ByteRecord,
 ) -> Result<Option<DayCommands>, NoMemory>
+    requires { first + most ≤ 2 ^ 32 }
     ensures { IfOk result (λ read. (left : List (List (List ℕ))) → HasLeft rows.old left
-        → MatchOption read (RECORD_LIMIT ≤ length left) (λ told.
-        (length left < RECORD_LIMIT) × StatesOrWrong told.wrong told.commands.items left)) }
+        → MatchOption read (most < length left) (λ told.
+        (length left ≤ most) × StatesOrWrong first told.wrong told.commands.items left)) }
 {
     let mut told = DayCommands {
         commands: Vec::with_capacity(alloc, room)?,
         wrong: None,
     };
     let mut last = LastMinute::new();
-    for record_no in 2..=RECORD_LIMIT as u32 {
+    for place in 0..most {
         if !rows.next(row)? {
             return Ok(Some(told));
         }
-        told.take(record_no, &mut last, row)?;
+        told.take(first + place, &mut last, row)?;
     }
     if rows.next(row)? {
         Ok(None)

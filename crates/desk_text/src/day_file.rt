@@ -8,7 +8,7 @@ ghost use Rattle.desk_text.specs.declared.day_fault.DayFault.{DayFault as Fault}
 
 use crate::day_commands::read_commands;
 use crate::day_fault::DayFault;
-use crate::limits::{RECORD_LIMIT, SHORTEST_RECORD};
+use crate::limits::{COMMAND_LIMIT, RECORD_LIMIT, SHORTEST_RECORD};
 use crate::record_row::read_opening_row;
 use csv::ByteRecord;
 use desk_model::{Opening, Stated};
@@ -53,7 +53,7 @@ fn read_records(alloc: Global, bytes: &[u8]) -> Result<DayFile, DayFault>
     }
     let opening = read_opening_row(&row);
     let room = (bytes.len() / SHORTEST_RECORD).min(RECORD_LIMIT);
-    let Some(told) = read_commands(alloc, room, &mut rows, &mut row)? else {
+    let Some(told) = read_commands(alloc, room, 2, COMMAND_LIMIT, &mut rows, &mut row)? else {
         return Err(DayFault::TooMany);
     };
     let Some(opening) = opening else {

@@ -1,11 +1,12 @@
 use Rattle.std.proofs.Common.{sym, subst, arith}
+use Rattle.desk_model.specs.History.{opened}
 use Rattle.desk_text.specs.Tally.{Counts}
-use Rattle.crewdesk_main.proofs.HistoryLemmas.{day_history-none, day_history-next, day_history-few}
+use Rattle.crewdesk_main.proofs.HistoryLemmas.{goes_on-none, goes_on-next, day_history-few}
 use Rattle.crewdesk_main.proofs.day_tally.tally_day.Goals as goal
 
 pub loop-stated-init : goal.loop-stated-init
 loop-stated-init g c =
-    let start = sym (day_history-none c.args.opening.now) in
+    let start = sym (goes_on-none (opened c.args.opening.now)) in
     record {
       left = omega (arith, c.requires.left);
       stands = subst (g.C.DeskCore.stands c.args.core.now) start c.requires.start;
@@ -18,7 +19,7 @@ loop-stated-preserved g c =
     let o = c.args.opening.now in
     let commands = c.args.commands.now in
     let place = c.loop-stated.stated-index in
-    let next = day_history-next o commands place c.stated-item.result c.step.result
+    let next = goes_on-next (opened o) commands place c.stated-item.result c.step.result
     c.loop-stated-test.true c.stated-item.is (c.step.ensures.answer _ before.stands) in
     record {
       left = omega (arith, c.step.ensures.room, before.left);

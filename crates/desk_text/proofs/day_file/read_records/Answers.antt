@@ -16,7 +16,7 @@ pub returns-in_default-opening-clause-fault : goal.returns-in_default-opening-cl
 returns-in_default-opening-clause-fault c = λ told.
     let first = rw c.if-not-branch.false at (c.in_ok-next.ensures _ c.of-rows.ensures) in
     let rest = rw c.in-Some.is at (c.in_ok-told.ensures _ first.behind) in
-    HasNoOpening-first _ _ _ first.parts rest.0 (λ o states. let is = c.read_opening_row-opening.ensures.only o states in let none = c.in_default-opening.is in cc)
+    HasNoOpening-first _ _ _ first.parts (omega (arith, rest.0)) (λ o states. let is = c.read_opening_row-opening.ensures.only o states in let none = c.in_default-opening.is in cc)
 
 pub returns-in-None-clause-day : goal.returns-in-None-clause-day
 returns-in-None-clause-day c =
@@ -24,7 +24,7 @@ returns-in-None-clause-day c =
     let rest = rw c.in-Some.is at (c.in_ok-told.ensures _ first.behind) in
     record {
       rest = first.rest;
-      opened = IsOpened-first _ _ _ _ first.parts rest.0 c.in-Some-opening.ensures.some;
+      opened = IsOpened-first _ _ _ _ first.parts (omega (arith, rest.0)) c.in-Some-opening.ensures.some;
       states = rw c.in-None.is at rest.1;
     }
 
@@ -35,6 +35,6 @@ returns-clause-fault c = λ told.
     record {
       opening = c.in-Some-opening.opening;
       rest = first.rest;
-      opened = IsOpened-first _ _ _ _ first.parts rest.0 c.in-Some-opening.ensures.some;
+      opened = IsOpened-first _ _ _ _ first.parts (omega (arith, rest.0)) c.in-Some-opening.ensures.some;
       wrong = rw c.in-Some-wrong.is at rest.1;
     }

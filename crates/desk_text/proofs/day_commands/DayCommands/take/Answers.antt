@@ -3,5 +3,5 @@ use Rattle.desk_text.proofs.DayLemmas.{StatesOrWrong-more}
 use Rattle.desk_text.proofs.day_commands.DayCommands.take.Goals as goal
 
 pub returns-else-is_none : goal.returns-else-is_none
-returns-else-is_none c = λ records number tells.
-    StatesOrWrong-more c.args.self.now.wrong c.args.self.now.commands.items records (fields_of c.args.row.now) c.if-is_none.ensures tells
+returns-else-is_none c = λ first records number tells.
+    StatesOrWrong-more first c.args.self.now.wrong c.args.self.now.commands.items records (fields_of c.args.row.now) c.if-is_none.ensures tells
