@@ -1,0 +1,86 @@
+-- What is so on a generated day, whatever the desk answers.
+use Rattle.std.proofs.Common.{◌≡◌, ◌≢◌, ℕ, zero, suc, ◌+◌, ◌-◌, ◌*◌, ◌/◌, ◌%◌, ◌≤◌, ◌<◌, max, Bool, true, false, nat_eq, nat_lt, Option, None, Some, unwrap_or, if◌then◌else◌, List, [], ◌∷◌, ◌++◌, length, length-append, add-one, refl, sym, ap, subst, ◌∙◌, arith}
+use Rattle.std.specs.Prelude.{⊤}
+use Rattle.std.specs.Option.{option_or}
+use Rattle.std.specs.List.{slice_get}
+use Rattle.std.proofs.lemmas.Option.{slice_get_within}
+use Rattle.std.proofs.lemmas.Bool.{ne_eqb, eq-eqb}
+use Rattle.duty_events.specs.declared.event.Event.TheVariants as event
+use Rattle.desk_model.specs.declared.command.Cmd.{Cmd}
+use Rattle.desk_model.specs.declared.command.Cmd.TheVariants as cmd
+use Rattle.desk_model.specs.declared.edition.Edition.{Edition}
+use Rattle.desk_model.specs.declared.edition.Edition.TheVariants as edition
+use Rattle.desk_model.specs.declared.offer.Offer.{Offer}
+use Rattle.desk_model.specs.declared.reply.Reply.{Reply}
+use Rattle.desk_model.specs.Job.{JobValue}
+use Rattle.desk_model.specs.Statement.{stated_of}
+use Rattle.desk_model.specs.Entry.{EntryValue, entry_of}
+use Rattle.desk_model.specs.History.{History, with_entry, is_done, said, last_of}
+use Rattle.desk_model.specs.Legal.{next, moment, answer}
+use Rattle.desk_model.specs.Offers.{asks_for, offer_in}
+use Rattle.desk_model.specs.Register.{makes, vacancy_of}
+use Rattle.desk_model.proofs.SaidLemmas.{last_of-snoc, first_of-snoc, first_of-silent, last_of-silent}
+use Rattle.day_gen.specs.declared.course.Course.{Course}
+use Rattle.day_gen.specs.declared.due.Due.{Due}
+use Rattle.day_gen.specs.declared.due.Due.TheVariants as due
+use Rattle.day_gen.specs.Draws.{moved, drawn}
+use Rattle.day_gen.specs.SetUp.{join_command, set_up}
+use Rattle.day_gen.specs.Turn.{Turn, turn_of, stated_by}
+use Rattle.day_gen.specs.Due.{due_after_done, due_after_offer, due_after, due_by, last_entry, accepts, accepted_last, job_of_vacancy, job_due}
+use Rattle.day_gen.specs.Rules.{answer_by, answer_turn, report_of, report_turn, duty_of, release_turn, call_turn, hours_turn, place_turn, vacancy_by, vacancy_turn, is_relief, least_duty, idle_by, passed, idle_turn, turn_by}
+use Rattle.day_gen.specs.Day.{start, day_opening, Day, day_of, turn_at, due_on, set_up_next, next_turn, with_turn, day_after, generated_day, day_statement}
+use Rattle.day_gen.specs.GeneratorInside.{plans, planned_last}
+use Rattle.day_gen.proofs.DrawLemmas.{drawn-below}
+use Rattle.day_gen.proofs.SetUpLemmas.{set_up-at, length-set_up, command_at}
+use Rattle.day_gen.proofs.KeepLemmas.{IsDue, IsBounded, Keeps, later, bounded_report, bounded_duty, said-silent, vacancy-silent, planned-silent, accepted-silent, last_entry-with, entries-with, due-split, IsQuiet, IsIdle, IsTimely, quiet_step, stays_last, idle_step}
+use Rattle.day_gen.proofs.TurnLemmas.{quiet, idle, join_idle, command_at-idle, entry_by, StepsOn, same_minute, accepted_now, answered, answer_step, report_step, release_step, call_step}
+use Rattle.day_gen.proofs.IdleLemmas.{IsNear, near_timely, ask_step, above_none, this_one, make_step, passed_near, relief_least, vacancy_step, idle_by_step, idle_turn_step}
+
+rule_step : (edition : Edition) (n : ℕ) (day : Day) (due : Due) → Keeps edition n day → IsDue day.history day.course.made due
+    → StepsOn edition n day (turn_by edition day.course (job_due day.history due) due)
+rule_step edition n day (due.Answer vac person) keeps todo = answer_step edition n day vac person keeps todo
+rule_step edition n day (due.Report vac person) keeps todo = report_step edition n day vac person keeps todo
+rule_step edition n day (due.Release person) keeps todo = release_step edition n day person keeps todo
+rule_step edition n day (due.Call vac) keeps todo = call_step edition n day vac keeps todo
+rule_step edition n day due.Nothing keeps todo = idle_turn_step edition n day keeps
+
+turn_step : (edition : Edition) (n : ℕ) (day : Day) (o : Option Cmd) (due : Due) → Keeps edition n day → IsDue day.history day.course.made due
+    → ((c : Cmd) → o ≡ Some c → IsIdle c) → StepsOn edition n day (turn_at edition day.course o (job_due day.history due) due)
+turn_step edition n day (Some c) due keeps todo sets moment reply =
+    idle_step edition n day (turn_of day.course c) (entry_by (turn_of day.course c) moment reply) keeps (sets c refl) refl
+    (same_minute edition n day (turn_of day.course c) keeps refl)
+turn_step edition n day None due keeps todo sets moment reply = rule_step edition n day due keeps todo moment reply
+
+set_up-idle : (n : ℕ) (c : Cmd) → slice_get set_up n ≡ Some c → IsIdle c
+set_up-idle n c is =
+    let below : n < 64 = omega (arith, slice_get_within set_up n c is, length-set_up) in
+    subst IsIdle (ap (λ o. unwrap_or o c) (sym (set_up-at n below) ∙ is)) (command_at-idle n)
+
+day_step : (edition : Edition) (n : ℕ) (day : Day) → Keeps edition n day → Keeps edition (suc n) (with_turn day (next_turn edition day))
+unfolding next
+day_step edition n day keeps =
+    turn_step edition n day (set_up_next day) (due_on day) keeps keeps.due (λ c is. set_up-idle (length day.history.entries) c is)
+    (moment day.history (next_turn edition day).course.minute) (answer day.history (stated_by (next_turn edition day)))
+
+first_keeps : (edition : Edition) (number : ℕ) → Keeps edition 0 (day_after edition number 0)
+unfolding day_after
+first_keeps edition number = record {
+  entries = refl;
+  opening = refl;
+  made = omega arith;
+  begins = omega arith;
+  ends = omega arith;
+  fresh = λ v above. refl;
+  plan = tt;
+  due = tt;
+}
+
+pub day_keeps : (edition : Edition) (number n : ℕ) → Keeps edition n (day_after edition number n)
+unfolding day_after
+day_keeps edition number zero = first_keeps edition number
+day_keeps edition number (suc n) = day_step edition n (day_after edition number n) (day_keeps edition number n)
+
+pub generated_day-grows : (edition : Edition) (number n : ℕ) → generated_day edition number (n + 1)
+    ≡ with_entry (generated_day edition number n) (next (generated_day edition number n) 0 (day_statement edition number n))
+unfolding generated_day day_after day_statement
+generated_day-grows edition number n = ap (λ k. (day_after edition number k).history) (add-one n)

@@ -1,0 +1,37 @@
+//! The laws of generated days.
+ghost use Rattle.std.specs.Prelude.{◌≡◌, ◌≤◌, ◌<◌, ◌+◌, ℕ, Some, length};
+ghost use Rattle.desk_model.specs.declared.edition.Edition.{Edition as EditionValue};
+ghost use Rattle.desk_model.specs.Fits.{IsStated};
+ghost use Rattle.desk_model.specs.History.{opened, with_entry};
+ghost use Rattle.desk_model.specs.Legal.{next, IsLegal};
+ghost use Rattle.day_gen.specs.declared.numbers.TheConstants.{COMMANDS};
+ghost use Rattle.day_gen.specs.Due.{last_entry};
+ghost use Rattle.day_gen.specs.Day.{day_opening, generated_day, day_statement};
+
+use desk_model::a_legal_history_fits;
+
+/// A generated day begins as its desk was opened, and each entry more is the desk's answer to what is stated then by
+/// caller 0. It does nothing: its clauses are the laws.
+pub fn a_generated_day_grows()
+    ensures begins { (edition : EditionValue) (number : ℕ)
+        → generated_day edition number 0 ≡ opened (day_opening edition) }
+    ensures grows { (edition : EditionValue) (number n : ℕ) → let h = generated_day edition number n in
+        generated_day edition number (n + 1) ≡ with_entry h (next h 0 (day_statement edition number n)) }
+    ensures last { (edition : EditionValue) (number n : ℕ) → let h = generated_day edition number n in
+        last_entry (generated_day edition number (n + 1)) ≡ Some (next h 0 (day_statement edition number n)) }
+    ensures opening { (edition : EditionValue) (number n : ℕ)
+        → (generated_day edition number n).opening ≡ day_opening edition }
+    ensures entries { (edition : EditionValue) (number n : ℕ)
+        → length (generated_day edition number n).entries ≡ n }
+{}
+
+/// A generated day of at most 20,000 entries is a legal history, and what is stated at each of its entries has its form. It only
+/// names the law that it rests on: its clauses are the laws.
+pub fn a_generated_day_is_legal()
+    ensures legal { (edition : EditionValue) (number n : ℕ) → n ≤ COMMANDS
+        → IsLegal (generated_day edition number n) }
+    ensures stated { (edition : EditionValue) (number n : ℕ) → n < COMMANDS
+        → IsStated (day_statement edition number n) }
+{
+    a_legal_history_fits();
+}

@@ -1,0 +1,22 @@
+//! Days that are made from a number, for a desk to be tried on: each command follows from the number and from the last entry.
+#![tactic(auto)]
+
+mod course;
+mod day_gen;
+mod due;
+mod laws;
+mod numbers;
+mod rules;
+mod set_up;
+
+pub use course::Course;
+pub use day_gen::DayGen;
+pub use due::Due;
+pub use laws::{a_generated_day_grows, a_generated_day_is_legal};
+pub use numbers::{
+    ANSWER, COMMANDS, COMMANDS_OF_TWO, FIRST_MONTH, INCREMENT, MONTHS, MULTIPLIER, PERSONS,
+    POOL_PERSONS, SET_UP, the_numbers_of_a_day,
+};
+
+#[cfg(test)]
+mod tests;
