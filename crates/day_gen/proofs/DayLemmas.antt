@@ -2,7 +2,8 @@
 use Rattle.std.proofs.Common.{◌≡◌, ◌≢◌, ℕ, zero, suc, ◌+◌, ◌-◌, ◌*◌, ◌/◌, ◌%◌, ◌≤◌, ◌<◌, max, Bool, true, false, nat_eq, nat_lt, Option, None, Some, unwrap_or, if◌then◌else◌, List, [], ◌∷◌, ◌++◌, length, length-append, add-one, refl, sym, ap, subst, ◌∙◌, arith}
 use Rattle.std.specs.Prelude.{⊤}
 use Rattle.std.specs.Option.{option_or}
-use Rattle.std.specs.List.{slice_get}
+use Rattle.std.specs.List.{All, slice_get}
+use Rattle.std.proofs.lemmas.List.Elements.{All-nil, All-push}
 use Rattle.std.proofs.lemmas.Option.{slice_get_within}
 use Rattle.std.proofs.lemmas.Bool.{ne_eqb, eq-eqb}
 use Rattle.duty_events.specs.declared.event.Event.TheVariants as event
@@ -84,3 +85,8 @@ pub generated_day-grows : (edition : Edition) (number n : ℕ) → generated_day
     ≡ with_entry (generated_day edition number n) (next (generated_day edition number n) 0 (day_statement edition number n))
 unfolding generated_day day_after day_statement
 generated_day-grows edition number n = ap (λ k. (day_after edition number k).history) (add-one n)
+
+pub day-callers : (edition : Edition) (number n : ℕ) → All (λ e. e.caller ≡ 0) (day_after edition number n).history.entries
+unfolding day_after next
+day-callers edition number zero = All-nil (λ e. e.caller ≡ 0)
+day-callers edition number (suc n) = All-push (λ e. e.caller ≡ 0) _ _ (day-callers edition number n) refl

@@ -7,7 +7,7 @@ use desk_base::{Minute, Month};
 
 /// How far a generator has come.
 #[derive(Clone, Copy, Debug)]
-pub struct Course {
+pub(crate) struct Course {
     pub(crate) number: u64,
     pub(crate) minute: Minute,
     pub(crate) made: u32,

@@ -83,8 +83,8 @@ impl DayGen {
     }
 }
 
-// The job of a vacancy that a command makes.
-fn planned(cmd: &Cmd) -> Option<Job>
+/// The job of a vacancy that a command makes.
+pub(crate) fn planned(cmd: &Cmd) -> Option<Job>
     ensures { result ≡ plans cmd.now }
 {
     match cmd {

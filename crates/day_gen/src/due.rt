@@ -9,7 +9,7 @@ use duty_events::Event;
 
 /// What the last entry leaves to do.
 #[derive(Clone, Copy, Debug)]
-pub enum Due {
+pub(crate) enum Due {
     /// The person is to answer the offer of the vacancy.
     Answer { vac: VacNo, person: PersonNo },
     /// The person, who accepted the vacancy, is to report for it.

@@ -1,5 +1,6 @@
 //! The laws of generated days.
 ghost use Rattle.std.specs.Prelude.{◌≡◌, ◌≤◌, ◌<◌, ◌+◌, ℕ, Some, length};
+ghost use Rattle.std.specs.List.{All};
 ghost use Rattle.desk_model.specs.declared.edition.Edition.{Edition as EditionValue};
 ghost use Rattle.desk_model.specs.Fits.{IsStated};
 ghost use Rattle.desk_model.specs.History.{opened, with_entry};
@@ -23,6 +24,8 @@ pub fn a_generated_day_grows()
         → (generated_day edition number n).opening ≡ day_opening edition }
     ensures entries { (edition : EditionValue) (number n : ℕ)
         → length (generated_day edition number n).entries ≡ n }
+    ensures callers { (edition : EditionValue) (number n : ℕ)
+        → All (λ e. e.caller ≡ 0) (generated_day edition number n).entries }
 {}
 
 /// A generated day of at most 20,000 entries is a legal history, and what is stated at each of its entries has its form. It only

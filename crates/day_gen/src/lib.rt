@@ -9,13 +9,13 @@ mod numbers;
 mod rules;
 mod set_up;
 
-pub use course::Course;
+use course::Course;
 pub use day_gen::DayGen;
-pub use due::Due;
+use due::Due;
 pub use laws::{a_generated_day_grows, a_generated_day_is_legal};
 pub use numbers::{
     ANSWER, COMMANDS, COMMANDS_OF_TWO, FIRST_MONTH, INCREMENT, MONTHS, MULTIPLIER, PERSONS,
-    POOL_PERSONS, SET_UP, the_numbers_of_a_day,
+    POOL_PERSONS, SET_UP, most_commands, the_numbers_of_a_day,
 };
 
 #[cfg(test)]

@@ -2,6 +2,9 @@
 ghost use Rattle.std.specs.Prelude.{◌≡◌, length};
 ghost use Rattle.desk_base.specs.Month.{year_of, place_in_year};
 ghost use Rattle.day_gen.specs.SetUp.{set_up};
+ghost use Rattle.day_gen.specs.Generator.{most_commands};
+
+use desk_model::Edition;
 
 /// By what the number is multiplied as it moves.
 pub const MULTIPLIER: u64 = 6_364_136_223_846_793_005;
@@ -32,6 +35,16 @@ pub const COMMANDS: u32 = 20_000;
 
 /// How many one of the second edition may have.
 pub const COMMANDS_OF_TWO: u32 = 10_000;
+
+/// How many commands a generated day may have.
+pub fn most_commands(edition: Edition) -> u32
+    ensures { result ≡ most_commands edition }
+{
+    match edition {
+        Edition::One => COMMANDS,
+        Edition::Two => COMMANDS_OF_TWO,
+    }
+}
 
 /// What the names of these numbers stand for. It does nothing: its clauses are the law.
 pub fn the_numbers_of_a_day()

@@ -5,7 +5,7 @@ use Rattle.desk_model.specs.Legal.{next}
 use Rattle.day_gen.specs.Due.{last_entry}
 use Rattle.day_gen.specs.Day.{day_after, generated_day, day_statement}
 use Rattle.day_gen.proofs.KeepLemmas.{last_entry-with}
-use Rattle.day_gen.proofs.DayLemmas.{day_keeps, generated_day-grows}
+use Rattle.day_gen.proofs.DayLemmas.{day_keeps, generated_day-grows, day-callers}
 use Rattle.day_gen.proofs.laws.a_generated_day_grows.Goals as goal
 
 pub returns-clause-begins : goal.returns-clause-begins
@@ -27,3 +27,7 @@ returns-clause-opening c edition number n = (day_keeps edition number n).opening
 pub returns-clause-entries : goal.returns-clause-entries
 unfolding generated_day
 returns-clause-entries c edition number n = (day_keeps edition number n).entries
+
+pub returns-clause-callers : goal.returns-clause-callers
+unfolding generated_day
+returns-clause-callers c edition number n = day-callers edition number n
