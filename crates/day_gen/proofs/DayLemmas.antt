@@ -1,41 +1,23 @@
 -- What is so on a generated day, whatever the desk answers.
-use Rattle.std.proofs.Common.{◌≡◌, ◌≢◌, ℕ, zero, suc, ◌+◌, ◌-◌, ◌*◌, ◌/◌, ◌%◌, ◌≤◌, ◌<◌, max, Bool, true, false, nat_eq, nat_lt, Option, None, Some, unwrap_or, if◌then◌else◌, List, [], ◌∷◌, ◌++◌, length, length-append, add-one, refl, sym, ap, subst, ◌∙◌, arith}
-use Rattle.std.specs.Prelude.{⊤}
-use Rattle.std.specs.Option.{option_or}
+use Rattle.std.proofs.Common.{◌≡◌, ℕ, zero, suc, ◌+◌, ◌<◌, Option, None, Some, unwrap_or, length, add-one, refl, sym, ap, subst, ◌∙◌, arith}
 use Rattle.std.specs.List.{All, slice_get}
 use Rattle.std.proofs.lemmas.List.Elements.{All-nil, All-push}
 use Rattle.std.proofs.lemmas.Option.{slice_get_within}
-use Rattle.std.proofs.lemmas.Bool.{ne_eqb, eq-eqb}
-use Rattle.duty_events.specs.declared.event.Event.TheVariants as event
 use Rattle.desk_model.specs.declared.command.Cmd.{Cmd}
-use Rattle.desk_model.specs.declared.command.Cmd.TheVariants as cmd
 use Rattle.desk_model.specs.declared.edition.Edition.{Edition}
-use Rattle.desk_model.specs.declared.edition.Edition.TheVariants as edition
-use Rattle.desk_model.specs.declared.offer.Offer.{Offer}
-use Rattle.desk_model.specs.declared.reply.Reply.{Reply}
-use Rattle.desk_model.specs.Job.{JobValue}
-use Rattle.desk_model.specs.Statement.{stated_of}
-use Rattle.desk_model.specs.Entry.{EntryValue, entry_of}
-use Rattle.desk_model.specs.History.{History, with_entry, is_done, said, last_of}
+use Rattle.desk_model.specs.History.{with_entry}
 use Rattle.desk_model.specs.Legal.{next, moment, answer}
-use Rattle.desk_model.specs.Offers.{asks_for, offer_in}
-use Rattle.desk_model.specs.Register.{makes, vacancy_of}
-use Rattle.desk_model.proofs.SaidLemmas.{last_of-snoc, first_of-snoc, first_of-silent, last_of-silent}
-use Rattle.day_gen.specs.declared.course.Course.{Course}
 use Rattle.day_gen.specs.declared.due.Due.{Due}
 use Rattle.day_gen.specs.declared.due.Due.TheVariants as due
-use Rattle.day_gen.specs.Draws.{moved, drawn}
-use Rattle.day_gen.specs.SetUp.{join_command, set_up}
-use Rattle.day_gen.specs.Turn.{Turn, turn_of, stated_by}
-use Rattle.day_gen.specs.Due.{due_after_done, due_after_offer, due_after, due_by, last_entry, accepts, accepted_last, job_of_vacancy, job_due}
-use Rattle.day_gen.specs.Rules.{answer_by, answer_turn, report_of, report_turn, duty_of, release_turn, call_turn, hours_turn, place_turn, vacancy_by, vacancy_turn, is_relief, least_duty, idle_by, passed, idle_turn, turn_by}
-use Rattle.day_gen.specs.Day.{start, day_opening, Day, day_of, turn_at, due_on, set_up_next, next_turn, with_turn, day_after, generated_day, day_statement}
-use Rattle.day_gen.specs.GeneratorInside.{plans, planned_last}
-use Rattle.day_gen.proofs.DrawLemmas.{drawn-below}
-use Rattle.day_gen.proofs.SetUpLemmas.{set_up-at, length-set_up, command_at}
-use Rattle.day_gen.proofs.KeepLemmas.{IsDue, IsBounded, Keeps, later, bounded_report, bounded_duty, said-silent, vacancy-silent, planned-silent, accepted-silent, last_entry-with, entries-with, due-split, IsQuiet, IsIdle, IsTimely, quiet_step, stays_last, idle_step}
-use Rattle.day_gen.proofs.TurnLemmas.{quiet, idle, join_idle, command_at-idle, entry_by, StepsOn, same_minute, accepted_now, answered, answer_step, report_step, release_step, call_step}
-use Rattle.day_gen.proofs.IdleLemmas.{IsNear, near_timely, ask_step, above_none, this_one, make_step, passed_near, relief_least, vacancy_step, idle_by_step, idle_turn_step}
+use Rattle.day_gen.specs.SetUp.{set_up}
+use Rattle.day_gen.specs.Turn.{turn_of, stated_by}
+use Rattle.day_gen.specs.Due.{job_due}
+use Rattle.day_gen.specs.Rules.{turn_by}
+use Rattle.day_gen.specs.Day.{Day, turn_at, due_on, set_up_next, next_turn, with_turn, day_after, generated_day, day_statement}
+use Rattle.day_gen.proofs.SetUpLemmas.{set_up-at, length-set_up}
+use Rattle.day_gen.proofs.KeepLemmas.{IsDue, Keeps, IsIdle, idle_step}
+use Rattle.day_gen.proofs.TurnLemmas.{command_at-idle, entry_by, StepsOn, same_minute, answer_step, report_step, release_step, call_step}
+use Rattle.day_gen.proofs.IdleLemmas.{idle_turn_step}
 
 rule_step : (edition : Edition) (n : ℕ) (day : Day) (due : Due) → Keeps edition n day → IsDue day.history day.course.made due
     → StepsOn edition n day (turn_by edition day.course (job_due day.history due) due)

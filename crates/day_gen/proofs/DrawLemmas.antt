@@ -1,5 +1,5 @@
 -- What is drawn.
-use Rattle.std.proofs.Common.{ℕ, ◌<◌, ◌/◌, ◌^◌, arith}
+use Rattle.std.proofs.Common.{ℕ, ◌<◌, ◌/◌, ◌^◌}
 use Rattle.std.proofs.lemmas.Nat.{mod_below}
 use Rattle.day_gen.specs.declared.course.Course.{Course}
 use Rattle.day_gen.specs.Draws.{drawn}

@@ -1,39 +1,25 @@
 -- What is so after a turn where there was nothing to do.
-use Rattle.std.proofs.Common.{◌≡◌, ◌≢◌, ℕ, zero, suc, ◌+◌, ◌-◌, ◌*◌, ◌/◌, ◌%◌, ◌≤◌, ◌<◌, max, Bool, true, false, nat_eq, nat_lt, Option, None, Some, if◌then◌else◌, List, [], ◌∷◌, ◌++◌, length, length-append, refl, sym, ap, subst, ◌∙◌, arith}
-use Rattle.std.specs.Prelude.{⊤}
+use Rattle.std.proofs.Common.{◌≡◌, ℕ, suc, ◌+◌, ◌*◌, ◌≤◌, ◌<◌, Bool, true, false, nat_eq, None, Some, if◌then◌else◌, refl, sym, ap, subst, ◌∙◌, arith}
 use Rattle.std.specs.Option.{option_or}
-use Rattle.std.specs.List.{slice_get}
-use Rattle.std.proofs.lemmas.Option.{slice_get_within}
 use Rattle.std.proofs.lemmas.Bool.{ne_eqb, eq-eqb}
-use Rattle.duty_events.specs.declared.event.Event.TheVariants as event
 use Rattle.desk_model.specs.declared.command.Cmd.{Cmd}
 use Rattle.desk_model.specs.declared.command.Cmd.TheVariants as cmd
 use Rattle.desk_model.specs.declared.edition.Edition.{Edition}
-use Rattle.desk_model.specs.declared.edition.Edition.TheVariants as edition
-use Rattle.desk_model.specs.declared.offer.Offer.{Offer}
-use Rattle.desk_model.specs.declared.reply.Reply.{Reply}
 use Rattle.desk_model.specs.Job.{JobValue}
-use Rattle.desk_model.specs.Statement.{stated_of}
-use Rattle.desk_model.specs.Entry.{EntryValue, entry_of}
-use Rattle.desk_model.specs.History.{History, with_entry, is_done, said, last_of}
-use Rattle.desk_model.specs.Legal.{next}
-use Rattle.desk_model.specs.Offers.{asks_for, offer_in}
+use Rattle.desk_model.specs.Entry.{EntryValue}
+use Rattle.desk_model.specs.History.{History, with_entry, is_done, said}
 use Rattle.desk_model.specs.Register.{makes, vacancy_of}
-use Rattle.desk_model.proofs.SaidLemmas.{last_of-snoc, first_of-snoc, first_of-silent, last_of-silent}
+use Rattle.desk_model.proofs.SaidLemmas.{last_of-snoc, first_of-snoc}
 use Rattle.day_gen.specs.declared.course.Course.{Course}
-use Rattle.day_gen.specs.declared.due.Due.{Due}
-use Rattle.day_gen.specs.declared.due.Due.TheVariants as due
 use Rattle.day_gen.specs.Draws.{moved, drawn}
-use Rattle.day_gen.specs.SetUp.{join_command, set_up}
-use Rattle.day_gen.specs.Turn.{Turn, turn_of, stated_by}
-use Rattle.day_gen.specs.Due.{due_after_done, due_after_offer, due_after, due_by, last_entry, accepts, accepted_last, job_of_vacancy, job_due}
-use Rattle.day_gen.specs.Rules.{answer_by, answer_turn, report_of, report_turn, duty_of, release_turn, call_turn, hours_turn, place_turn, vacancy_by, vacancy_turn, is_relief, least_duty, idle_by, passed, idle_turn, turn_by}
-use Rattle.day_gen.specs.Day.{start, day_opening, Day, day_of, turn_at, due_on, set_up_next, next_turn, with_turn, day_after}
-use Rattle.day_gen.specs.GeneratorInside.{plans, planned_last}
+use Rattle.day_gen.specs.Turn.{Turn, turn_of}
+use Rattle.day_gen.specs.Due.{due_by}
+use Rattle.day_gen.specs.Rules.{hours_turn, place_turn, vacancy_by, vacancy_turn, is_relief, least_duty, passed, idle_turn}
+use Rattle.day_gen.specs.Day.{start, Day}
+use Rattle.day_gen.specs.Due.{plans, planned_last}
 use Rattle.day_gen.proofs.DrawLemmas.{drawn-below}
-use Rattle.day_gen.proofs.SetUpLemmas.{set_up-at, length-set_up, command_at}
-use Rattle.day_gen.proofs.KeepLemmas.{IsDue, IsBounded, Keeps, later, bounded_report, bounded_duty, said-silent, vacancy-silent, planned-silent, accepted-silent, last_entry-with, entries-with, due-split, IsQuiet, IsIdle, IsTimely, quiet_step, stays_last, idle_step}
-use Rattle.day_gen.proofs.TurnLemmas.{quiet, idle, join_idle, command_at-idle, entry_by, StepsOn, same_minute, accepted_now, answered, answer_step, report_step, release_step, call_step}
+use Rattle.day_gen.proofs.KeepLemmas.{IsDue, IsBounded, Keeps, vacancy-silent, last_entry-with, entries-with, due-split, IsIdle, IsTimely, idle_step}
+use Rattle.day_gen.proofs.TurnLemmas.{idle, entry_by, StepsOn}
 
 -- the course is the day's, but for what was drawn and for a few minutes
 pub record IsNear (n : ℕ) (day : Day) (c : Course) : Type 0 where
@@ -41,23 +27,23 @@ pub record IsNear (n : ℕ) (day : Day) (c : Course) : Type 0 where
   pub begins : start ≤ c.minute
   pub ends : c.minute ≤ start + 1000 * n + 9
 
-pub near_timely : (n : ℕ) (day : Day) (turn : Turn) → IsNear n day turn.course → IsTimely n turn
+near_timely : (n : ℕ) (day : Day) (turn : Turn) → IsNear n day turn.course → IsTimely n turn
 near_timely n day turn near = record { begins = near.begins; ends = omega (arith, near.ends) }
 
 -- a turn that only asks
-pub ask_step : (edition : Edition) (n : ℕ) (day : Day) (c : Course) (asks : Cmd) → Keeps edition n day → IsNear n day c → IsIdle asks → StepsOn edition n day (turn_of c asks)
+ask_step : (edition : Edition) (n : ℕ) (day : Day) (c : Course) (asks : Cmd) → Keeps edition n day → IsNear n day c → IsIdle asks → StepsOn edition n day (turn_of c asks)
 ask_step edition n day c asks keeps near nothing moment reply =
     idle_step edition n day (turn_of c asks) (entry_by (turn_of c asks) moment reply) keeps nothing near.made (near_timely n day (turn_of c asks) near)
 
 -- a vacancy with a number that was not made before
-pub above_none : (h : History) (e : EntryValue) (job : JobValue) (v : ℕ) → e.stated.cmd ≡ cmd.Vacancy job → job.vac < v → vacancy_of h v ≡ None
+above_none : (h : History) (e : EntryValue) (job : JobValue) (v : ℕ) → e.stated.cmd ≡ cmd.Vacancy job → job.vac < v → vacancy_of h v ≡ None
     → vacancy_of (with_entry h e) v ≡ None
 above_none h e job v is above none =
     let other : makes v e.stated.cmd ≡ None =
     ap (makes v) is ∙ ap (λ b. if b then Some job else None) (ne_eqb job.vac v (λ same. omega (arith, above, same))) in
     vacancy-silent h e v other ∙ none
 
-pub this_one : (h : History) (e : EntryValue) (job : JobValue) → e.stated.cmd ≡ cmd.Vacancy job → is_done e.reply ≡ true → vacancy_of h job.vac ≡ None
+this_one : (h : History) (e : EntryValue) (job : JobValue) → e.stated.cmd ≡ cmd.Vacancy job → is_done e.reply ≡ true → vacancy_of h job.vac ≡ None
     → vacancy_of (with_entry h e) job.vac ≡ Some job
 this_one h e job is done none =
     first_of-snoc (said (makes job.vac)) h.entries e
@@ -67,7 +53,7 @@ this_one h e job is done none =
     ∙ ap (λ b. if b then Some job else None) (eq-eqb job.vac job.vac refl)
 
 -- a turn that makes the next vacancy
-pub make_step : (edition : Edition) (n : ℕ) (day : Day) (c : Course) (job : JobValue) → Keeps edition n day → start ≤ c.minute → c.minute ≤ start + 1000 * n + 9
+make_step : (edition : Edition) (n : ℕ) (day : Day) (c : Course) (job : JobValue) → Keeps edition n day → start ≤ c.minute → c.minute ≤ start + 1000 * n + 9
     → c.made ≡ day.course.made + 1 → job.vac ≡ c.made → job.report ≤ c.minute + 120 → job.duty ≤ 1000 → StepsOn edition n day (turn_of c (cmd.Vacancy job))
 make_step edition n day c job keeps begins ends made vac report duty moment reply =
     let e : EntryValue = entry_by (turn_of c (cmd.Vacancy job)) moment reply in
@@ -88,18 +74,18 @@ make_step edition n day c job keeps begins ends made vac report duty moment repl
     }
 
 -- some minutes go by, and then something is asked or a vacancy made
-pub passed_near : (edition : Edition) (n : ℕ) (day : Day) → Keeps edition n day → IsNear n day (moved (passed day.course))
+passed_near : (edition : Edition) (n : ℕ) (day : Day) → Keeps edition n day → IsNear n day (moved (passed day.course))
 passed_near edition n day keeps = record {
   made = refl;
   begins = omega (arith, keeps.begins);
   ends = omega (arith, keeps.ends, drawn-below (moved day.course) 10 (omega arith));
 }
 
-pub relief_least : (relief : Bool) → least_duty relief ≤ 721
+relief_least : (relief : Bool) → least_duty relief ≤ 721
 relief_least true = omega arith
 relief_least false = omega arith
 
-pub vacancy_step : (edition : Edition) (n : ℕ) (day : Day) (c : Course) (relief : Bool) → Keeps edition n day → IsNear n day c
+vacancy_step : (edition : Edition) (n : ℕ) (day : Day) (c : Course) (relief : Bool) → Keeps edition n day → IsNear n day c
     → StepsOn edition n day (vacancy_turn c relief)
 vacancy_step edition n day c relief keeps near =
     let one : Course = moved c in
@@ -110,7 +96,7 @@ vacancy_step edition n day c relief keeps near =
     (omega (arith, drawn-below two 60 (omega arith)))
     (omega (arith, relief_least relief, drawn-below three 120 (omega arith)))
 
-pub idle_by_step : (edition : Edition) (n : ℕ) (day : Day) (c : Course) (first second relief : Bool) → Keeps edition n day → IsNear n day c
+idle_by_step : (edition : Edition) (n : ℕ) (day : Day) (c : Course) (first second relief : Bool) → Keeps edition n day → IsNear n day c
     → StepsOn edition n day (if first then hours_turn c else if second then place_turn c else vacancy_turn c relief)
 idle_by_step edition n day c true second relief keeps near =
     ask_step edition n day (moved c) _ keeps (record { made = near.made; begins = near.begins; ends = near.ends }) (idle _ (λ v. refl) refl refl refl)

@@ -1,37 +1,21 @@
 -- What one entry more makes of a generated day.
-use Rattle.std.proofs.Common.{◌≡◌, ◌≢◌, ℕ, zero, suc, ◌+◌, ◌-◌, ◌*◌, ◌/◌, ◌%◌, ◌≤◌, ◌<◌, max, Bool, true, false, nat_eq, nat_lt, Option, None, Some, if◌then◌else◌, List, [], ◌∷◌, ◌++◌, length, length-append, refl, sym, ap, subst, ◌∙◌, arith}
+use Rattle.std.proofs.Common.{◌≡◌, ℕ, suc, ◌+◌, ◌*◌, ◌≤◌, ◌<◌, Bool, true, false, Option, None, Some, if◌then◌else◌, [], ◌∷◌, ◌++◌, length, length-append, refl, sym, subst, ◌∙◌, arith}
 use Rattle.std.specs.Prelude.{⊤}
-use Rattle.std.specs.Option.{option_or}
-use Rattle.std.specs.List.{slice_get}
-use Rattle.std.proofs.lemmas.Option.{slice_get_within}
-use Rattle.std.proofs.lemmas.Bool.{ne_eqb, eq-eqb}
-use Rattle.duty_events.specs.declared.event.Event.TheVariants as event
 use Rattle.desk_model.specs.declared.command.Cmd.{Cmd}
-use Rattle.desk_model.specs.declared.command.Cmd.TheVariants as cmd
 use Rattle.desk_model.specs.declared.edition.Edition.{Edition}
-use Rattle.desk_model.specs.declared.edition.Edition.TheVariants as edition
-use Rattle.desk_model.specs.declared.offer.Offer.{Offer}
-use Rattle.desk_model.specs.declared.reply.Reply.{Reply}
 use Rattle.desk_model.specs.Job.{JobValue}
-use Rattle.desk_model.specs.Statement.{stated_of}
-use Rattle.desk_model.specs.Entry.{EntryValue, entry_of}
-use Rattle.desk_model.specs.History.{History, with_entry, is_done, said, last_of}
-use Rattle.desk_model.specs.Legal.{next}
+use Rattle.desk_model.specs.Entry.{EntryValue}
+use Rattle.desk_model.specs.History.{History, with_entry, is_done, said}
 use Rattle.desk_model.specs.Offers.{asks_for, offer_in}
 use Rattle.desk_model.specs.Register.{makes, vacancy_of}
-use Rattle.desk_model.proofs.SaidLemmas.{last_of-snoc, first_of-snoc, first_of-silent, last_of-silent}
-use Rattle.day_gen.specs.declared.course.Course.{Course}
+use Rattle.desk_model.proofs.SaidLemmas.{last_of-snoc, first_of-silent, last_of-silent}
 use Rattle.day_gen.specs.declared.due.Due.{Due}
 use Rattle.day_gen.specs.declared.due.Due.TheVariants as due
-use Rattle.day_gen.specs.Draws.{moved, drawn}
-use Rattle.day_gen.specs.SetUp.{join_command, set_up}
-use Rattle.day_gen.specs.Turn.{Turn, turn_of, stated_by}
-use Rattle.day_gen.specs.Due.{due_after_done, due_after_offer, due_after, due_by, last_entry, accepts, accepted_last, job_of_vacancy, job_due}
-use Rattle.day_gen.specs.Rules.{answer_by, answer_turn, report_of, report_turn, duty_of, release_turn, call_turn, hours_turn, place_turn, vacancy_by, vacancy_turn, is_relief, least_duty, idle_by, passed, idle_turn, turn_by}
-use Rattle.day_gen.specs.Day.{start, day_opening, Day, day_of, turn_at, due_on, set_up_next, next_turn, with_turn, day_after}
-use Rattle.day_gen.specs.GeneratorInside.{plans, planned_last}
-use Rattle.day_gen.proofs.DrawLemmas.{drawn-below}
-use Rattle.day_gen.proofs.SetUpLemmas.{set_up-at, length-set_up, command_at}
+use Rattle.day_gen.specs.Turn.{Turn}
+use Rattle.day_gen.specs.Due.{due_after_done, due_after_offer, due_after, due_by, last_entry, accepts, accepted_last}
+use Rattle.day_gen.specs.Rules.{report_of, duty_of}
+use Rattle.day_gen.specs.Day.{start, day_opening, Day, day_of, due_on}
+use Rattle.day_gen.specs.Due.{plans, planned_last}
 
 -- what there is to do is for the vacancy that was made last, whose job was stated last
 abbrev pub IsDue : History → ℕ → Due → Type 0
@@ -56,7 +40,7 @@ pub record Keeps (edition : Edition) (n : ℕ) (day : Day) : Type 0 where
   pub plan : IsBounded n (planned_last day.history)
   pub due : IsDue day.history day.course.made (due_on day)
 
-pub later : (n : ℕ) (job : Option JobValue) → IsBounded n job → IsBounded (suc n) job
+later : (n : ℕ) (job : Option JobValue) → IsBounded n job → IsBounded (suc n) job
 later n None is = is
 later n (Some job) is = (omega (arith, is.0), is.1)
 
@@ -70,7 +54,7 @@ bounded_duty n (Some job) is = is.1
 
 -- ---- one entry more
 
-pub said-silent : {X : Type 0} (f : Cmd → Option X) (e : EntryValue) → f e.stated.cmd ≡ None → said f e ≡ None
+said-silent : {X : Type 0} (f : Cmd → Option X) (e : EntryValue) → f e.stated.cmd ≡ None → said f e ≡ None
 said-silent f e none = go (is_done e.reply)
   where
     go : (b : Bool) → (if b then f e.stated.cmd else None) ≡ None
@@ -80,7 +64,7 @@ said-silent f e none = go (is_done e.reply)
 pub vacancy-silent : (h : History) (e : EntryValue) (v : ℕ) → makes v e.stated.cmd ≡ None → vacancy_of (with_entry h e) v ≡ vacancy_of h v
 vacancy-silent h e v none = first_of-silent (said (makes v)) h.entries e (said-silent (makes v) e none)
 
-pub planned-silent : (h : History) (e : EntryValue) → plans e.stated.cmd ≡ None → planned_last (with_entry h e) ≡ planned_last h
+planned-silent : (h : History) (e : EntryValue) → plans e.stated.cmd ≡ None → planned_last (with_entry h e) ≡ planned_last h
 planned-silent h e none = last_of-silent (λ x. plans x.stated.cmd) h.entries e none
 
 pub accepted-silent : (h : History) (e : EntryValue) → accepts e.stated.cmd ≡ None → accepted_last (with_entry h e) ≡ accepted_last h

@@ -5,5 +5,7 @@ pub mod KeepLemmas
 pub mod TurnLemmas
 pub mod IdleLemmas
 pub mod DayLemmas
+pub mod DueLemmas
+pub mod FitLemmas
 pub mod LegalLemmas
 pub mod NextLemmas

@@ -1,5 +1,5 @@
 -- What is kept of a generated day is enough to go on with it.
-use Rattle.std.proofs.Common.{◌≡◌, ℕ, suc, ◌+◌, ◌≤◌, ◌<◌, Option, None, Some, length, refl, sym, ap, ◌∙◌, add-one, arith}
+use Rattle.std.proofs.Common.{◌≡◌, ℕ, ◌+◌, ◌≤◌, ◌<◌, Option, None, Some, refl, sym, ap, ◌∙◌, add-one, arith}
 use Rattle.std.specs.Option.{option_or}
 use Rattle.std.specs.List.{slice_get}
 use Rattle.desk_model.specs.declared.command.Cmd.{Cmd}
@@ -8,7 +8,7 @@ use Rattle.desk_model.specs.declared.edition.Edition.TheVariants as edition
 use Rattle.desk_model.specs.Job.{JobValue}
 use Rattle.desk_model.specs.Statement.{stated_of}
 use Rattle.desk_model.specs.Entry.{EntryValue}
-use Rattle.desk_model.specs.History.{History, with_entry}
+use Rattle.desk_model.specs.History.{History}
 use Rattle.desk_model.specs.Legal.{next}
 use Rattle.desk_model.specs.Register.{vacancy_of}
 use Rattle.desk_model.proofs.SaidLemmas.{last_of-snoc}
@@ -16,14 +16,15 @@ use Rattle.day_gen.specs.declared.course.Course.{Course}
 use Rattle.day_gen.specs.declared.due.Due.{Due}
 use Rattle.day_gen.specs.declared.due.Due.TheVariants as due
 use Rattle.day_gen.specs.declared.day_gen.DayGen.TheInside.{Inside}
-use Rattle.day_gen.specs.Draws.{HasRoom}
+use Rattle.day_gen.specs.Room.{HasRoom}
 use Rattle.day_gen.specs.SetUp.{set_up}
 use Rattle.day_gen.specs.Turn.{Turn, stated_by}
 use Rattle.day_gen.specs.Due.{due_by, last_entry, job_of_vacancy, job_due}
 use Rattle.day_gen.specs.Rules.{report_turn, release_turn, turn_by}
-use Rattle.day_gen.specs.Day.{Day, turn_at, due_on, next_turn, with_turn, day_after, generated_day, day_statement}
+use Rattle.day_gen.specs.Day.{Day, turn_at, due_on, next_turn, day_after, generated_day, day_statement}
 use Rattle.day_gen.specs.Generator.{GeneratorValue, most_commands}
-use Rattle.day_gen.specs.GeneratorInside.{plans, planned_last, generator_value, KeepsGenerator}
+use Rattle.day_gen.specs.Due.{plans, planned_last}
+use Rattle.day_gen.specs.GeneratorInside.{generator_value, KeepsGenerator}
 use Rattle.day_gen.proofs.OpeningLemmas.{start_from, start_to}
 use Rattle.day_gen.proofs.KeepLemmas.{IsDue, Keeps}
 use Rattle.day_gen.proofs.DayLemmas.{day_keeps}
@@ -102,3 +103,18 @@ kept-on g course job keeps below is_course is_job =
           ∙ sym (last_of-snoc (λ x. plans x.stated.cmd) day.history.entries e)
           ∙ ap (λ k. planned_last (day_after g.edition g.number k).history) (sym (add-one g.given));
     }
+
+-- whatever there is to do is for the job that was stated last
+due-job : (h : History) (made : ℕ) (due : Due) (job : JobValue) → IsDue h made due → job_due h due ≡ Some job → planned_last h ≡ Some job
+due-job h made (due.Answer vac person) job todo is = sym (ap (vacancy_of h) todo.0 ∙ todo.1) ∙ is
+due-job h made (due.Report vac person) job todo is = sym (ap (vacancy_of h) todo.0 ∙ todo.1) ∙ is
+due-job h made (due.Release person) job todo is = sym (ap (job_of_vacancy h) todo.0 ∙ todo.1) ∙ is
+due-job h made (due.Call vac) job todo is = sym (ap (vacancy_of h) todo.0 ∙ todo.1) ∙ is
+due-job h made due.Nothing job todo is = cc
+
+pub due-last : (edition : Edition) (number n : ℕ) (job : JobValue) → job_due (generated_day edition number n) (due_by (last_entry (generated_day edition number n))) ≡ Some job
+    → planned_last (generated_day edition number n) ≡ Some job
+unfolding generated_day
+due-last edition number n job is =
+    let day : Day = day_after edition number n in
+    due-job day.history day.course.made (due_on day) job (day_keeps edition number n).due is

@@ -1,12 +1,11 @@
 -- The commands that set the desk up, by their places.
-use Rattle.std.proofs.Common.{◌≡◌, ◌≢◌, ℕ, zero, suc, ◌+◌, ◌-◌, ◌/◌, ◌%◌, ◌≤◌, ◌<◌, Bool, true, false, nat_eq, Option, None, Some, List, [], ◌∷◌, map, length, get_or, refl, sym, ap, ◌∙◌, arith}
+use Rattle.std.proofs.Common.{◌≡◌, ℕ, zero, suc, ◌+◌, ◌-◌, ◌/◌, ◌%◌, ◌≤◌, ◌<◌, true, false, nat_eq, Some, map, length, refl, ap, ◌∙◌, arith}
 use Rattle.std.specs.Option.{option_map}
-use Rattle.std.specs.List.{slice_get, range_with_len, AllPairs, All, slice_index_or}
+use Rattle.std.specs.List.{slice_get, range_with_len}
 use Rattle.std.proofs.lemmas.Option.{slice_get-map, slice_get-get_or}
 use Rattle.std.proofs.lemmas.List.FromFn.{length-range_with_len, get_or-range_with_len}
 use Rattle.qualifications.specs.declared.craft.Craft.TheVariants as craft
 use Rattle.desk_model.specs.declared.command.Cmd.{Cmd}
-use Rattle.day_gen.specs.declared.numbers.TheConstants.{SET_UP}
 use Rattle.day_gen.specs.SetUp.{pool_of, extra_of, sets_up_board, join_command, set_up}
 
 -- the command at a place

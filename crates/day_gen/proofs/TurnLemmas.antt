@@ -1,47 +1,36 @@
 -- What is so after a turn by which something is done for a vacancy.
-use Rattle.std.proofs.Common.{◌≡◌, ◌≢◌, ℕ, zero, suc, ◌+◌, ◌-◌, ◌*◌, ◌/◌, ◌%◌, ◌≤◌, ◌<◌, max, Bool, true, false, nat_eq, nat_lt, Option, None, Some, if◌then◌else◌, List, [], ◌∷◌, ◌++◌, length, length-append, refl, sym, ap, subst, ◌∙◌, arith}
-use Rattle.std.specs.Prelude.{⊤}
+use Rattle.std.proofs.Common.{◌≡◌, ℕ, zero, suc, ◌+◌, ◌*◌, ◌/◌, ◌%◌, ◌≤◌, Bool, true, false, nat_eq, nat_lt, Option, None, Some, if◌then◌else◌, refl, sym, ap, subst, ◌∙◌, arith}
 use Rattle.std.specs.Option.{option_or}
-use Rattle.std.specs.List.{slice_get}
-use Rattle.std.proofs.lemmas.Option.{slice_get_within}
-use Rattle.std.proofs.lemmas.Bool.{ne_eqb, eq-eqb}
-use Rattle.duty_events.specs.declared.event.Event.TheVariants as event
 use Rattle.desk_model.specs.declared.command.Cmd.{Cmd}
 use Rattle.desk_model.specs.declared.command.Cmd.TheVariants as cmd
 use Rattle.desk_model.specs.declared.edition.Edition.{Edition}
-use Rattle.desk_model.specs.declared.edition.Edition.TheVariants as edition
 use Rattle.desk_model.specs.declared.offer.Offer.{Offer}
 use Rattle.desk_model.specs.declared.reply.Reply.{Reply}
-use Rattle.desk_model.specs.Job.{JobValue}
-use Rattle.desk_model.specs.Statement.{stated_of}
 use Rattle.desk_model.specs.Entry.{EntryValue, entry_of}
-use Rattle.desk_model.specs.History.{History, with_entry, is_done, said, last_of}
-use Rattle.desk_model.specs.Legal.{next}
+use Rattle.desk_model.specs.History.{History, with_entry, is_done, said}
 use Rattle.desk_model.specs.Offers.{asks_for, offer_in}
 use Rattle.desk_model.specs.Register.{makes, vacancy_of}
-use Rattle.desk_model.proofs.SaidLemmas.{last_of-snoc, first_of-snoc, first_of-silent, last_of-silent}
+use Rattle.desk_model.proofs.SaidLemmas.{last_of-snoc}
 use Rattle.day_gen.specs.declared.course.Course.{Course}
-use Rattle.day_gen.specs.declared.due.Due.{Due}
 use Rattle.day_gen.specs.declared.due.Due.TheVariants as due
 use Rattle.day_gen.specs.Draws.{moved, drawn}
-use Rattle.day_gen.specs.SetUp.{join_command, set_up}
+use Rattle.day_gen.specs.SetUp.{join_command}
 use Rattle.day_gen.specs.Turn.{Turn, turn_of, stated_by}
-use Rattle.day_gen.specs.Due.{due_after_done, due_after_offer, due_after, due_by, last_entry, accepts, accepted_last, job_of_vacancy, job_due}
-use Rattle.day_gen.specs.Rules.{answer_by, answer_turn, report_of, report_turn, duty_of, release_turn, call_turn, hours_turn, place_turn, vacancy_by, vacancy_turn, is_relief, least_duty, idle_by, passed, idle_turn, turn_by}
-use Rattle.day_gen.specs.Day.{start, day_opening, Day, day_of, turn_at, due_on, set_up_next, next_turn, with_turn, day_after}
-use Rattle.day_gen.specs.GeneratorInside.{plans, planned_last}
-use Rattle.day_gen.proofs.DrawLemmas.{drawn-below}
-use Rattle.day_gen.proofs.SetUpLemmas.{set_up-at, length-set_up, command_at}
-use Rattle.day_gen.proofs.KeepLemmas.{IsDue, IsBounded, Keeps, later, bounded_report, bounded_duty, said-silent, vacancy-silent, planned-silent, accepted-silent, last_entry-with, entries-with, due-split, IsQuiet, IsIdle, IsTimely, quiet_step, stays_last, idle_step}
+use Rattle.day_gen.specs.Due.{due_after_done, due_after_offer, accepts, accepted_last, job_of_vacancy, job_due}
+use Rattle.day_gen.specs.Rules.{answer_turn, report_of, report_turn, duty_of, release_turn, call_turn}
+use Rattle.day_gen.specs.Day.{start, Day, day_of}
+use Rattle.day_gen.specs.Due.{plans, planned_last}
+use Rattle.day_gen.proofs.SetUpLemmas.{command_at}
+use Rattle.day_gen.proofs.KeepLemmas.{IsDue, IsBounded, Keeps, bounded_report, bounded_duty, accepted-silent, due-split, IsQuiet, IsIdle, IsTimely, quiet_step, stays_last, idle_step}
 
-pub quiet : (c : Cmd) → ((v : ℕ) → makes v c ≡ None) → plans c ≡ None → IsQuiet c
+quiet : (c : Cmd) → ((v : ℕ) → makes v c ≡ None) → plans c ≡ None → IsQuiet c
 quiet c none silent = record { makes = none; plans = silent }
 
 pub idle : (c : Cmd) → ((v : ℕ) → makes v c ≡ None) → plans c ≡ None → due_after_done c ≡ due.Nothing → asks_for c ≡ None → IsIdle c
 idle c none silent done asks = record { quiet = quiet c none silent; done = done; asks = asks }
 
 -- the commands that set the desk up
-pub join_idle : (person : ℕ) (first : Bool) → IsIdle (join_command person first)
+join_idle : (person : ℕ) (first : Bool) → IsIdle (join_command person first)
 join_idle person true = idle _ (λ v. refl) refl refl refl
 join_idle person false = idle _ (λ v. refl) refl refl refl
 
@@ -69,13 +58,13 @@ same_minute edition n day turn keeps same = record {
 }
 
 -- who accepts has the vacancy last
-pub accepted_now : (h : History) (e : EntryValue) (vac : ℕ) → accepts e.stated.cmd ≡ Some vac → is_done e.reply ≡ true → accepted_last (with_entry h e) ≡ Some vac
+accepted_now : (h : History) (e : EntryValue) (vac : ℕ) → accepts e.stated.cmd ≡ Some vac → is_done e.reply ≡ true → accepted_last (with_entry h e) ≡ Some vac
 accepted_now h e vac is done =
     last_of-snoc (said accepts) h.entries e
     ∙ ap (λ b. option_or (if b then accepts e.stated.cmd else None) (accepted_last h)) done
     ∙ ap (λ o. option_or o (accepted_last h)) is
 
-pub answered : (edition : Edition) (n : ℕ) (day : Day) (c : Course) (vac person : ℕ) (early late : Bool) → Keeps edition n day
+answered : (edition : Edition) (n : ℕ) (day : Day) (c : Course) (vac person : ℕ) (early late : Bool) → Keeps edition n day
     → IsDue day.history day.course.made (due.Answer vac person) → c.made ≡ day.course.made → c.minute ≡ day.course.minute
     → StepsOn edition n day (turn_of c (if early then cmd.Accept vac person else if late then cmd.Decline vac person else cmd.Withdraw vac person))
 answered edition n day c vac person true late keeps todo made minute moment reply =

@@ -17,7 +17,7 @@ use Rattle.day_gen.specs.Turn.{Turn, turn_of, stated_by}
 use Rattle.day_gen.specs.Due.{last_entry, due_by, job_due}
 use Rattle.day_gen.specs.Rules.{turn_by}
 
--- its first minute, that of January 2024
+-- its first minute, which is that of January 2024
 abbrev pub start : ℕ
 start = first_minute FIRST_MONTH
 

@@ -1,6 +1,5 @@
 -- How a generator draws numbers. All of this is the desk's own rule.
-use Rattle.std.specs.Prelude.{ℕ, ◌+◌, ◌*◌, ◌/◌, ◌%◌, ◌<◌, ◌≤◌, ◌^◌}
-use Rattle.desk_base.specs.declared.minute.TheConstants.{YEARS_BEGIN, YEARS_END}
+use Rattle.std.specs.Prelude.{ℕ, ◌+◌, ◌*◌, ◌/◌, ◌%◌, ◌^◌}
 use Rattle.day_gen.specs.declared.numbers.TheConstants.{MULTIPLIER, INCREMENT}
 use Rattle.day_gen.specs.declared.course.Course.{Course}
 
@@ -15,15 +14,3 @@ moved c = record c { number = next_number c.number }
 -- what its number, which has moved for it, draws of 0 to k - 1
 unfoldable pub drawn : Course → ℕ → ℕ
 drawn c k = (c.number / 2 ^ 33) % k
-
--- there is room for one vacancy more: its report lies in the years 2000 to 2099, and there is a number for it
-pub record HasVacancyRoom (c : Course) : Type 0 where
-  pub begins : YEARS_BEGIN ≤ c.minute
-  pub ends : c.minute + 1_000 < YEARS_END
-  pub numbers : c.made < 9_999_999
-
--- there is room for one turn more, whatever it is
-pub record HasRoom (c : Course) : Type 0 where
-  pub begins : YEARS_BEGIN ≤ c.minute
-  pub ends : c.minute + 10_000 < YEARS_END
-  pub numbers : c.made < 9_999_999

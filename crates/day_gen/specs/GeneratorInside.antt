@@ -1,21 +1,10 @@
 -- How a generator is kept.
-use Rattle.std.specs.Prelude.{◌≡◌, ℕ, ◌≤◌, Option, None, Some}
-use Rattle.desk_model.specs.declared.command.Cmd.{Cmd}
-use Rattle.desk_model.specs.declared.command.Cmd.TheVariants as cmd
-use Rattle.desk_model.specs.Job.{JobValue}
-use Rattle.desk_model.specs.History.{History, last_of}
+use Rattle.std.specs.Prelude.{◌≡◌, ◌≤◌}
 use Rattle.day_gen.specs.declared.numbers.TheConstants.{SET_UP}
 use Rattle.day_gen.specs.declared.day_gen.DayGen.TheInside.{Inside}
+use Rattle.day_gen.specs.Due.{planned_last}
 use Rattle.day_gen.specs.Day.{day_after, generated_day}
 use Rattle.day_gen.specs.Generator.{GeneratorValue, generator_of, most_commands}
-
--- the job of the last vacancy that was stated, whatever was answered
-abbrev pub plans : Cmd → Option JobValue
-plans (cmd.Vacancy job) = Some job
-plans other = None
-
-abbrev pub planned_last : History → Option JobValue
-planned_last h = last_of (λ e. plans e.stated.cmd) h.entries
 
 abbrev pub generator_value : Inside → GeneratorValue
 generator_value g = generator_of g.edition g.number g.commands g.given

@@ -1,4 +1,5 @@
 pub mod Draws
+pub mod Room
 pub mod SetUp
 pub mod Turn
 pub mod Due

@@ -1,5 +1,5 @@
 -- The rules by which a generated day goes on, each the desk's own. A number that is drawn is one of 0 to a number less one.
-use Rattle.std.specs.Prelude.{ℕ, ◌+◌, Bool, true, false, ◌&&◌, nat_eq, nat_lt, max, Option, None, Some, if◌then◌else◌, List, [], ◌∷◌, codes}
+use Rattle.std.specs.Prelude.{ℕ, ◌+◌, Bool, false, nat_eq, nat_lt, max, Option, None, Some, if◌then◌else◌, List, [], ◌∷◌}
 use Rattle.desk_base.specs.Minute.{month_of}
 use Rattle.qualifications.specs.declared.craft.Craft.{Craft}
 use Rattle.qualifications.specs.declared.craft.Craft.TheVariants as craft

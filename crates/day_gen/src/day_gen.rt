@@ -2,11 +2,13 @@ ghost use Rattle.std.specs.Prelude.{◌≡◌, ◌≤◌, ◌<◌, IfSome, IfNon
 ghost use Rattle.std.specs.Option.{option_copied};
 ghost use Rattle.day_gen.specs.Due.{last_entry};
 ghost use Rattle.day_gen.specs.Day.{day_opening, generated_day, day_statement};
-ghost use Rattle.day_gen.specs.GeneratorInside.{plans};
+ghost use Rattle.day_gen.specs.Due.{plans};
 ghost use Rattle.day_gen.specs.Generator.{generator_of, most_commands, one_more};
 
+use crate::course::Course;
+use crate::due::Due;
 use crate::laws::a_generated_day_is_legal;
-use crate::{ANSWER, Course, Due, FIRST_MONTH, MONTHS, SET_UP};
+use crate::{ANSWER, FIRST_MONTH, MONTHS, SET_UP};
 use desk_base::{Month, Window};
 use desk_model::{Cmd, Edition, Entry, Job, Opening, Stated};
 use std::marker::Model;
@@ -24,7 +26,6 @@ pub struct DayGen {
 }
 
 impl Model for DayGen {
-    ghost use Rattle.day_gen.specs.GeneratorInside.{plans};
     ghost use Rattle.day_gen.specs.Generator.{GeneratorValue};
     ghost use Rattle.day_gen.specs.GeneratorInside.{generator_value, KeepsGenerator};
 

@@ -2,11 +2,12 @@
 ghost use Rattle.std.specs.Prelude.{◌≡◌, ◌≤◌, ◌<◌, ◌+◌, ℕ, Some, length};
 ghost use Rattle.std.specs.List.{All};
 ghost use Rattle.desk_model.specs.declared.edition.Edition.{Edition as EditionValue};
+ghost use Rattle.desk_model.specs.Job.{JobValue};
 ghost use Rattle.desk_model.specs.Fits.{IsStated};
 ghost use Rattle.desk_model.specs.History.{opened, with_entry};
 ghost use Rattle.desk_model.specs.Legal.{next, IsLegal};
 ghost use Rattle.day_gen.specs.declared.numbers.TheConstants.{COMMANDS};
-ghost use Rattle.day_gen.specs.Due.{last_entry};
+ghost use Rattle.day_gen.specs.Due.{last_entry, due_by, job_due, planned_last};
 ghost use Rattle.day_gen.specs.Day.{day_opening, generated_day, day_statement};
 
 use desk_model::a_legal_history_fits;
@@ -38,3 +39,9 @@ pub fn a_generated_day_is_legal()
 {
     a_legal_history_fits();
 }
+
+/// Whatever there is to do on a generated day is for the vacancy that was stated last. It does nothing: its clause is the law.
+pub fn what_is_due_is_for_the_last_vacancy()
+    ensures { (edition : EditionValue) (number n : ℕ) (job : JobValue) → let h = generated_day edition number n in
+        job_due h (due_by (last_entry h)) ≡ Some job → planned_last h ≡ Some job }
+{}

@@ -9,10 +9,10 @@ mod numbers;
 mod rules;
 mod set_up;
 
-use course::Course;
 pub use day_gen::DayGen;
-use due::Due;
-pub use laws::{a_generated_day_grows, a_generated_day_is_legal};
+pub use laws::{
+    a_generated_day_grows, a_generated_day_is_legal, what_is_due_is_for_the_last_vacancy,
+};
 pub use numbers::{
     ANSWER, COMMANDS, COMMANDS_OF_TWO, FIRST_MONTH, INCREMENT, MONTHS, MULTIPLIER, PERSONS,
     POOL_PERSONS, SET_UP, most_commands, the_numbers_of_a_day,

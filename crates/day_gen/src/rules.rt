@@ -1,12 +1,14 @@
 //! The rules by which a generated day goes on.
 ghost use Rattle.std.specs.Prelude.{◌≡◌, ◌≤◌, max, slice_get};
-ghost use Rattle.day_gen.specs.Draws.{HasRoom, HasVacancyRoom};
+ghost use Rattle.day_gen.specs.Room.{HasRoom, HasVacancyRoom};
 ghost use Rattle.day_gen.specs.SetUp.{set_up};
 ghost use Rattle.day_gen.specs.Day.{turn_at};
 ghost use Rattle.day_gen.specs.Rules.{answer_turn, report_of, report_turn, duty_of, release_turn, hours_turn, place_turn, craft_by, least_duty, vacancy_turn, is_relief, idle_turn, turn_by};
 
+use crate::course::Course;
+use crate::due::Due;
 use crate::set_up::{chain_of, home, no_quals, pool_of, set_up_command};
-use crate::{Course, Due, PERSONS, SET_UP};
+use crate::{PERSONS, SET_UP};
 use desk_base::{Minute, Month, PersonNo, VacNo};
 use desk_model::{Cmd, Edition, Job};
 use duty_events::Event;

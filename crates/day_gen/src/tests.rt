@@ -1,6 +1,6 @@
 //! The commands of generated days, beside those that were worked out by hand from the rules and their draws.
 ghost use Rattle.std.specs.Bool.{Decides};
-ghost use Rattle.day_gen.specs.Draws.{HasRoom};
+ghost use Rattle.day_gen.specs.Room.{HasRoom};
 
 use crate::course::Course;
 use crate::day_gen::planned;

@@ -1,6 +1,4 @@
-use Rattle.std.proofs.Common.{◌≡◌, ℕ, suc, ◌+◌, refl, ap, ◌∙◌, add-one}
-use Rattle.desk_model.specs.declared.edition.Edition.{Edition}
-use Rattle.desk_model.specs.History.{with_entry}
+use Rattle.std.proofs.Common.{refl, ap, ◌∙◌}
 use Rattle.desk_model.specs.Legal.{next}
 use Rattle.day_gen.specs.Due.{last_entry}
 use Rattle.day_gen.specs.Day.{day_after, generated_day, day_statement}

@@ -1,4 +1,4 @@
-use Rattle.std.proofs.Common.{◌≡◌, Some, [], ◌∷◌, codes, refl, arith}
+use Rattle.std.proofs.Common.{◌≡◌, Some, refl, arith}
 use Rattle.qualifications.specs.declared.craft.Craft.TheVariants as craft
 use Rattle.day_gen.specs.Rules.{chain_of}
 use Rattle.day_gen.proofs.OpeningLemmas.{chain_valid}

@@ -1,7 +1,6 @@
-use Rattle.std.proofs.Common.{◌≡◌, ℕ, suc, ◌+◌, ◌-◌, ◌/◌, ◌%◌, ◌≤◌, ◌<◌, nat_eq, Some, refl, sym, ap, ◌∙◌, arith}
-use Rattle.std.specs.List.{slice_get}
-use Rattle.day_gen.specs.SetUp.{set_up, join_command}
-use Rattle.day_gen.proofs.SetUpLemmas.{set_up-at, command_at, command_at-join}
+use Rattle.std.proofs.Common.{◌≡◌, ◌-◌, ◌/◌, ◌%◌, ◌≤◌, nat_eq, Some, sym, ap, ◌∙◌, arith}
+use Rattle.day_gen.specs.SetUp.{join_command}
+use Rattle.day_gen.proofs.SetUpLemmas.{set_up-at, command_at-join}
 use Rattle.day_gen.proofs.set_up.set_up_command.Goals as goal
 
 pub returns-in-0 : goal.returns-in-0

@@ -1,13 +1,8 @@
-use Rattle.std.proofs.Common.{◌≡◌, ℕ, ◌+◌, ◌<◌, Some, refl, sym, ap, subst, ◌∙◌, arith}
+use Rattle.std.proofs.Common.{◌≡◌, ◌<◌, refl, sym, ap, subst, ◌∙◌, arith}
 use Rattle.std.specs.Option.{option_copied, option_or}
-use Rattle.std.specs.List.{slice_get}
 use Rattle.desk_model.specs.Fits.{IsStated}
-use Rattle.desk_model.specs.Statement.{StatedValue, stated_of}
-use Rattle.day_gen.specs.SetUp.{set_up}
-use Rattle.day_gen.specs.Turn.{Turn}
-use Rattle.day_gen.specs.Day.{turn_at, next_turn, day_after, day_statement}
-use Rattle.day_gen.specs.Generator.{one_more}
-use Rattle.day_gen.specs.GeneratorInside.{plans}
+use Rattle.desk_model.specs.Statement.{stated_of}
+use Rattle.day_gen.specs.Due.{plans}
 use Rattle.day_gen.proofs.NextLemmas.{most_few, day-room, turn-is, due-is, stated-is, kept-on}
 use Rattle.day_gen.proofs.day_gen.DayGen.next.Goals as goal
 
