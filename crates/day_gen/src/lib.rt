@@ -6,6 +6,7 @@ mod day_gen;
 mod due;
 mod laws;
 mod numbers;
+mod plan;
 mod rules;
 mod set_up;
 

@@ -3,10 +3,11 @@ ghost use Rattle.std.specs.Prelude.{◌≡◌, ◌≤◌, max, slice_get};
 ghost use Rattle.day_gen.specs.Room.{HasRoom, HasVacancyRoom};
 ghost use Rattle.day_gen.specs.SetUp.{set_up};
 ghost use Rattle.day_gen.specs.Day.{turn_at};
-ghost use Rattle.day_gen.specs.Rules.{answer_turn, report_of, report_turn, duty_of, release_turn, hours_turn, place_turn, craft_by, least_duty, vacancy_turn, is_relief, idle_turn, turn_by};
+ghost use Rattle.day_gen.specs.Rules.{answer_turn, report_of, report_turn, duty_of, release_turn, hours_turn, place_turn, least_duty, vacancy_turn, is_relief, idle_turn, turn_by};
 
 use crate::course::Course;
 use crate::due::Due;
+use crate::plan::Plan;
 use crate::set_up::{chain_of, home, no_quals, pool_of, set_up_command};
 use crate::{PERSONS, SET_UP};
 use desk_base::{Minute, Month, PersonNo, VacNo};
@@ -125,19 +126,17 @@ impl Course {
         ensures course { self.new ≡ (vacancy_turn self.old relief).course }
         ensures cmd { result ≡ (vacancy_turn self.old relief).cmd }
     {
-        let craft = craft_by(self.draw(2));
-        let wait = self.draw(60);
-        let length = self.draw(120) as u16;
+        let plan = Plan::draw(self);
         self.made += 1;
         let job = Job::new(
             VacNo::new(self.made).unwrap(),
-            craft,
+            plan.craft,
             no_quals(),
             home(),
-            self.minute.after(60 + wait),
-            least_duty(relief) + length,
+            self.minute.after(60 + plan.wait),
+            least_duty(relief) + plan.length,
             0,
-            chain_of(craft),
+            chain_of(plan.craft),
             relief,
         );
         Cmd::Vacancy(job.unwrap())
@@ -163,13 +162,6 @@ fn duty_of(job: Option<Job>) -> u16
         Some(job) => job.duty(),
         None => 0,
     }
-}
-
-// The craft that a vacancy asks for, by what was drawn.
-fn craft_by(draw: u64) -> Craft
-    ensures { result ≡ craft_by draw }
-{
-    if draw == 0 { Craft::E } else { Craft::C }
 }
 
 // The least minutes on duty of a job.
