@@ -1,0 +1,11 @@
+pub mod DrawLemmas
+pub mod SetUpLemmas
+pub mod OpeningLemmas
+pub mod KeepLemmas
+pub mod TurnLemmas
+pub mod IdleLemmas
+pub mod DayLemmas
+pub mod DueLemmas
+pub mod FitLemmas
+pub mod LegalLemmas
+pub mod NextLemmas

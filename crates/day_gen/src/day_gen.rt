@@ -1,0 +1,95 @@
+ghost use Rattle.std.specs.Prelude.{◌≡◌, ◌≤◌, ◌<◌, IfSome, IfNone};
+ghost use Rattle.std.specs.Option.{option_copied};
+ghost use Rattle.day_gen.specs.Due.{last_entry};
+ghost use Rattle.day_gen.specs.Day.{day_opening, generated_day, day_statement};
+ghost use Rattle.day_gen.specs.Due.{plans};
+ghost use Rattle.day_gen.specs.Generator.{generator_of, most_commands, one_more};
+
+use crate::course::Course;
+use crate::due::Due;
+use crate::laws::a_generated_day_is_legal;
+use crate::{ANSWER, FIRST_MONTH, MONTHS, SET_UP};
+use desk_base::{Month, Window};
+use desk_model::{Cmd, Edition, Entry, Job, Opening, Stated};
+use std::marker::Model;
+
+/// A generator of the commands of a day, which a desk answers one after another: each follows from a number, from what the
+/// generator gave before, and from the last entry of the desk.
+#[derive(Drop)]
+pub struct DayGen {
+    edition: Edition,
+    number: u64,
+    commands: u32,
+    given: u32,
+    course: Course,
+    job: Option<Job>,
+}
+
+impl Model for DayGen {
+    ghost use Rattle.day_gen.specs.Generator.{GeneratorValue};
+    ghost use Rattle.day_gen.specs.GeneratorInside.{generator_value, KeepsGenerator};
+
+    ghost Value = { GeneratorValue };
+
+    ghost view = { generator_value };
+
+    ghost invariant = { KeepsGenerator };
+}
+
+impl DayGen {
+    /// A generator of so many commands from a number: 64 to 20,000 in the first edition, and to 10,000 in the second.
+    pub fn new(commands: u32, number: u64, edition: Edition) -> DayGen
+        requires some { SET_UP ≤ commands }
+        requires most { commands ≤ most_commands edition }
+        ensures { result ≡ generator_of edition number commands 0 }
+    {
+        DayGen {
+            edition,
+            number,
+            commands,
+            given: 0,
+            course: Course::first(number),
+            job: None,
+        }
+    }
+
+    /// How the desk is opened that is to answer.
+    pub fn opening(&self) -> Opening
+        ensures { result ≡ day_opening self.now.edition }
+    {
+        let month = Month::new(FIRST_MONTH).unwrap();
+        let window = Window::new(month, MONTHS).unwrap();
+        Opening::new(month.first(), window, ANSWER, self.edition).unwrap()
+    }
+
+    /// What is stated next, by caller 0, where this is the last entry of the desk, which answered all that was stated so far and
+    /// nothing else; `None` where all commands were given.
+    pub fn next(&mut self, last: Option<&Entry>) -> Option<Stated>
+        requires { option_copied last ≡ last_entry (generated_day self.old.edition self.old.number self.old.given) }
+        ensures none { IfNone result ((self.old.given ≡ self.old.commands) × (self.new ≡ self.old)) }
+        ensures some { IfSome result (λ stated. (self.old.given < self.old.commands)
+            × (stated ≡ day_statement self.old.edition self.old.number self.old.given)
+            × (self.new ≡ one_more self.old)) }
+    {
+        a_generated_day_is_legal();
+        if self.given == self.commands {
+            return None;
+        }
+        let cmd = self
+            .course
+            .turn(self.edition, self.given, self.job, Due::by(last));
+        self.job = planned(&cmd).or(self.job);
+        self.given += 1;
+        Some(Stated::new(self.course.minute, cmd).unwrap())
+    }
+}
+
+/// The job of a vacancy that a command makes.
+pub(crate) fn planned(cmd: &Cmd) -> Option<Job>
+    ensures { result ≡ plans cmd.now }
+{
+    match cmd {
+        Cmd::Vacancy(job) => Some(*job),
+        _ => None,
+    }
+}
