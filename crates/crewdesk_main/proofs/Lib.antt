@@ -2,4 +2,5 @@ pub mod HistoryLemmas
 pub mod InputLemmas
 pub mod JournalLemmas
 pub mod LineLemmas
+pub mod NumberLemmas
 pub mod ReplayLemmas

@@ -1,15 +1,30 @@
 -- What a run does whose words are a form.
-use Rattle.std.specs.Prelude.{ℕ, Option, List}
+use Rattle.std.specs.Prelude.{◌≡◌, ◌⊎◌, ℕ, Option, List}
+use Rattle.std.specs.Io.KnownBytes.{Appends}
+use Rattle.desk_io.specs.Faults.{Rose}
+use Rattle.desk_io.specs.Giving.{AddsFront}
 use Rattle.desk_io.specs.declared.status.Status.{Status}
+use Rattle.desk_io.specs.declared.status.Status.TheVariants.{Fine, WriteFault, NoMemory}
+use Rattle.desk_text.specs.Tally.{tally_text}
+use Rattle.day_gen.specs.Day.{generated_day}
 use Rattle.crewdesk_main.specs.declared.form.Form.{Form}
 use Rattle.crewdesk_main.specs.declared.form.Form.TheVariants as form
 use Rattle.crewdesk_main.specs.Texts.{EndsPrint, help_text, version_text}
 use Rattle.crewdesk_main.specs.Replay.{EndsReplay, text_of}
 use Rattle.crewdesk_main.specs.Audit.{EndsAudit}
 
+-- a run that ended so printed this text, or had a write fault, and printed a front of it; or memory was wanting
+pub record EndsGen (result : Status) (text : List ℕ) (held held' : Option (List ℕ)) (given given' : ℕ) : Type 0 where
+  pub fine : result ≡ Fine → Appends held held' text
+  pub write_fault : result ≡ WriteFault → AddsFront held held' text
+  pub write_cause : result ≡ WriteFault → Rose given given'
+  pub only : (result ≡ Fine) ⊎ ((result ≡ WriteFault) ⊎ (result ≡ NoMemory))
+
 -- a run of the form that ended so did this: what its source and sink told before and after, and how many faults they counted
 abbrev pub Ends : Form → Status → Option (List ℕ) → Option (List ℕ) → ℕ → ℕ → Option (List ℕ) → Option (List ℕ) → ℕ → ℕ → Type 0
 Ends form.Help result left left' asked asked' held held' given given' = EndsPrint result help_text held held' given given'
 Ends form.Version result left left' asked asked' held held' given given' = EndsPrint result version_text held held' given given'
 Ends (form.Day how) result left left' asked asked' held held' given given' = EndsReplay result (text_of how) left left' asked asked' held held' given given'
+Ends (form.Gen commands number edition) result left left' asked asked' held held' given given' =
+    EndsGen result (tally_text (generated_day edition number commands)) held held' given given'
 Ends form.Audit result left left' asked asked' held held' given given' = EndsAudit result left left' asked asked' held held' given given'

@@ -1,7 +1,12 @@
 -- The words that the program is given, and the forms of its command line.
-use Rattle.std.specs.Prelude.{ℕ, Bool, true, false, nat_eq, Option, None, Some, if◌then◌else◌, List, [], ◌∷◌, codes, String, string_bytes}
+use Rattle.std.specs.Prelude.{ℕ, ◌^◌, ◌≤◌, ⊤, Bool, true, false, ◌&&◌, nat_eq, nat_le, nat_lt, Option, None, Some, if◌then◌else◌, List, [], ◌∷◌, codes, decimal, String, string_bytes}
 use Rattle.std.specs.Cmp.Lexicographic.{pointwise}
+use Rattle.std.specs.Str.Parse.{digits_value}
 use Rattle.std.specs.Global.{Global}
+use Rattle.desk_model.specs.declared.edition.Edition.{Edition}
+use Rattle.desk_model.specs.declared.edition.Edition.TheVariants as edition
+use Rattle.day_gen.specs.declared.numbers.TheConstants.{SET_UP}
+use Rattle.day_gen.specs.Generator.{most_commands}
 use Rattle.crewdesk_main.specs.declared.day_form.DayForm.TheVariants as day
 use Rattle.crewdesk_main.specs.declared.form.Form.{Form}
 use Rattle.crewdesk_main.specs.declared.form.Form.TheVariants as form
@@ -12,6 +17,35 @@ is_alone form [] = false
 is_alone form (word ∷ []) = pointwise nat_eq (string_bytes word) form
 is_alone form (word ∷ other ∷ more) = false
 
+-- the numbers of a form are what they may be: a day has no fewer commands than set its desk up, and no more than its edition has
+abbrev pub HasNumbers : Form → Type 0
+HasNumbers (form.Gen commands number edition) = (SET_UP ≤ commands) × (commands ≤ most_commands edition)
+HasNumbers other = ⊤
+
+-- a word is this one
+abbrev pub is_word : List ℕ → String Global → Bool
+is_word form word = pointwise nat_eq (string_bytes word) form
+
+-- the number, below 2^64, whose decimal a text is; none where it is that of none
+unfoldable pub number_in : List ℕ → Option ℕ
+number_in text =
+    if nat_lt (digits_value 10 text) (2 ^ 64) && pointwise nat_eq (decimal (digits_value 10 text)) text then Some (digits_value 10 text) else None
+
+-- a day of so many commands is made from a number; none where a day may not have so many
+abbrev pub gen_form : Edition → Option ℕ → Option ℕ → Option Form
+gen_form edition None number = None
+gen_form edition (Some commands) None = None
+gen_form edition (Some commands) (Some number) =
+    if nat_le SET_UP commands && nat_le commands (most_commands edition) then Some (form.Gen commands number edition) else None
+
+-- the form that words with numbers are: `gen N K`, and `gen N K 2` for the second edition
+abbrev pub numbered_form : List (String Global) → Option Form
+numbered_form (word ∷ commands ∷ number ∷ []) =
+    if is_word (codes "gen") word then gen_form edition.One (number_in (string_bytes commands)) (number_in (string_bytes number)) else None
+numbered_form (word ∷ commands ∷ number ∷ two ∷ []) =
+    if is_word (codes "gen") word && is_word (codes "2") two then gen_form edition.Two (number_in (string_bytes commands)) (number_in (string_bytes number)) else None
+numbered_form other = None
+
 -- the form that they are; none where they are no form of the command line
 abbrev pub form_of : List (String Global) → Option Form
 form_of words =
@@ -20,7 +54,7 @@ form_of words =
     else if is_alone (codes "audit") words then Some form.Audit
     else if is_alone (codes "--help") words then Some form.Help
     else if is_alone (codes "--version") words then Some form.Version
-    else None
+    else numbered_form words
 
 -- the form runs the desk, and doesn't print what the program says of itself
 abbrev pub runs : Form → Bool

@@ -1,8 +1,11 @@
-ghost use Rattle.std.specs.Prelude.{◌≡◌};
-ghost use Rattle.crewdesk_main.specs.Words.{form_of};
+ghost use Rattle.std.specs.Prelude.{◌≡◌, IfSome};
+ghost use Rattle.crewdesk_main.specs.Words.{form_of, numbered_form, gen_form, number_in, HasNumbers};
 
 use crate::day_form::DayForm;
+use crate::read_number::read_number;
 use crate::words::is_alone;
+use day_gen::{SET_UP, most_commands};
+use desk_model::Edition;
 
 /// The forms of the command line.
 #[derive(Clone, Copy)]
@@ -15,12 +18,22 @@ pub enum Form {
     Day(DayForm),
     /// Audits a journal.
     Audit,
+    /// Makes a day from a number, and writes the tally of its replay.
+    Gen {
+        /// How many commands it has, 64 to 20,000, and in the second edition to 10,000.
+        commands: u32,
+        /// The number.
+        number: u64,
+        /// The edition of the rules.
+        edition: Edition,
+    },
 }
 
 impl Form {
     /// The form that the words are; `None` where they are none.
     pub fn read(words: &[String]) -> Option<Form>
-        ensures { result ≡ form_of words.now }
+        ensures is { result ≡ form_of words.now }
+        ensures numbers { IfSome result HasNumbers }
     {
         if is_alone(words, "replay") {
             Some(Form::Day(DayForm::Replay))
@@ -33,7 +46,41 @@ impl Form {
         } else if is_alone(words, "--version") {
             Some(Form::Version)
         } else {
-            None
+            numbered(words)
         }
+    }
+}
+
+// The form that words with numbers are.
+fn numbered(words: &[String]) -> Option<Form>
+    ensures is { result ≡ numbered_form words.now }
+    ensures numbers { IfSome result HasNumbers }
+{
+    match words {
+        [word, commands, number] if word.as_str() == "gen" => {
+            gen_form(Edition::One, commands.as_str(), number.as_str())
+        }
+        [word, commands, number, two] if word.as_str() == "gen" && two.as_str() == "2" => {
+            gen_form(Edition::Two, commands.as_str(), number.as_str())
+        }
+        _ => None,
+    }
+}
+
+// The form that makes a day of so many commands from a number; `None` where a day may not have so many.
+fn gen_form(edition: Edition, commands: &str, number: &str) -> Option<Form>
+    ensures is { result ≡ gen_form edition (number_in commands.now) (number_in number.now) }
+    ensures numbers { IfSome result HasNumbers }
+{
+    let commands = read_number(commands)?;
+    let number = read_number(number)?;
+    if commands >= u64::from(SET_UP) && commands <= u64::from(most_commands(edition)) {
+        Some(Form::Gen {
+            commands: commands as u32,
+            number,
+            edition,
+        })
+    } else {
+        None
     }
 }

@@ -8,12 +8,14 @@ ghost use Rattle.crewdesk_main.specs.Words.{form_of, is_asked, reads, runs};
 
 use crate::audit_form::audit_journal;
 use crate::form::Form;
+use crate::generate::tally_generated;
 use crate::replay::replay_day;
 use desk_io::{Sink, Source, Status};
 use std::alloc::Global;
 
 /// Runs the desk as the words say: with `replay` it reads a day file from the source and writes its journal to the sink, with
-/// `tally` its tally; with `audit` it reads a journal and writes whether it is legal. It knows no other words.
+/// `tally` its tally; with `audit` it reads a journal and writes whether it is legal; with `gen` and numbers it reads nothing, and
+/// writes the tally of a day that is made from them. It knows no other words.
 pub fn run<S: Source, K: Sink>(
     alloc: Global,
     words: &[String],
@@ -40,6 +42,13 @@ pub fn run<S: Source, K: Sink>(
     match Form::read(words) {
         Some(Form::Day(form)) => replay_day(alloc, form, source, sink),
         Some(Form::Audit) => audit_journal(alloc, source, sink),
+        Some(
+            Form::Gen {
+                commands,
+                number,
+                edition,
+            },
+        ) => tally_generated(alloc, commands, number, edition, sink),
         Some(Form::Help) | Some(Form::Version) | None => Status::Usage,
     }
 }

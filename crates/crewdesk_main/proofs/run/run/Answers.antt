@@ -4,10 +4,16 @@ use Rattle.crewdesk_main.proofs.run.run.Goals as goal
 
 pub returns-in-Some-Day-clause-ends : goal.returns-in-Some-Day-clause-ends
 returns-in-Some-Day-clause-ends g c = λ given is runs.
-    let same : given ≡ form.Day c.in-Some-Day.form = let read = c.read.ensures in let found = c.in-Some-Day.is in let how = c.in-Some-Day.form-is in cc in
+    let same : given ≡ form.Day c.in-Some-Day.form = let read = c.read.ensures.is in let found = c.in-Some-Day.is in let how = c.in-Some-Day.form-is in cc in
     rw (same) (search rules)
 
 pub returns-in-Some-Audit-clause-ends : goal.returns-in-Some-Audit-clause-ends
 returns-in-Some-Audit-clause-ends g c = λ given is runs.
-    let same : given ≡ form.Audit = let read = c.read.ensures in let found = c.in-Some-Audit.is in cc in
+    let same : given ≡ form.Audit = let read = c.read.ensures.is in let found = c.in-Some-Audit.is in cc in
+    rw (same) (search rules)
+
+pub returns-in-Some-Gen-clause-ends : goal.returns-in-Some-Gen-clause-ends
+returns-in-Some-Gen-clause-ends g c = λ given is runs.
+    let same : given ≡ form.Gen c.in-Some-Gen.commands c.in-Some-Gen.number c.in-Some-Gen.edition =
+    let read = c.read.ensures.is in let found = c.in-Some-Gen.is in cc in
     rw (same) (search rules)
