@@ -12,6 +12,6 @@ pub record IsCode (text : List ℕ) : Type 0 where
   pub most : length text ≤ 6
   pub bytes : IsTrue (list_all is_code_byte text)
 
--- the text, filled up to six bytes with zeros
+-- the text, filled up to seven bytes with zeros
 abbrev pub padded_code : List ℕ → List ℕ
-padded_code text = text ++ replicate (6 - length text) 0
+padded_code text = text ++ replicate (7 - length text) 0

@@ -1,4 +1,4 @@
--- How a code is kept: six bytes, of which the first are its text and the others are zero.
+-- How a code is kept: seven bytes, of which the first are its text and the others are zero.
 use Rattle.std.specs.Prelude.{◌≡◌, ℕ, ◌-◌, ◌≤◌, List, ◌++◌, length, take, drop, replicate}
 use Rattle.std.proofs.Common.{sym, ap, ◌∙◌, arith, length-take, take-append-drop}
 use Rattle.desk_base.specs.Code.{IsCode, padded_code}
@@ -8,9 +8,9 @@ abbrev pub code_text : Inside → List ℕ
 code_text a = take a.len a.bytes
 
 pub record KeepsCode (a : Inside) : Type 0 where
-  pub bytes : length a.bytes ≡ 6
+  pub bytes : length a.bytes ≡ 7
   pub len : a.len ≤ 6
-  pub zeros : drop a.len a.bytes ≡ replicate (6 - a.len) 0
+  pub zeros : drop a.len a.bytes ≡ replicate (7 - a.len) 0
   pub code : IsCode (take a.len a.bytes)
 
 abbrev pub inside_of : List ℕ → ℕ → Inside
@@ -24,5 +24,5 @@ pub code_inside-code_text : (a : Inside) → KeepsCode a → code_inside (code_t
 code_inside-code_text a k =
     let len : length (take a.len a.bytes) ≡ a.len = length-take a.len a.bytes ∙ omega (arith, k.len, k.bytes) in
     let bytes : padded_code (take a.len a.bytes) ≡ a.bytes =
-    ap (λ n. take a.len a.bytes ++ replicate (6 - n) 0) len ∙ ap (λ zs. take a.len a.bytes ++ zs) (sym k.zeros) ∙ take-append-drop a.len a.bytes in
+    ap (λ n. take a.len a.bytes ++ replicate (7 - n) 0) len ∙ ap (λ zs. take a.len a.bytes ++ zs) (sym k.zeros) ∙ take-append-drop a.len a.bytes in
     ap (λ b. inside_of b (length (take a.len a.bytes))) bytes ∙ ap (inside_of a.bytes) len

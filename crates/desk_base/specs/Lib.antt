@@ -9,3 +9,4 @@ pub mod CodeInside
 pub mod Number
 pub mod Decimal
 pub mod Parts
+pub mod WindowInside

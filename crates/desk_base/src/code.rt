@@ -9,7 +9,8 @@ use std::marker::Model;
 /// The code of a board, a place or a home: 1 to 6 bytes of A to Z and 0 to 9. A contract sees its text.
 #[derive(Clone, Copy, Debug)]
 pub struct Code {
-    bytes: [u8; 6],
+    // One byte more than a code has, so that it is copied as a word.
+    bytes: [u8; 7],
     len: u8,
 }
 
@@ -93,11 +94,11 @@ fn all_code_bytes(text: &[u8]) -> bool
 }
 
 // The text, filled up with zeros.
-fn padded(text: &[u8]) -> [u8; 6]
-    requires { length text.now ≤ 6 }
+fn padded(text: &[u8]) -> [u8; 7]
+    requires { length text.now ≤ 7 }
     ensures { result ≡ padded_code text.now }
 {
-    let mut bytes = [0; 6];
+    let mut bytes = [0; 7];
     bytes[..text.len()].copy_from_slice(text);
     bytes
 }

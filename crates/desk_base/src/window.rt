@@ -13,18 +13,23 @@ pub const WINDOW_MONTHS: u8 = 24;
 pub struct Window {
     first: Month,
     months: u8,
+    start: Minute,
+    end: Minute,
 }
 
 impl Model for Window {
-    ghost use Rattle.desk_base.specs.Window.{WindowValue, IsWindow};
+    ghost use Rattle.desk_base.specs.Window.{WindowValue};
+    ghost use Rattle.desk_base.specs.WindowInside.{window_in, KeepsWindow, window_inside, window_inside-window_in};
 
     ghost Value = { WindowValue };
 
-    ghost view = { λ w. record { first = w.first; months = w.months } };
+    ghost view = { window_in };
 
-    ghost invariant = { λ w. IsWindow (record { first = w.first; months = w.months }) };
+    ghost invariant = { KeepsWindow };
 
-    ghost inverse = { λ v. record { first = v.first; months = v.months } };
+    ghost inverse = { window_inside };
+
+    ghost inverse_ok = { window_inside-window_in };
 }
 
 impl Window {
@@ -36,7 +41,12 @@ impl Window {
         let number = first.number();
         let in_years = number >= MONTHS_BEGIN && number + u16::from(months) <= MONTHS_END;
         if months >= 1 && months <= WINDOW_MONTHS && in_years {
-            Some(Window { first, months })
+            Some(Window {
+                first,
+                months,
+                start: first.first(),
+                end: first.after(months).first(),
+            })
         } else {
             None
         }
@@ -79,13 +89,13 @@ impl Window {
         ensures value { result ≡ start_of self.now }
         ensures range { IsWindow self.now }
     {
-        self.first.first()
+        self.start
     }
 
     /// The first minute after the window.
     pub fn end(&self) -> Minute
         ensures { result ≡ end_of self.now }
     {
-        self.first.after(self.months).first()
+        self.end
     }
 }

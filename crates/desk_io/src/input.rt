@@ -6,7 +6,7 @@ use crate::{InputFault, Source, Taking};
 use std::alloc::Global;
 
 // How many bytes are asked for at once, at most.
-const PIECE: usize = 4096;
+const PIECE: usize = 65_536;
 
 /// Takes all that the source has, at most `limit` bytes.
 /// It asks for one byte more than `limit` at most, and stops at the first fault.

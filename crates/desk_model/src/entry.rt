@@ -10,10 +10,10 @@ use std::marker::Model;
 /// One entry of the journal: who stated what, when the desk took it, and what it answered.
 #[derive(Clone, Copy, Debug)]
 pub struct Entry {
-    caller: u8,
     stated: Stated,
-    moment: Minute,
     reply: Reply,
+    moment: Minute,
+    caller: u8,
 }
 
 impl Model for Entry {

@@ -11,14 +11,14 @@ use std::marker::Model;
 /// A job that is to be filled: what it asks for, when and where it begins, and how long it is planned to take.
 #[derive(Clone, Copy, Debug, PartialEq, Eq)]
 pub struct Job {
-    vac: VacNo,
-    craft: Craft,
     quals: Quals,
-    place: Code,
+    vac: VacNo,
     report: Minute,
     duty: u16,
     limbo: u16,
+    place: Code,
     chain: Chain,
+    craft: Craft,
     relief: bool,
 }
 
