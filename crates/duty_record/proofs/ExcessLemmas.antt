@@ -13,7 +13,7 @@ use Rattle.std.proofs.lemmas.Map.Views.{All-after_first}
 use Rattle.desk_model.specs.History.{History}
 use Rattle.duty_record.specs.declared.person_tours.PersonTours.{PersonTours}
 use Rattle.duty_record.specs.declared.tour_book.TourBook.{TourBook}
-use Rattle.duty_record.specs.Reports.{Report, reports}
+use Rattle.duty_record.specs.Deeds.{Deed, deeds}
 use Rattle.duty_record.specs.EndedTours.{ended_tours}
 use Rattle.duty_record.specs.Tours.{is_relief, record_of, tours, is_excess, excess_of, excess_list}
 use Rattle.duty_record.specs.Kept.{IsUnder, AreTours}
@@ -73,11 +73,11 @@ listed-sorted f first (suc many) (k ∷ ks) sorted lies none =
 
 -- ---- the list of all persons
 
-nothing : (h : History) (p : ℕ) → reports h p ≡ [] → excess_of h p ≡ []
+nothing : (h : History) (p : ℕ) → deeds h p ≡ [] → excess_of h p ≡ []
 unfolding tours
-nothing h p none = ap (λ rs. filter is_excess (map (λ t. record_of p (is_relief h t.vacancy) t) rs)) (ap ended_tours none ∙ ended_tours-none)
+nothing h p none = ap (λ ds. filter is_excess (map (λ t. record_of p (is_relief h t.vacancy) t) ds)) (ap ended_tours none ∙ ended_tours-none)
 
-unkept : (book : TourBook) (h : History) (p : ℕ) (o : Option PersonTours) → is_some o ≡ false → IsUnder o (reports h p) → excess_of h p ≡ []
+unkept : (book : TourBook) (h : History) (p : ℕ) (o : Option PersonTours) → is_some o ≡ false → IsUnder o (deeds h p) → excess_of h p ≡ []
 unkept book h p None none is = nothing h p is
 unkept book h p (Some k) none is = absurd (false≢true (sym none))
 
@@ -85,15 +85,15 @@ any-number : (n : ℕ) (ks : List ℕ) → list_any (eq_by_cmp nat_cmp n) ks ≡
 any-number n [] = refl
 any-number n (k ∷ ks) = rw (at-number n k, any-number n ks) refl
 
-numbered : (book : TourBook) (reported : ℕ → List Report) → AreTours book reported → (p : ℕ) → (o : Option PersonTours) → tree.get nat_cmp book.people p ≡ o → IsSome o → LiesIn 1 9_999_999 p
-numbered book reported are p None at some = absurd (false≢true some)
-numbered book reported are p (Some k) at some = let is = are.numbered p k at in record { from = omega (arith, is.0); to = omega (arith, is.1) }
+numbered : (book : TourBook) (did : ℕ → List Deed) → AreTours book did → (p : ℕ) → (o : Option PersonTours) → tree.get nat_cmp book.people p ≡ o → IsSome o → LiesIn 1 9_999_999 p
+numbered book did are p None at some = absurd (false≢true some)
+numbered book did are p (Some k) at some = let is = are.numbered p k at in record { from = omega (arith, is.0); to = omega (arith, is.1) }
 
-pub excess-listed : (book : TourBook) (h : History) → AreTours book (reports h) → tree.IsOrdered nat_cmp book.people → All (tree.ContainsKey nat_cmp book.people) (tree.keys book.people)
+pub excess-listed : (book : TourBook) (h : History) → AreTours book (deeds h) → tree.IsOrdered nat_cmp book.people → All (tree.ContainsKey nat_cmp book.people) (tree.keys book.people)
     → ((p : ℕ) → is_some (tree.get nat_cmp book.people p) ≡ list_any (eq_by_cmp nat_cmp p) (tree.keys book.people))
     → excess_list h ≡ flat_map (excess_of h) (tree.keys book.people)
 unfolding excess_list
 excess-listed book h are ordered found has =
     listed-sorted (excess_of h) 1 9_999_999 (tree.keys book.people) ordered
-    (All-weaker (tree.ContainsKey nat_cmp book.people) (LiesIn 1 9_999_999) (λ p some. numbered book (reports h) are p (tree.get nat_cmp book.people p) refl some) (tree.keys book.people) found)
+    (All-weaker (tree.ContainsKey nat_cmp book.people) (LiesIn 1 9_999_999) (λ p some. numbered book (deeds h) are p (tree.get nat_cmp book.people p) refl some) (tree.keys book.people) found)
     (λ n from gone. unkept book h n (tree.get nat_cmp book.people n) (has n ∙ any-number n (tree.keys book.people) ∙ gone) (are.each n))

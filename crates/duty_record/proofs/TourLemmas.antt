@@ -1,36 +1,36 @@
--- Tours that have ended, where one report more comes.
+-- Tours that have ended, where one deed more comes.
 use Rattle.std.proofs.Common.{◌≡◌, ℕ, Option, None, Some, List, [], ◌∷◌, ◌++◌, fold, refl, sym, ap, ◌∙◌, append_assoc, append-nil}
 use Rattle.std.specs.List.{cons_option}
 use Rattle.std.proofs.lemmas.List.{map-append}
 use Rattle.duty_events.specs.declared.stage.Stage.{Stage}
 use Rattle.duty_events.specs.declared.stage.Stage.TheVariants as stage
 use Rattle.duty_events.specs.Lists.{stage_of, stage_after}
-use Rattle.duty_record.specs.Reports.{Report, events_in}
-use Rattle.duty_record.specs.EndedTours.{begun_for, vacancy_from, last_vacancy, closed, closed_from, ended_tours}
+use Rattle.duty_record.specs.Deeds.{Deed, events_in}
+use Rattle.duty_record.specs.EndedTours.{begun_for, vacancy_from, last_vacancy, ended_by, ended_from, ended_tours}
 
-pub events_in-push : (rs : List Report) (r : Report) → events_in (rs ++ r ∷ []) ≡ events_in rs ++ r.event ∷ []
-events_in-push rs r = map-append (λ (x : Report). x.event) rs (r ∷ [])
+pub events_in-push : (ds : List Deed) (d : Deed) → events_in (ds ++ d ∷ []) ≡ events_in ds ++ d.event ∷ []
+events_in-push ds d = map-append (λ (x : Deed). x.event) ds (d ∷ [])
 
-vacancy_from-push : (s : Stage) (v : Option ℕ) (rs : List Report) (r : Report) → vacancy_from s v (rs ++ r ∷ []) ≡ begun_for (fold stage_after s (events_in rs)) (vacancy_from s v rs) r
-vacancy_from-push s v [] r = refl
-vacancy_from-push s v (x ∷ rs) r = vacancy_from-push (stage_after s x.event) (begun_for s v x) rs r
+vacancy_from-push : (s : Stage) (v : Option ℕ) (ds : List Deed) (d : Deed) → vacancy_from s v (ds ++ d ∷ []) ≡ begun_for (fold stage_after s (events_in ds)) (vacancy_from s v ds) d
+vacancy_from-push s v [] d = refl
+vacancy_from-push s v (x ∷ ds) d = vacancy_from-push (stage_after s x.event) (begun_for s v x) ds d
 
-pub last_vacancy-push : (rs : List Report) (r : Report) → last_vacancy (rs ++ r ∷ []) ≡ begun_for (stage_of (events_in rs)) (last_vacancy rs) r
-last_vacancy-push rs r = vacancy_from-push stage.Off None rs r
+pub last_vacancy-push : (ds : List Deed) (d : Deed) → last_vacancy (ds ++ d ∷ []) ≡ begun_for (stage_of (events_in ds)) (last_vacancy ds) d
+last_vacancy-push ds d = vacancy_from-push stage.Off None ds d
 
 cons_option-append : {X : Type 0} (o : Option X) (xs ys : List X) → cons_option o (xs ++ ys) ≡ cons_option o xs ++ ys
 cons_option-append None xs ys = refl
 cons_option-append (Some x) xs ys = refl
 
-closed_from-push : (before rs : List Report) (r : Report) → closed_from before (rs ++ r ∷ []) ≡ closed_from before rs ++ cons_option (closed (before ++ rs) r) []
-closed_from-push before [] r = ap (λ b. cons_option (closed b r) []) (sym (append-nil before))
-closed_from-push before (x ∷ rs) r =
-    ap (cons_option (closed before x)) (closed_from-push (before ++ x ∷ []) rs r ∙ ap (λ b. closed_from (before ++ x ∷ []) rs ++ cons_option (closed b r) []) (append_assoc before (x ∷ []) rs))
-    ∙ cons_option-append (closed before x) (closed_from (before ++ x ∷ []) rs) (cons_option (closed (before ++ x ∷ rs) r) [])
+ended_from-push : (before ds : List Deed) (d : Deed) → ended_from before (ds ++ d ∷ []) ≡ ended_from before ds ++ cons_option (ended_by (before ++ ds) d) []
+ended_from-push before [] d = ap (λ b. cons_option (ended_by b d) []) (sym (append-nil before))
+ended_from-push before (x ∷ ds) d =
+    ap (cons_option (ended_by before x)) (ended_from-push (before ++ x ∷ []) ds d ∙ ap (λ b. ended_from (before ++ x ∷ []) ds ++ cons_option (ended_by b d) []) (append_assoc before (x ∷ []) ds))
+    ∙ cons_option-append (ended_by before x) (ended_from (before ++ x ∷ []) ds) (cons_option (ended_by (before ++ x ∷ ds) d) [])
 
-pub ended_tours-push : (rs : List Report) (r : Report) → ended_tours (rs ++ r ∷ []) ≡ ended_tours rs ++ cons_option (closed rs r) []
+pub ended_tours-push : (ds : List Deed) (d : Deed) → ended_tours (ds ++ d ∷ []) ≡ ended_tours ds ++ cons_option (ended_by ds d) []
 unfolding ended_tours
-ended_tours-push rs r = closed_from-push [] rs r
+ended_tours-push ds d = ended_from-push [] ds d
 
 pub ended_tours-none : ended_tours [] ≡ []
 unfolding ended_tours

@@ -20,42 +20,42 @@ use Rattle.duty_record.specs.declared.relief_marks.ReliefMarks.{ReliefMarks}
 use Rattle.duty_record.specs.declared.duty_records.DutyRecords.{DutyRecords}
 use Rattle.duty_record.specs.declared.tour_record.TourRecord.{TourRecord}
 use Rattle.duty_record.specs.Tours.{relief_in, record_of}
-use Rattle.duty_record.specs.Reports.{Report, events_in, keep, reports}
+use Rattle.duty_record.specs.Deeds.{Deed, events_in, keep, deeds}
 use Rattle.duty_record.specs.EndedTours.{last_vacancy, ended_tours}
 
 -- ---- tours
 
--- what is kept of a person, by what is reported of them
-pub record IsOf (k : PersonTours) (rs : List Report) : Type 0 where
-  pub totals : AreTotals k.totals (events_in rs)
-  pub vacancy : k.vacancy ≡ last_vacancy rs
-  pub ended : k.ended.items ≡ ended_tours rs
+-- what is kept of a person, by what they did
+pub record IsOf (k : PersonTours) (ds : List Deed) : Type 0 where
+  pub totals : AreTotals k.totals (events_in ds)
+  pub vacancy : k.vacancy ≡ last_vacancy ds
+  pub ended : k.ended.items ≡ ended_tours ds
 
 -- a tour that has ended, begun for this vacancy, and with the minutes that are kept
 abbrev pub with_sums : Option ℕ → TotalsValue → Tour → EndedTour
 with_sums vacancy kept t = record { tour = t; vacancy = vacancy; on_duty = kept.on_duty; limbo = kept.limbo; capped = kept.capped }
 
--- a report is taken in; where memory was wanting, all stays
-abbrev pub Takes : Bool → Report → PersonTours → PersonTours → Type 0
-Takes done r k later = (rs : List Report) → IsOf k rs → IsOf later (if done then keep rs r else rs)
+-- one deed more is taken in; where memory was wanting, all stays
+abbrev pub Takes : Bool → Deed → PersonTours → PersonTours → Type 0
+Takes done d k later = (ds : List Deed) → IsOf k ds → IsOf later (if done then keep ds d else ds)
 
 -- so it is at one person, of whom something is kept, and others stay
-abbrev pub TakesBy : Bool → Report → Option PersonTours → Option PersonTours → Type 0
-TakesBy done r None later = later ≡ None
-TakesBy done r (Some k) later = (x : PersonTours) × ((later ≡ Some x) × Takes done r k x)
+abbrev pub TakesBy : Bool → Deed → Option PersonTours → Option PersonTours → Type 0
+TakesBy done d None later = later ≡ None
+TakesBy done d (Some k) later = (x : PersonTours) × ((later ≡ Some x) × Takes done d k x)
 
-abbrev pub TakesAt : Bool → Bool → Report → Option PersonTours → Option PersonTours → Type 0
-TakesAt false done r k later = later ≡ k
-TakesAt true done r k later = TakesBy done r k later
+abbrev pub TakesAt : Bool → Bool → Deed → Option PersonTours → Option PersonTours → Type 0
+TakesAt false done d k later = later ≡ k
+TakesAt true done d k later = TakesBy done d k later
 
--- of whom nothing is kept, nothing is reported
-abbrev pub IsUnder : Option PersonTours → List Report → Type 0
-IsUnder None rs = rs ≡ []
-IsUnder (Some k) rs = IsOf k rs
+-- who did nothing may be one of whom nothing is kept
+abbrev pub IsUnder : Option PersonTours → List Deed → Type 0
+IsUnder None ds = ds ≡ []
+IsUnder (Some k) ds = IsOf k ds
 
 -- what is kept of all persons; those of whom something is kept have a number
-pub record AreTours (book : TourBook) (reported : ℕ → List Report) : Type 0 where
-  pub each : (p : ℕ) → IsUnder (tree.get nat_cmp book.people p) (reported p)
+pub record AreTours (book : TourBook) (did : ℕ → List Deed) : Type 0 where
+  pub each : (p : ℕ) → IsUnder (tree.get nat_cmp book.people p) (did p)
   pub numbered : (p : ℕ) (k : PersonTours) → tree.get nat_cmp book.people p ≡ Some k → IsNumber p
 
 -- ---- assignments
@@ -94,6 +94,6 @@ marked_record p made t = record_of p (relief_in made t.vacancy) t
 -- ---- all of it
 
 pub record Keeps (r : DutyRecords) (h : History) : Type 0 where
-  pub tours : AreTours r.book (reports h)
+  pub tours : AreTours r.book (deeds h)
   pub assigned : AreAssigned r.assignments (assigned h)
   pub relief : AreMarks r.relief (vacancy_of h)

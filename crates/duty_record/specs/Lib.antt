@@ -1,4 +1,4 @@
-pub mod Reports
+pub mod Deeds
 pub mod EndedTours
 pub mod Tours
 pub mod Json

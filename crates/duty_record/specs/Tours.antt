@@ -1,4 +1,4 @@
--- The records of tours that have ended, 49 CFR 228.11, and those that need to be reported for their length.
+-- The records of tours that have ended, 49 CFR 228.11, and those that were too long.
 use Rattle.std.specs.Prelude.{ℕ, ◌+◌, ◌-◌, Bool, false, ◌||◌, nat_lt, Option, unwrap_or, option_and_then, if◌then◌else◌, List, map, filter, flat_map}
 use Rattle.std.specs.List.{range_with_len}
 use Rattle.std.specs.Option.{option_map_or}
@@ -10,7 +10,7 @@ use Rattle.desk_model.specs.History.{History}
 use Rattle.desk_model.specs.Register.{vacancy_of}
 use Rattle.duty_record.specs.declared.ended_tour.EndedTour.{EndedTour}
 use Rattle.duty_record.specs.declared.tour_record.TourRecord.{TourRecord}
-use Rattle.duty_record.specs.Reports.{reports}
+use Rattle.duty_record.specs.Deeds.{deeds}
 use Rattle.duty_record.specs.EndedTours.{ended_tours}
 
 -- the vacancy was made for a relief crew, 49 USC 21103(d), where this is what each number was made as
@@ -42,7 +42,7 @@ record_of p relief t = record {
 
 -- the records of a person's tours, in order
 unfoldable pub tours : History → ℕ → List TourRecord
-tours h p = map (λ t. record_of p (is_relief h t.vacancy) t) (ended_tours (reports h p))
+tours h p = map (λ t. record_of p (is_relief h t.vacancy) t) (ended_tours (deeds h p))
 
 -- where a record's tour went
 abbrev pub tour_of : TourRecord → Tour

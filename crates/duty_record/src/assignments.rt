@@ -62,7 +62,7 @@ impl Assignments {
         Ok(())
     }
 
-    /// The person has given up what was assigned to them, or has reported for it.
+    /// The person has given up what was assigned to them, or has begun it.
     pub(crate) fn free(&mut self, person: PersonNo)
         ensures { (has : ℕ → Option ℕ) → AreAssigned self.old has
             → AreAssigned self.new (λ p. assigned_by p (cmd.Drop person) (has p)) }

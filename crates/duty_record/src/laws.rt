@@ -3,14 +3,14 @@ ghost use Rattle.std.specs.Prelude.{◌≡◌, ℕ, [], map, codes};
 ghost use Rattle.duty_events.specs.EndedTours as duty;
 ghost use Rattle.desk_model.specs.History.{History};
 ghost use Rattle.desk_model.specs.Duty.{events};
-ghost use Rattle.duty_record.specs.Reports.{events_in, reports};
+ghost use Rattle.duty_record.specs.Deeds.{events_in, deeds};
 ghost use Rattle.duty_record.specs.Tours.{tour_of, tours};
 ghost use Rattle.duty_record.specs.Json.{json_text};
 
-/// What is reported of a person in a history, legal or not, are their events in it; and there is just one record for each of the
-/// tours that these end, in order, with its start, its end and its place. It does nothing: its clauses are the laws.
+/// What a person did by a history, legal or not, are their events in it; and there is just one record for each of the tours
+/// that these end, in order, with its start, its end and its place. It does nothing: its clauses are the laws.
 pub fn each_tour_has_one_record()
-    ensures events { (h : History) (p : ℕ) → events_in (reports h p) ≡ events h p }
+    ensures events { (h : History) (p : ℕ) → events_in (deeds h p) ≡ events h p }
     ensures tours { (h : History) (p : ℕ) → map tour_of (tours h p) ≡ duty.tours (events h p) }
 {}
 

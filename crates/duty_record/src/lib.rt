@@ -1,7 +1,6 @@
 //! The records of tours of duty, read off a journal.
 #![tactic(auto)]
 
-mod answers;
 mod assignments;
 mod duty_records;
 mod ended_tour;
@@ -9,7 +8,6 @@ mod journal;
 mod json;
 mod laws;
 mod person_tours;
-mod reading;
 mod relief_marks;
 mod tour_book;
 mod tour_record;
@@ -19,3 +17,6 @@ pub use journal::{excess_list, records};
 pub use json::to_json;
 pub use laws::{each_tour_has_one_record, no_records_are_an_empty_array};
 pub use tour_record::TourRecord;
+
+#[cfg(test)]
+mod tests;

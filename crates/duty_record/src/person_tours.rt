@@ -2,7 +2,7 @@ ghost use Rattle.std.specs.Prelude.{◌≡◌, ◌<◌, ◌++◌, [], List, is_o
 ghost use Rattle.std.specs.Option.{option_map};
 ghost use Rattle.std.specs.List.{cons_option};
 ghost use Rattle.desk_model.specs.Job.{JobValue};
-ghost use Rattle.duty_record.specs.Reports.{Report, report_of};
+ghost use Rattle.duty_record.specs.Deeds.{Deed, deed_of};
 ghost use Rattle.duty_record.specs.EndedTours.{begun_for, ended_tours};
 ghost use Rattle.duty_record.specs.Kept.{with_sums, marked_record, Takes, IsOf, AreMarks};
 
@@ -23,7 +23,7 @@ pub struct PersonTours {
 }
 
 impl PersonTours {
-    /// What is kept of somebody of whom nothing is reported.
+    /// What is kept of somebody who did nothing yet.
     pub(crate) fn new(alloc: Global) -> PersonTours
         ensures { IsOf result [] }
     {
@@ -34,9 +34,9 @@ impl PersonTours {
         }
     }
 
-    /// Takes in what is reported next, where it may follow; on `NoMemory` all stays as it was.
+    /// Takes in what the person did next, where it may follow; on `NoMemory` all stays as it was.
     pub(crate) fn take(&mut self, event: &Event, vacancy: Option<VacNo>) -> Result<(), NoMemory>
-        ensures { Takes (is_ok result) (report_of event.now vacancy) self.old self.new }
+        ensures { Takes (is_ok result) (deed_of event.now vacancy) self.old self.new }
     {
         may_follow_in_words();
         if !may_follow(&self.totals.stage(), &self.totals.last_minute(), event) {
@@ -51,9 +51,9 @@ impl PersonTours {
         Ok(())
     }
 
-    // The vacancy of the last tour, once this is reported.
+    // The vacancy of the last tour, once this is done.
     fn begun_for(&self, event: &Event, vacancy: Option<VacNo>) -> Option<VacNo>
-        ensures { result ≡ begun_for self.now.totals.stage self.now.vacancy (report_of event.now vacancy) }
+        ensures { result ≡ begun_for self.now.totals.stage self.now.vacancy (deed_of event.now vacancy) }
     {
         if self.totals.stage().begins(event) {
             vacancy
@@ -88,8 +88,8 @@ impl PersonTours {
         person: PersonNo,
         relief: &ReliefMarks,
     ) -> Result<Vec<TourRecord>, NoMemory>
-        ensures { (rs : List Report) (made : ℕ → Option JobValue) → IsOf self.now rs → AreMarks relief.now made
-            → IfOk result (λ list. list.items ≡ map (marked_record person made) (ended_tours rs)) }
+        ensures { (ds : List Deed) (made : ℕ → Option JobValue) → IsOf self.now ds → AreMarks relief.now made
+            → IfOk result (λ list. list.items ≡ map (marked_record person made) (ended_tours ds)) }
     {
         let mut list = Vec::new(alloc);
         for tour in &self.ended {

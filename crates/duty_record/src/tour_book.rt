@@ -2,7 +2,7 @@ ghost use Rattle.std.specs.Prelude.{[], List, MatchResult, OnOk, IsSome, is_ok, 
 ghost use Rattle.std.specs.BTreeMap as tree;
 ghost use Rattle.std.specs.BTreeMap.{is_at};
 ghost use Rattle.std.specs.Ordering.{nat_cmp};
-ghost use Rattle.duty_record.specs.Reports.{Report, report_of, keep};
+ghost use Rattle.duty_record.specs.Deeds.{Deed, deed_of, keep};
 ghost use Rattle.duty_record.specs.Kept.{TakesAt, AreTours};
 
 use crate::person_tours::PersonTours;
@@ -19,7 +19,7 @@ pub struct TourBook {
 }
 
 impl TourBook {
-    /// Nothing is reported of anybody.
+    /// Nobody did anything yet.
     pub(crate) fn new(alloc: Global) -> TourBook
         ensures { AreTours result (λ _. []) }
     {
@@ -29,16 +29,16 @@ impl TourBook {
         }
     }
 
-    /// Takes in what is reported of a person; on `NoMemory` nothing is.
+    /// Takes in what a person did next; on `NoMemory` all stays as it was.
     pub(crate) fn tell(
         &mut self,
         person: PersonNo,
         event: &Event,
         vacancy: Option<VacNo>,
     ) -> Result<(), NoMemory>
-        ensures { (reported : ℕ → List Report) → AreTours self.old reported → MatchResult result
-            (λ _. AreTours self.new (λ p. if nat_eq person p then keep (reported p) (report_of event.now vacancy) else reported p))
-            (λ _. AreTours self.new reported) }
+        ensures { (did : ℕ → List Deed) → AreTours self.old did → MatchResult result
+            (λ _. AreTours self.new (λ p. if nat_eq person p then keep (did p) (deed_of event.now vacancy) else did p))
+            (λ _. AreTours self.new did) }
     {
         self.add(person)?;
         self.take(person, event, vacancy)
@@ -51,7 +51,7 @@ impl TourBook {
         event: &Event,
         vacancy: Option<VacNo>,
     ) -> Result<(), NoMemory>
-        ensures { (p : ℕ) → TakesAt (is_at (nat_cmp person) p) (is_ok result) (report_of event.now vacancy)
+        ensures { (p : ℕ) → TakesAt (is_at (nat_cmp person) p) (is_ok result) (deed_of event.now vacancy)
             (tree.get nat_cmp self.old.people p) (tree.get nat_cmp self.new.people p) }
     {
         match self.people.get_mut(&person) {
@@ -62,7 +62,7 @@ impl TourBook {
 
     // Keeps something of the person, where nothing is kept yet.
     fn add(&mut self, person: PersonNo) -> Result<(), NoMemory>
-        ensures stay { (reported : ℕ → List Report) → AreTours self.old reported → AreTours self.new reported }
+        ensures stay { (did : ℕ → List Deed) → AreTours self.old did → AreTours self.new did }
         ensures has { OnOk result (IsSome (tree.get nat_cmp self.new.people person)) }
     {
         person.number();

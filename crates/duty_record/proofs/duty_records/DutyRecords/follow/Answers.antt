@@ -2,7 +2,7 @@ use Rattle.std.proofs.Common.{◌∙◌, sym}
 use Rattle.std.proofs.lemmas.Result.{MatchResult-weaker}
 use Rattle.desk_model.specs.declared.command.Cmd.TheVariants as cmd
 use Rattle.desk_model.specs.Assigned.{assigned}
-use Rattle.duty_record.specs.Reports.{reports}
+use Rattle.duty_record.specs.Deeds.{deeds}
 use Rattle.desk_model.specs.Register.{vacancy_of}
 use Rattle.duty_record.proofs.ReadLemmas.{keeps-done, follows-past, follows-report, follows-event, follows-accept, follows-drop, follows-annul, follows-made, follows-other}
 use Rattle.duty_record.proofs.duty_records.DutyRecords.follow.Goals as goal
@@ -17,24 +17,24 @@ returns-in-Drop c h e done is comes keeps =
     keeps-done _ h e (cmd.Drop c.in-Drop.person) done (is ∙ c.in-Drop.is) comes
     (follows-drop c.args.self.now h c.in-Drop.person c.free-in-Drop.new.self keeps (c.free-in-Drop.ensures (assigned h) keeps.assigned))
 
-pub returns-then-reports : goal.returns-then-reports
-returns-then-reports c h e done is comes keeps =
+pub returns-then-is_report : goal.returns-then-is_report
+returns-then-is_report c h e done is comes keeps =
     let t = c.in-Happened in
     keeps-done _ h e (cmd.Happened t.person t.event) done (is ∙ t.is) comes
-    (follows-report c.args.self.now h t.person t.event c.of-vacancy.result c.tell-in-Happened.new.self c.free.new.self (sym c.reports.ensures ∙ c.if-reports.true)
-    (c.of-vacancy.ensures (assigned h) keeps.assigned) keeps (c.in_ok-tell-in-Happened.ensures (reports h) keeps.tours) (c.free.ensures (assigned h) keeps.assigned))
+    (follows-report c.args.self.now h t.person t.event c.of-vacancy.result c.tell-in-Happened.new.self c.free.new.self (sym c.is_report.ensures ∙ c.if-is_report.true)
+    (c.of-vacancy.ensures (assigned h) keeps.assigned) keeps (c.in_ok-tell-in-Happened.ensures (deeds h) keeps.tours) (c.free.ensures (assigned h) keeps.assigned))
 
-pub returns-else-reports : goal.returns-else-reports
-returns-else-reports c h e done is comes keeps =
+pub returns-else-is_report : goal.returns-else-is_report
+returns-else-is_report c h e done is comes keeps =
     let t = c.in-Happened in
     keeps-done _ h e (cmd.Happened t.person t.event) done (is ∙ t.is) comes
-    (follows-event c.args.self.now h t.person t.event c.of-vacancy.result c.tell-in-Happened.new.self (sym c.reports.ensures ∙ c.if-reports.false)
-    (c.of-vacancy.ensures (assigned h) keeps.assigned) keeps (c.in_ok-tell-in-Happened.ensures (reports h) keeps.tours))
+    (follows-event c.args.self.now h t.person t.event c.of-vacancy.result c.tell-in-Happened.new.self (sym c.is_report.ensures ∙ c.if-is_report.false)
+    (c.of-vacancy.ensures (assigned h) keeps.assigned) keeps (c.in_ok-tell-in-Happened.ensures (deeds h) keeps.tours))
 
 pub returns-in-Past : goal.returns-in-Past
 returns-in-Past c h e done is comes keeps =
     let t = c.in-Past in
-    MatchResult-weaker c.tell.result (c.tell.ensures (reports h) keeps.tours)
+    MatchResult-weaker c.tell.result (c.tell.ensures (deeds h) keeps.tours)
     (λ x are. keeps-done _ h e (cmd.Past t.person t.event) done (is ∙ t.is) comes (follows-past c.args.self.now h t.person t.event c.tell.new.self keeps are))
     (λ x are. record { tours = are; assigned = keeps.assigned; relief = keeps.relief })
 
