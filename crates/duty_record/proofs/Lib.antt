@@ -7,3 +7,4 @@ mod ReadLemmas
 mod BookLemmas
 mod ExcessLemmas
 mod LawLemmas
+mod LastExcessLemmas

@@ -1,5 +1,5 @@
 -- The records of tours that have ended, 49 CFR 228.11, and those that were too long.
-use Rattle.std.specs.Prelude.{ℕ, ◌+◌, ◌-◌, Bool, false, ◌||◌, nat_lt, Option, unwrap_or, option_and_then, if◌then◌else◌, List, map, filter, flat_map}
+use Rattle.std.specs.Prelude.{ℕ, ◌+◌, ◌-◌, Bool, false, ◌||◌, nat_lt, Option, unwrap_or, option_and_then, if◌then◌else◌, List, map, fold, filter, flat_map}
 use Rattle.std.specs.List.{range_with_len}
 use Rattle.std.specs.Option.{option_map_or}
 use Rattle.duty_events.specs.declared.tour.Tour.{Tour}
@@ -47,6 +47,10 @@ tours h p = map (λ t. record_of p (is_relief h t.vacancy) t) (ended_tours (deed
 -- where a record's tour went
 abbrev pub tour_of : TourRecord → Tour
 tour_of t = record { start = t.start; end = t.end; place = t.place }
+
+-- the excess of the last of these; 0 where there is none
+abbrev pub last_excess : List TourRecord → ℕ
+last_excess ts = fold (λ n t. t.excess) 0 ts
 
 -- a tour that has more than twelve hours on duty and in limbo, 21103(c)(4), or more on duty than it may
 abbrev pub is_excess : TourRecord → Bool

@@ -15,7 +15,9 @@ mod tour_record;
 pub use duty_records::DutyRecords;
 pub use journal::{excess_list, records};
 pub use json::to_json;
-pub use laws::{each_tour_has_one_record, no_records_are_an_empty_array};
+pub use laws::{
+    each_tour_has_one_record, no_records_are_an_empty_array, the_last_excess_is_owed_to_rest,
+};
 pub use tour_record::TourRecord;
 
 #[cfg(test)]
