@@ -1,0 +1,99 @@
+-- What is listed of all numbers is what is listed of those that something is kept under.
+use Rattle.std.proofs.Common.{◌≡◌, ℕ, zero, suc, ◌+◌, ◌≤◌, ◌<◌, false, nat_eq, nat_cmp, Less, Option, None, Some, is_some, map, filter, List, [], ◌∷◌, ◌++◌, ⊎_elim, refl, sym, ap, ◌∙◌, subst, arith}
+use Rattle.std.specs.List.{All, flat_map, range_with_len, list_any}
+use Rattle.std.specs.Prelude.{IsSome}
+use Rattle.std.specs.Ordering.{eq_by_cmp}
+use Rattle.std.specs.BTreeMap as tree
+use Rattle.std.specs.List.Sorted.{IsStrictlySortedBy}
+use Rattle.std.proofs.lemmas.Bool.{cases_eq, false≢true}
+use Rattle.std.proofs.lemmas.Bool.Decides.{nat_tests}
+use Rattle.std.proofs.lemmas.List.Elements.{All-nil, All-cons, All-head, All-tail, All-weaker}
+use Rattle.std.proofs.lemmas.Map.Keys.{sorted_tail}
+use Rattle.std.proofs.lemmas.Map.Views.{All-after_first}
+use Rattle.desk_model.specs.History.{History}
+use Rattle.duty_record.specs.declared.person_tours.PersonTours.{PersonTours}
+use Rattle.duty_record.specs.declared.tour_book.TourBook.{TourBook}
+use Rattle.duty_record.specs.Deeds.{Deed, deeds}
+use Rattle.duty_record.specs.EndedTours.{ended_tours}
+use Rattle.duty_record.specs.Tours.{is_relief, record_of, tours, is_excess, excess_of, excess_list}
+use Rattle.duty_record.specs.Kept.{IsUnder, AreTours}
+use Rattle.duty_record.proofs.TourLemmas.{ended_tours-none}
+use Rattle.duty_record.proofs.BookLemmas.{at-number}
+
+pub record LiesIn (first many n : ℕ) : Type 0 where
+  pub from : first ≤ n
+  pub to : n < first + many
+
+above : (k q : ℕ) → nat_cmp k q ≡ Less → k < q
+above k q is = grind (arith, nat_tests, is)
+
+-- a number below all of a list isn't in it
+absent : (n : ℕ) (ks : List ℕ) → All (λ k. n < k) ks → list_any (nat_eq n) ks ≡ false
+absent n [] all = refl
+absent n (k ∷ ks) all =
+    let low = All-head (λ (q : ℕ). n < q) k ks all in
+    let apart : nat_eq n k ≡ false = grind (arith, nat_tests, low) in
+    rw (apart, absent n ks (All-tail (λ (q : ℕ). n < q) k ks all)) refl
+
+other : (n k : ℕ) (ks : List ℕ) → k < n → list_any (nat_eq n) ks ≡ false → list_any (nat_eq n) (k ∷ ks) ≡ false
+other n k ks low is = let apart : nat_eq n k ≡ false = grind (arith, nat_tests, low) in rw (apart, is) refl
+
+-- those behind the first number lie among one less
+later : (first many : ℕ) (ks : List ℕ) → All (LiesIn first (suc many)) ks → All (λ k. first < k) ks → All (LiesIn (first + 1) many) ks
+later first many [] lies all = All-nil (LiesIn (first + 1) many)
+later first many (k ∷ ks) lies all =
+    let is = All-head (LiesIn first (suc many)) k ks lies in
+    let low = All-head (λ (q : ℕ). first < q) k ks all in
+    All-cons (LiesIn (first + 1) many) k ks (record { from = omega (arith, low); to = omega (arith, is.to) })
+    (later first many ks (All-tail (LiesIn first (suc many)) k ks lies) (All-tail (λ (q : ℕ). first < q) k ks all))
+
+pub listed-sorted : {X : Type 0} (f : ℕ → List X) (first many : ℕ) (ks : List ℕ) → IsStrictlySortedBy nat_cmp ks → All (LiesIn first many) ks
+    → ((n : ℕ) → first ≤ n → list_any (nat_eq n) ks ≡ false → f n ≡ []) → flat_map f (range_with_len first many) ≡ flat_map f ks
+listed-sorted f first zero [] sorted lies none = refl
+listed-sorted f first zero (k ∷ ks) sorted lies none = let is = All-head (LiesIn first 0) k ks lies in absurd (omega (arith, is.from, is.to))
+listed-sorted f first (suc many) [] sorted lies none =
+    ap (λ xs. xs ++ flat_map f (range_with_len (first + 1) many)) (none first (omega arith) refl)
+    ∙ listed-sorted f (first + 1) many [] sorted (All-nil (LiesIn (first + 1) many)) (λ n from is. none n (omega (arith, from)) is)
+listed-sorted f first (suc many) (k ∷ ks) sorted lies none =
+    let is = All-head (LiesIn first (suc many)) k ks lies in
+    let rest = All-tail (LiesIn first (suc many)) k ks lies in
+    let behind : All (λ q. k < q) ks = All-weaker (λ (q : ℕ). nat_cmp k q ≡ Less) (λ (q : ℕ). k < q) (above k) ks (All-after_first nat_cmp k ks sorted) in
+    ⊎_elim
+    (λ here.
+    ap (λ n. f n ++ flat_map f (range_with_len (first + 1) many)) here
+    ∙ ap (λ xs. f k ++ xs)
+    (listed-sorted f (first + 1) many ks (sorted_tail nat_cmp k ks sorted) (later first many ks rest (subst (λ n. All (λ (q : ℕ). n < q) ks) (sym here) behind))
+    (λ n from gone. none n (omega (arith, from)) (other n k ks (omega (arith, from, here)) gone))))
+    (λ apart.
+    let low : first < k = omega (arith, is.from, apart) in
+    let all : All (λ q. first < q) (k ∷ ks) = All-cons (λ (q : ℕ). first < q) k ks low (All-weaker (λ (q : ℕ). k < q) (λ (q : ℕ). first < q) (λ q le. omega (arith, le, low)) ks behind) in
+    ap (λ xs. xs ++ flat_map f (range_with_len (first + 1) many)) (none first (omega arith) (absent first (k ∷ ks) all))
+    ∙ listed-sorted f (first + 1) many (k ∷ ks) sorted (later first many (k ∷ ks) lies all) (λ n from gone. none n (omega (arith, from)) gone))
+    (cases_eq first k)
+
+-- ---- the list of all persons
+
+nothing : (h : History) (p : ℕ) → deeds h p ≡ [] → excess_of h p ≡ []
+unfolding tours
+nothing h p none = ap (λ ds. filter is_excess (map (λ t. record_of p (is_relief h t.vacancy) t) ds)) (ap ended_tours none ∙ ended_tours-none)
+
+unkept : (book : TourBook) (h : History) (p : ℕ) (o : Option PersonTours) → is_some o ≡ false → IsUnder o (deeds h p) → excess_of h p ≡ []
+unkept book h p None none is = nothing h p is
+unkept book h p (Some k) none is = absurd (false≢true (sym none))
+
+any-number : (n : ℕ) (ks : List ℕ) → list_any (eq_by_cmp nat_cmp n) ks ≡ list_any (nat_eq n) ks
+any-number n [] = refl
+any-number n (k ∷ ks) = rw (at-number n k, any-number n ks) refl
+
+numbered : (book : TourBook) (did : ℕ → List Deed) → AreTours book did → (p : ℕ) → (o : Option PersonTours) → tree.get nat_cmp book.people p ≡ o → IsSome o → LiesIn 1 9_999_999 p
+numbered book did are p None at some = absurd (false≢true some)
+numbered book did are p (Some k) at some = let is = are.numbered p k at in record { from = omega (arith, is.0); to = omega (arith, is.1) }
+
+pub excess-listed : (book : TourBook) (h : History) → AreTours book (deeds h) → tree.IsOrdered nat_cmp book.people → All (tree.ContainsKey nat_cmp book.people) (tree.keys book.people)
+    → ((p : ℕ) → is_some (tree.get nat_cmp book.people p) ≡ list_any (eq_by_cmp nat_cmp p) (tree.keys book.people))
+    → excess_list h ≡ flat_map (excess_of h) (tree.keys book.people)
+unfolding excess_list
+excess-listed book h are ordered found has =
+    listed-sorted (excess_of h) 1 9_999_999 (tree.keys book.people) ordered
+    (All-weaker (tree.ContainsKey nat_cmp book.people) (LiesIn 1 9_999_999) (λ p some. numbered book (deeds h) are p (tree.get nat_cmp book.people p) refl some) (tree.keys book.people) found)
+    (λ n from gone. unkept book h n (tree.get nat_cmp book.people n) (has n ∙ any-number n (tree.keys book.people) ∙ gone) (are.each n))

@@ -1,0 +1,10 @@
+mod AsciiLemmas
+mod JsonLemmas
+mod TourLemmas
+mod AssignmentLemmas
+mod KeptLemmas
+mod ReadLemmas
+mod BookLemmas
+mod ExcessLemmas
+mod LawLemmas
+mod LastExcessLemmas

@@ -1,0 +1,5 @@
+pub mod Deeds
+pub mod EndedTours
+pub mod Tours
+pub mod Json
+pub mod Kept
