@@ -8,8 +8,11 @@ use desk_base::{Minute, Month};
 /// How far a generator has come.
 #[derive(Clone, Copy, Debug)]
 pub(crate) struct Course {
+    /// The number that is drawn by.
     pub(crate) number: u64,
+    /// The minute at which commands are stated.
     pub(crate) minute: Minute,
+    /// How many vacancies were made, whatever was answered.
     pub(crate) made: u32,
 }
 
@@ -21,7 +24,7 @@ fn next_number(number: u64) -> u64
 }
 
 impl Course {
-    // That of a generator which has this number and gave no command yet.
+    /// That of a generator which has this number and gave no command yet.
     pub(crate) fn first(number: u64) -> Course
         ensures { result ≡ first_course number }
     {
@@ -32,7 +35,7 @@ impl Course {
         }
     }
 
-    // Moves the number, and draws one of 0 to count - 1 by it.
+    /// Moves the number, and draws one of 0 to count - 1 by it.
     pub(crate) fn draw(&mut self, count: u64) -> u64
         requires { 0 < count }
         ensures course { self.new ≡ moved self.old }

@@ -1,7 +1,7 @@
 ghost use Rattle.std.specs.Prelude.{◌≡◌, ℕ};
+ghost use Rattle.std.specs.Option.{option_copied};
 ghost use Rattle.desk_model.specs.Offers.{asks_for, offer_in};
 ghost use Rattle.day_gen.specs.Due.{due_after_done, due_after_offer, due_after, due_by};
-ghost use Rattle.std.specs.Option.{option_copied};
 
 use desk_base::{PersonNo, VacNo};
 use desk_model::{Cmd, Entry, Reply};
@@ -23,7 +23,7 @@ pub(crate) enum Due {
 }
 
 impl Due {
-    // What the last entry leaves to do, if there is one.
+    /// What the last entry leaves to do, if there is one.
     pub(crate) fn by(last: Option<&Entry>) -> Due
         ensures { result ≡ due_by (option_copied last.entry) }
     {
@@ -33,6 +33,7 @@ impl Due {
         }
     }
 
+    // What an entry leaves to do.
     fn after(entry: &Entry) -> Due
         ensures { result ≡ due_after entry.now }
     {
