@@ -70,7 +70,8 @@ impl Assignments {
         self.accepted.swap_remove(&person);
     }
 
-    /// The vacancy is annulled; on `NoMemory` it isn't. That is also the answer to an annulment of the same vacancy behind 2^64 - 1.
+    /// The vacancy is annulled; on `NoMemory` it isn't. That is also the answer where the same vacancy was annulled 2^64 - 1
+    /// times before.
     pub(crate) fn annul(&mut self, vac: VacNo) -> Result<(), NoMemory>
         ensures { (has : ℕ → Option ℕ) → AreAssigned self.old has → MatchResult result
             (λ _. AreAssigned self.new (λ p. assigned_by p (cmd.Annul vac) (has p)))

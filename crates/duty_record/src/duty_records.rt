@@ -36,7 +36,8 @@ impl DutyRecords {
         }
     }
 
-    /// Reads the next entry, which need not be one of a legal history; `NoMemory` where there is none for it, and then it is not read.
+    /// Reads the next entry, which need not be one of a legal history; `NoMemory` where there is none for it, and then it is not
+    /// read.
     pub fn read(&mut self, entry: &Entry) -> Result<(), NoMemory>
         ensures { (h : History) → Keeps self.old h
             → MatchResult result (λ _. Keeps self.new (with_entry h entry.now)) (λ _. Keeps self.new h) }
@@ -84,8 +85,8 @@ impl DutyRecords {
         }
     }
 
-    /// The records of all tours that have an excess, or more minutes on duty than they may: by rising number of their persons, and
-    /// of each in order; `NoMemory` where there is none for them.
+    /// The records of all tours that have an excess, or more minutes on duty than they may: by rising number of their persons,
+    /// and of each in order; `NoMemory` where there is none for them.
     pub fn excess_list(&self) -> Result<Vec<TourRecord>, NoMemory>
         ensures { (h : History) → Keeps self.now h → IfOk result (λ list. list.items ≡ excess_list h) }
     {

@@ -70,7 +70,8 @@ fn text(bytes: &[u8]) -> &str
 }
 
 /// The records as JSON: an array with an object for each, in order, without spaces, its keys in the order of their bytes.
-/// Minutes have the form `YYYY-MM-DD HH:MM`, for the years 2000 to 2099. No records give `[]`. `NoMemory` where there is none for it.
+/// Minutes have the form `YYYY-MM-DD HH:MM`, by which those of the years 2000 to 2099 can be read again. No records give `[]`.
+/// `NoMemory` where there is none for it.
 pub fn to_json(alloc: Global, records: &[TourRecord]) -> Result<String, NoMemory>
     ensures { IfOk result (λ s. string_bytes s ≡ json_text records.now) }
 {

@@ -14,7 +14,8 @@ use duty_events::{Event, Tour, may_follow, may_follow_in_words};
 use std::alloc::Global;
 use tour_build::TourTotals;
 
-/// What is kept of a person: the minutes of the tour that began last, the vacancy that it was begun for, and the tours that have ended.
+/// What is kept of a person: the minutes of the tour that began last, the vacancy that it was begun for, and the tours that
+/// have ended.
 #[derive(Drop)]
 pub struct PersonTours {
     pub(crate) totals: TourTotals,

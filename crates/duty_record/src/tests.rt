@@ -1,5 +1,5 @@
 //! Records of journals that were worked by hand: legal ones, and lists of entries that no desk writes.
-use crate::{DutyRecords, TourRecord, excess_list, records, to_json};
+use crate::{TourRecord, excess_list, records, to_json};
 use desk_base::{Code, Minute, PersonNo, VacNo};
 use desk_model::{Chain, Cmd, Entry, Job, Reply, Stated};
 use duty_events::{Event, Kind};
@@ -85,14 +85,20 @@ fn accept(digit: u8, rest: &[u8]) -> Option<Cmd> {
     })
 }
 
-// Each as an entry that was done.
-fn done(alloc: Global, words: &[&[u8]]) -> Result<Vec<Entry>, Fail> {
+// The entry of a word: it was done, or refused where `-` stands before it.
+fn entry(word: &[u8]) -> Option<Entry> {
+    let minute = at(b"23:59")?;
+    let (cmd, reply) = match word.strip_prefix(b"-".as_slice()) {
+        Some(rest) => (command(rest)?, Reply::PastClosed),
+        None => (command(word)?, Reply::Done),
+    };
+    Some(Entry::new(0, Stated::new(minute, cmd)?, minute, reply))
+}
+
+fn entries_of(alloc: Global, words: &[&[u8]]) -> Result<Vec<Entry>, Fail> {
     let mut entries = Vec::new(alloc);
-    let minute = at(b"23:59").ok_or("no minute")?;
     for word in words {
-        let cmd = command(word).ok_or("no command")?;
-        let stated = Stated::new(minute, cmd).ok_or("not stated")?;
-        entries.push(Entry::new(0, stated, minute, Reply::Done))?;
+        entries.push(entry(word).ok_or("no entry")?)?;
     }
     Ok(entries)
 }
@@ -102,14 +108,14 @@ fn done(alloc: Global, words: &[&[u8]]) -> Result<Vec<Entry>, Fail> {
 // The JSON text of a person's records.
 fn text_of(alloc: Global, words: &[&[u8]], digit: u8) -> Result<String, Fail> {
     let person = person(digit).ok_or("no person")?;
-    let entries = done(alloc, words)?;
+    let entries = entries_of(alloc, words)?;
     let tours = records(alloc, &entries, person)?;
     Ok(to_json(alloc, &tours)?)
 }
 
 // That of the excess list.
 fn excess_text(alloc: Global, words: &[&[u8]]) -> Result<String, Fail> {
-    let entries = done(alloc, words)?;
+    let entries = entries_of(alloc, words)?;
     let tours = excess_list(alloc, &entries)?;
     Ok(to_json(alloc, &tours)?)
 }
@@ -232,13 +238,15 @@ const CASES: [Case; 9] = [
 
 fn is_right(alloc: Global, case: &Case) -> Result<bool, Fail> {
     let (words, wanted) = case;
-    let entries = done(alloc, words)?;
+    let entries = entries_of(alloc, words)?;
     let tours = records(alloc, &entries, person(b'1').ok_or("no person")?)?;
-    let all = tours
-        .iter()
-        .zip(*wanted)
-        .all(|(one, other)| is_wanted(one, other));
-    Ok(all && tours.len() == wanted.len())
+    for (i, one) in wanted.iter().enumerate() {
+        let found = tours.get(i).ok_or("too few")?;
+        if !is_wanted(found, one) {
+            return Ok(false);
+        }
+    }
+    Ok(tours.len() == wanted.len())
 }
 
 #[test]
@@ -252,38 +260,29 @@ fn tours_by_hand(rt: HostRuntime) -> Result<(), Fail> {
 // ---- the excess list
 
 // The persons of the list, by their numbers.
-fn persons(tours: &[TourRecord]) -> [u32; 4] {
-    let mut numbers = [0; 4];
-    for (number, tour) in numbers.iter_mut().zip(tours) {
-        *number = tour.person.number();
+fn persons(alloc: Global, tours: &[TourRecord]) -> Result<Vec<u32>, Fail> {
+    let mut numbers = Vec::new(alloc);
+    for tour in tours {
+        numbers.push(tour.person.number())?;
     }
-    numbers
+    Ok(numbers)
 }
 
-const THREE: [&[u8]; 6] = [
+// The one who comes last has no excess: the release that would give them one was refused.
+const THREE: [&[u8]; 7] = [
     b"p2d00:00",
     b"p1d00:00",
     b"p3d00:00",
     b"p1f12:01HOM",
+    b"-p3f13:00HOM",
     b"p3f12:00HOM",
     b"p2f13:00HOM",
 ];
 
 #[test]
 fn the_excess_list_goes_by_rising_number(rt: HostRuntime) -> Result<(), Fail> {
-    let alloc = rt.alloc();
-    let entries = done(alloc, &THREE)?;
-    let mut kept = DutyRecords::new(alloc);
-    for entry in &entries {
-        kept.read(entry)?;
-    }
-    assert_eq!(rt; persons(&kept.excess_list()?), [101, 202, 0, 0]);
-    let third = kept.tours(person(b'3').ok_or("no person")?)?;
-    assert_eq!(rt; persons(&third), [303, 0, 0, 0]);
-    // what was refused is not read
-    let first = entries.first().ok_or("no entry")?;
-    let refused = Entry::new(0, *first.stated(), first.moment(), Reply::PastClosed);
-    kept.read(&refused)?;
-    assert_eq!(rt; persons(&kept.excess_list()?), [101, 202, 0, 0]);
+    let entries = entries_of(rt.alloc(), &THREE)?;
+    let list = persons(rt.alloc(), &excess_list(rt.alloc(), &entries)?)?;
+    assert!(rt; list.as_slice() == [101, 202].as_slice());
     Ok(())
 }
