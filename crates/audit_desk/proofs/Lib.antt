@@ -1,3 +1,3 @@
 mod LineLemmas
-mod FoundLemmas
+pub mod FoundLemmas
 mod OneLemmas

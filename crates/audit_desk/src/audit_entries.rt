@@ -5,7 +5,7 @@ ghost use Rattle.desk_model.specs.Journal.{journal};
 ghost use Rattle.audit_desk.specs.Found.{Finds, outcome_of};
 ghost use Rattle.audit_desk.specs.Resumed.{Resumes};
 
-use crate::first_line::first_line;
+use crate::lines::first_line;
 use crate::{Outcome, Verdict};
 use desk_model::{DeskCore, Entry};
 use desk_text::{

@@ -2,9 +2,9 @@
 #![tactic(auto)]
 
 mod audit_entries;
-mod first_line;
 mod journal;
 mod laws;
+mod lines;
 mod outcome;
 mod resumed;
 mod verdict;
@@ -12,6 +12,7 @@ mod verdict_text;
 
 pub use journal::{BYTE_LIMIT, audit, resume};
 pub use laws::an_audit_finds_one_verdict;
+pub use lines::first_line;
 pub use outcome::Outcome;
 pub use resumed::Resumed;
 pub use verdict::Verdict;

@@ -4,13 +4,13 @@ use Rattle.std.specs.Io.KnownBytes.{Appends}
 use Rattle.std.proofs.KnownBytes.{Appends-trans, Appends-nil}
 use Rattle.std.proofs.lemmas.List.{take-append-le}
 use Rattle.std.proofs.Math.Seq.{take-append-add}
-use Rattle.std.proofs.lemmas.Grind.{flat_map-append}
 use Rattle.desk_io.specs.Giving.{AddsFront}
+use Rattle.audit_desk.proofs.FoundLemmas.{journal-next}
 use Rattle.desk_model.specs.Entry.{EntryValue}
 use Rattle.desk_model.specs.Statement.{StatedValue}
 use Rattle.desk_model.specs.History.{History, with_entry}
 use Rattle.desk_model.specs.Legal.{next, history_from}
-use Rattle.desk_model.specs.Journal.{entry_line, opening_line, entry_lines, journal}
+use Rattle.desk_model.specs.Journal.{entry_line, journal}
 use Rattle.crewdesk_main.specs.Gathered.{Gathers}
 use Rattle.crewdesk_main.specs.Replay.{by_the_day_file, goes_on}
 use Rattle.crewdesk_main.proofs.HistoryLemmas.{goes_on-behind}
@@ -56,12 +56,6 @@ AddsFront-gathered a b c text waiting before front =
     subst (AddsFront a c) (sym before.parts) (AddsFront-after a b c before.put waiting before.added front)
 
 -- ---- the journal
-
--- an entry more is a line more
-journal-next : (h : History) (e : EntryValue) → journal (with_entry h e) ≡ journal h ++ entry_line e
-journal-next h e =
-    ap (λ t. opening_line h.opening ++ t) (flat_map-append entry_line h.entries (e ∷ []) ∙ ap (λ t. entry_lines h.entries ++ t) (append-nil (entry_line e)))
-    ∙ sym (append_assoc (opening_line h.opening) (entry_lines h.entries) (entry_line e))
 
 -- commands more are lines more
 journal-grows : (h : History) (commands : List (ℕ × StatedValue)) → (later : List ℕ) × (journal (history_from h commands) ≡ journal h ++ later)

@@ -4,3 +4,4 @@ pub mod JournalLemmas
 pub mod LineLemmas
 pub mod NumberLemmas
 pub mod ReplayLemmas
+pub mod TourLemmas

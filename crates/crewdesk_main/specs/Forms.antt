@@ -12,6 +12,7 @@ use Rattle.crewdesk_main.specs.declared.form.Form.TheVariants as form
 use Rattle.crewdesk_main.specs.Texts.{EndsPrint, help_text, version_text}
 use Rattle.crewdesk_main.specs.Replay.{EndsReplay, text_of}
 use Rattle.crewdesk_main.specs.Audit.{EndsAudit}
+use Rattle.crewdesk_main.specs.Records.{EndsTelling, tours_text}
 
 -- a run that ended so printed this text, or had a write fault, and printed a front of it; or memory was wanting
 pub record EndsGen (result : Status) (text : List ℕ) (held held' : Option (List ℕ)) (given given' : ℕ) : Type 0 where
@@ -25,6 +26,7 @@ abbrev pub Ends : Form → Status → Option (List ℕ) → Option (List ℕ) �
 Ends form.Help result left left' asked asked' held held' given given' = EndsPrint result help_text held held' given given'
 Ends form.Version result left left' asked asked' held held' given given' = EndsPrint result version_text held held' given given'
 Ends (form.Day how) result left left' asked asked' held held' given given' = EndsReplay result (text_of how) left left' asked asked' held held' given given'
+Ends (form.Tours how) result left left' asked asked' held held' given given' = EndsTelling result (tours_text how) left left' asked asked' held held' given given'
 Ends (form.Gen commands number edition) result left left' asked asked' held held' given given' =
     EndsGen result (tally_text (generated_day edition number commands)) held held' given given'
 Ends form.Audit result left left' asked asked' held held' given given' = EndsAudit result left left' asked asked' held held' given given'

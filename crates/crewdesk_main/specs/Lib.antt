@@ -4,5 +4,6 @@ pub mod Ends
 pub mod Lines
 pub mod Replay
 pub mod Audit
+pub mod Records
 pub mod Forms
 pub mod Gathered

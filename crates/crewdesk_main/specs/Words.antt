@@ -8,6 +8,7 @@ use Rattle.desk_model.specs.declared.edition.Edition.TheVariants as edition
 use Rattle.day_gen.specs.declared.numbers.TheConstants.{SET_UP}
 use Rattle.day_gen.specs.Generator.{most_commands}
 use Rattle.crewdesk_main.specs.declared.day_form.DayForm.TheVariants as day
+use Rattle.crewdesk_main.specs.declared.tour_form.TourForm.TheVariants as tour
 use Rattle.crewdesk_main.specs.declared.form.Form.{Form}
 use Rattle.crewdesk_main.specs.declared.form.Form.TheVariants as form
 
@@ -38,8 +39,15 @@ gen_form edition (Some commands) None = None
 gen_form edition (Some commands) (Some number) =
     if nat_le SET_UP commands && nat_le commands (most_commands edition) then Some (form.Gen commands number edition) else None
 
--- the form that words with numbers are: `gen N K`, and `gen N K 2` for the second edition
+-- the records of a person's tours are told; none where nobody may have the number
+abbrev pub record_form : Option ℕ → Option Form
+record_form None = None
+record_form (Some person) = if nat_le 1 person && nat_le person 9_999_999 then Some (form.Tours (tour.Record person)) else None
+
+-- the form that words with numbers are: `record P`, `gen N K`, and `gen N K 2` for the second edition
 abbrev pub numbered_form : List (String Global) → Option Form
+numbered_form (word ∷ person ∷ []) =
+    if is_word (codes "record") word then record_form (number_in (string_bytes person)) else None
 numbered_form (word ∷ commands ∷ number ∷ []) =
     if is_word (codes "gen") word then gen_form edition.One (number_in (string_bytes commands)) (number_in (string_bytes number)) else None
 numbered_form (word ∷ commands ∷ number ∷ two ∷ []) =
@@ -52,6 +60,7 @@ form_of words =
     if is_alone (codes "replay") words then Some (form.Day day.Replay)
     else if is_alone (codes "tally") words then Some (form.Day day.Tally)
     else if is_alone (codes "audit") words then Some form.Audit
+    else if is_alone (codes "excess") words then Some (form.Tours tour.Excess)
     else if is_alone (codes "--help") words then Some form.Help
     else if is_alone (codes "--version") words then Some form.Version
     else numbered_form words
@@ -66,6 +75,7 @@ runs other = true
 abbrev pub reads : Form → Bool
 reads (form.Day how) = true
 reads form.Audit = true
+reads (form.Tours how) = true
 reads other = false
 
 -- so does the form that the words are, if they are one

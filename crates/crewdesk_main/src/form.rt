@@ -1,10 +1,12 @@
 ghost use Rattle.std.specs.Prelude.{◌≡◌, IfSome};
-ghost use Rattle.crewdesk_main.specs.Words.{form_of, numbered_form, gen_form, number_in, HasNumbers};
+ghost use Rattle.crewdesk_main.specs.Words.{form_of, numbered_form, gen_form, record_form, number_in, HasNumbers};
 
 use crate::day_form::DayForm;
 use crate::read_number::read_number;
+use crate::tour_form::TourForm;
 use crate::words::is_alone;
 use day_gen::{SET_UP, most_commands};
+use desk_base::PersonNo;
 use desk_model::Edition;
 
 /// The forms of the command line.
@@ -18,6 +20,8 @@ pub enum Form {
     Day(DayForm),
     /// Audits a journal.
     Audit,
+    /// Reads a journal as it stands, and writes these records of its tours.
+    Tours(TourForm),
     /// Makes a day from a number, and writes the tally of its replay.
     Gen {
         /// How many commands it has, 64 to 20,000, and in the second edition to 10,000.
@@ -41,6 +45,8 @@ impl Form {
             Some(Form::Day(DayForm::Tally))
         } else if is_alone(words, "audit") {
             Some(Form::Audit)
+        } else if is_alone(words, "excess") {
+            Some(Form::Tours(TourForm::Excess))
         } else if is_alone(words, "--help") {
             Some(Form::Help)
         } else if is_alone(words, "--version") {
@@ -57,6 +63,7 @@ fn numbered(words: &[String]) -> Option<Form>
     ensures numbers { IfSome result HasNumbers }
 {
     match words {
+        [word, person] if word.as_str() == "record" => record_form(person.as_str()),
         [word, commands, number] if word.as_str() == "gen" => {
             gen_form(Edition::One, commands.as_str(), number.as_str())
         }
@@ -64,6 +71,19 @@ fn numbered(words: &[String]) -> Option<Form>
             gen_form(Edition::Two, commands.as_str(), number.as_str())
         }
         _ => None,
+    }
+}
+
+// The form that tells the records of a person's tours; `None` where nobody may have the number.
+fn record_form(person: &str) -> Option<Form>
+    ensures is { result ≡ record_form (number_in person.now) }
+    ensures numbers { IfSome result HasNumbers }
+{
+    let number = read_number(person)?;
+    if number <= 9_999_999 {
+        Some(Form::Tours(TourForm::Record(PersonNo::new(number as u32)?)))
+    } else {
+        None
     }
 }
 

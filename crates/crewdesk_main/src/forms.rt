@@ -17,6 +17,10 @@ const HELP: &str = "\
 crewdesk replay     reads a day file from standard input and writes its journal to standard output
 crewdesk tally      reads a day file from standard input and writes its tally to standard output
 crewdesk audit      reads a journal from standard input and writes whether it is legal, or what is wrong in it
+crewdesk record P   reads a journal from standard input and writes the records of the tours of person P as JSON
+crewdesk excess     reads a journal from standard input and writes the records of all tours that were too long as JSON
+crewdesk gen N K    makes a day of N commands from the number K and writes the tally of its answers
+crewdesk gen N K 2  does so by the second edition of the rules
 crewdesk --help     prints these lines
 crewdesk --version  prints the program's name and version
 ";

@@ -12,9 +12,12 @@ mod journal;
 mod limits;
 mod lines;
 mod read_number;
+mod read_tours;
 mod replay;
 mod run;
 mod take_journal;
+mod tour_form;
+mod tours;
 mod words;
 mod write_text;
 

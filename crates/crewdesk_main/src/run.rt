@@ -10,6 +10,7 @@ use crate::audit_form::audit_journal;
 use crate::form::Form;
 use crate::generate::tally_generated;
 use crate::replay::replay_day;
+use crate::tours::tell_tours;
 use desk_io::{Sink, Source, Status};
 use std::alloc::Global;
 
@@ -42,6 +43,7 @@ pub fn run<S: Source, K: Sink>(
     match Form::read(words) {
         Some(Form::Day(form)) => replay_day(alloc, form, source, sink),
         Some(Form::Audit) => audit_journal(alloc, source, sink),
+        Some(Form::Tours(form)) => tell_tours(alloc, form, source, sink),
         Some(
             Form::Gen {
                 commands,

@@ -4,9 +4,11 @@ use std::alloc::{AllocError, Global};
 mod audits;
 mod faults;
 mod forms;
+mod generated;
 mod openings;
 mod replays;
 mod tallies;
+mod tours;
 
 const OPENING: &[u8] = b"2024-03-04 00:00,open,2024-03,1,15\n";
 

@@ -1,4 +1,4 @@
-use Rattle.std.proofs.Common.{◌≡◌, ◌∙◌, decimal, sym, ap, refl, arith, true}
+use Rattle.std.proofs.Common.{◌≡◌, ◌∙◌, decimal, sym, ap, refl, arith}
 use Rattle.std.specs.Result.{result_ok}
 use Rattle.std.proofs.lemmas.Bool.{false≢true}
 use Rattle.std.proofs.lemmas.Bool.Decides.{Decides-eqb}

@@ -17,3 +17,8 @@ returns-in-Some-Gen-clause-ends g c = λ given is runs.
     let same : given ≡ form.Gen c.in-Some-Gen.commands c.in-Some-Gen.number c.in-Some-Gen.edition =
     let read = c.read.ensures.is in let found = c.in-Some-Gen.is in cc in
     rw (same) (search rules)
+
+pub returns-in-Some-Tours-clause-ends : goal.returns-in-Some-Tours-clause-ends
+returns-in-Some-Tours-clause-ends g c = λ given is runs.
+    let same : given ≡ form.Tours c.in-Some-Tours.form = let read = c.read.ensures.is in let found = c.in-Some-Tours.is in let how = c.in-Some-Tours.form-is in cc in
+    rw (same) (search rules)

@@ -1,7 +1,7 @@
 use Rattle.std.proofs.Common.{◌≡◌, ◌∙◌, ◌∷◌, ◌++◌, [], length, ap, arith, length-append}
 use Rattle.desk_base.specs.Parts.{parts_by}
 use Rattle.audit_desk.proofs.LineLemmas.{with-feed, first-is, no-feed, fed-front, fed-back}
-use Rattle.audit_desk.proofs.first_line.first_line.Goals as goal
+use Rattle.audit_desk.proofs.lines.first_line.Goals as goal
 
 pub split_at-requires : goal.split_at-requires
 split_at-requires c =
