@@ -85,6 +85,8 @@ mod day_tests;
 #[cfg(test)]
 mod edition_tests;
 #[cfg(test)]
+mod more_tests;
+#[cfg(test)]
 mod read_line_tests;
 #[cfg(test)]
 mod read_reply_tests;
