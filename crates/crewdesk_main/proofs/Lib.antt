@@ -1,6 +1,8 @@
+pub mod ContinueLemmas
 pub mod HistoryLemmas
 pub mod InputLemmas
 pub mod JournalLemmas
 pub mod LineLemmas
 pub mod NumberLemmas
+pub mod PartLemmas
 pub mod ReplayLemmas

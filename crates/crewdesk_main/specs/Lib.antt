@@ -4,5 +4,8 @@ pub mod Ends
 pub mod Lines
 pub mod Replay
 pub mod Audit
+pub mod Parts
+pub mod GoesOn
+pub mod Continue
 pub mod Forms
 pub mod Gathered

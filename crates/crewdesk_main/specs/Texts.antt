@@ -16,6 +16,7 @@ help_text =
     line (codes "crewdesk replay     reads a day file from standard input and writes its journal to standard output")
     ++ line (codes "crewdesk tally      reads a day file from standard input and writes its tally to standard output")
     ++ line (codes "crewdesk audit      reads a journal from standard input and writes whether it is legal, or what is wrong in it")
+    ++ line (codes "crewdesk continue   reads a journal and commands behind a line + from standard input, and writes the journal that goes on to standard output")
     ++ line (codes "crewdesk --help     prints these lines")
     ++ line (codes "crewdesk --version  prints the program's name and version")
 

@@ -52,6 +52,7 @@ form_of words =
     if is_alone (codes "replay") words then Some (form.Day day.Replay)
     else if is_alone (codes "tally") words then Some (form.Day day.Tally)
     else if is_alone (codes "audit") words then Some form.Audit
+    else if is_alone (codes "continue") words then Some form.Continue
     else if is_alone (codes "--help") words then Some form.Help
     else if is_alone (codes "--version") words then Some form.Version
     else numbered_form words
@@ -66,6 +67,7 @@ runs other = true
 abbrev pub reads : Form → Bool
 reads (form.Day how) = true
 reads form.Audit = true
+reads form.Continue = true
 reads other = false
 
 -- so does the form that the words are, if they are one

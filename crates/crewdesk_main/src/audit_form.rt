@@ -56,7 +56,7 @@ pub fn audit_journal<S: Source, K: Sink>(alloc: Global, source: &mut S, sink: &m
 
 // Writes the lines that tell a verdict, and says how an audit ends that finds it: where the sink has a fault a legal journal
 // ends it with that.
-fn tell<K: Sink>(alloc: Global, verdict: &Verdict, sink: &mut K) -> Status
+pub(crate) fn tell<K: Sink>(alloc: Global, verdict: &Verdict, sink: &mut K) -> Status
     ensures only { (result ≡ ends_as verdict.now)
         ⊎ ((result ≡ Status.NoMemory) ⊎ ((ends_as verdict.now ≡ Status.Fine) × (result ≡ Status.WriteFault))) }
     ensures fine { result ≡ Status.Fine

@@ -18,6 +18,8 @@ pub enum Form {
     Day(DayForm),
     /// Audits a journal.
     Audit,
+    /// Goes on with a journal.
+    Continue,
     /// Makes a day from a number, and writes the tally of its replay.
     Gen {
         /// How many commands it has, 64 to 20,000, and in the second edition to 10,000.
@@ -41,6 +43,8 @@ impl Form {
             Some(Form::Day(DayForm::Tally))
         } else if is_alone(words, "audit") {
             Some(Form::Audit)
+        } else if is_alone(words, "continue") {
+            Some(Form::Continue)
         } else if is_alone(words, "--help") {
             Some(Form::Help)
         } else if is_alone(words, "--version") {

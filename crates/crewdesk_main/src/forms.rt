@@ -17,6 +17,7 @@ const HELP: &str = "\
 crewdesk replay     reads a day file from standard input and writes its journal to standard output
 crewdesk tally      reads a day file from standard input and writes its tally to standard output
 crewdesk audit      reads a journal from standard input and writes whether it is legal, or what is wrong in it
+crewdesk continue   reads a journal and commands behind a line + from standard input, and writes the journal that goes on to standard output
 crewdesk --help     prints these lines
 crewdesk --version  prints the program's name and version
 ";
