@@ -5,4 +5,5 @@ pub mod JournalLemmas
 pub mod LineLemmas
 pub mod NumberLemmas
 pub mod PartLemmas
+pub mod PlusLemmas
 pub mod ReplayLemmas

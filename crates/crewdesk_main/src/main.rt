@@ -6,6 +6,7 @@ mod continue_form;
 mod continue_text;
 mod count_lines;
 mod cut_at_plus;
+mod cut_law;
 mod day_form;
 mod day_tally;
 mod form;
