@@ -17,11 +17,7 @@ use std::alloc::Global;
 /// Reads a journal from the source, and commands behind it, and writes the journal that goes on with them to the sink, with
 /// their entries of caller 0; where the journal is wrong it writes what an audit does, and where a command is wrong a line that
 /// says which field. It reads all of its input, and takes all memory, before it writes anything.
-pub fn continue_journal<S: Source, K: Sink>(
-    alloc: Global,
-    source: &mut S,
-    sink: &mut K,
-) -> Status
+pub fn continue_journal<S: Source, K: Sink>(alloc: Global, source: &mut S, sink: &mut K) -> Status
     ensures fine { result ≡ Status.Fine
         → Continues (WasRead BYTE_LIMIT (S.left source.old) (S.left source.new))
         (Appends (K.held sink.old) (K.held sink.new)) }

@@ -51,14 +51,7 @@ pub(crate) fn continue_text<K: Sink>(alloc: Global, text: &[u8], sink: &mut K) -
     one_history_is_legal();
     an_audit_finds_one_verdict();
     match resume(alloc, journal, ENTRY_LIMIT) {
-        Ok(mut resumed) => go_on(
-            alloc,
-            &mut resumed.core,
-            resumed.count,
-            journal,
-            more,
-            sink,
-        ),
+        Ok(mut resumed) => go_on(alloc, &mut resumed.core, resumed.count, journal, more, sink),
         Err(verdict) => tell(alloc, &verdict, sink),
     }
 }

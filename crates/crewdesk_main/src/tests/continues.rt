@@ -83,10 +83,7 @@ fn commands_behind_a_journal(rt: HostRuntime) -> Result<(), Fail> {
         (b"+\n", b""),
         (b"+\n2024-03-04 00:05,accept,12,101\n", ACCEPTED),
         (b"+\n2024-03-04 00:05,accept,12,101", ACCEPTED),
-        (
-            b"+\n\xef\xbb\xbf2024-03-04 00:05,accept,12,101\n",
-            ACCEPTED,
-        ),
+        (b"+\n\xef\xbb\xbf2024-03-04 00:05,accept,12,101\n", ACCEPTED),
     ];
     for (behind, entries) in cases {
         let text = joined(alloc, FIRST_OFFER_JOURNAL, behind)?;
@@ -124,10 +121,7 @@ fn what_is_wrong_behind_a_journal(rt: HostRuntime) -> Result<(), Fail> {
     let words = words_of(alloc, &["continue"])?;
     // A field of a command; and pluses that are no line of their own, so that the journal's seventh line is wrong.
     let cases: [(&[u8], &[u8]); 7] = [
-        (
-            b"+\n2024-03-04 00:05,acept,12,101\n",
-            b"unreadable 1 2\n",
-        ),
+        (b"+\n2024-03-04 00:05,acept,12,101\n", b"unreadable 1 2\n"),
         (
             b"+\n2024-03-04 00:05,accept,12,101\n+\n",
             b"unreadable 2 1\n",
@@ -219,7 +213,11 @@ fn sources_and_sinks_that_fail(rt: HostRuntime) -> Result<(), Fail> {
     let text = joined(alloc, OPENING, b"+\n2024-03-04 00:01,vac,1\n")?;
     // Four pieces of the 60 bytes, and the end.
     for call in 1..6 {
-        let mut source = MemorySource::new(text.as_slice().to_vec(alloc)?, 16, vec![in alloc; call]?);
+        let mut source = MemorySource::new(
+            text.as_slice().to_vec(alloc)?,
+            16,
+            vec![in alloc; call]?,
+        );
         let mut sink = MemorySink::new(alloc, 512, 512, Vec::new(alloc))?;
         assert_eq!(rt;
             perform(alloc, &words, &mut source, &mut sink),

@@ -16,7 +16,7 @@ returns-in-Some-clause-more c =
 pub loop-at-preserved : goal.loop-at-preserved
 loop-at-preserved c =
     let next : (c.loop-at.begins && is_plus (drop c.loop-at.at c.args.text.now)) ≡ false
-            → Passed c.args.text.now (c.loop-at.at + 1) (get_or c.args.text.now c.loop-at.at 0 == 10) =
+    → Passed c.args.text.now (c.loop-at.at + 1) (get_or c.args.text.now c.loop-at.at 0 == 10) =
     λ not. Passed-more c.args.text.now c.loop-at.at c.loop-at.begins (omega (arith, c.loop-at-test.true)) not c.loop-at.invariant in
     elim c.if-begins.branch [
       | then-begins+in_default w ↦ next (rw (w.if-begins.true) (ap is_plus (sym (take_rest c.args.text.now c.loop-at.at)) ∙ w.behind_plus.ensures.none w.in_default.is))
