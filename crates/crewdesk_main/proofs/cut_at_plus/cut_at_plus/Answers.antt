@@ -1,4 +1,4 @@
-use Rattle.std.proofs.Common.{◌≡◌, ◌+◌, ◌&&◌, ◌==◌, Bool, true, false, drop, get_or, ap, sym, refl, ◌∙◌, subst, arith}
+use Rattle.std.proofs.Common.{◌≡◌, ◌+◌, ◌&&◌, ◌==◌, false, drop, get_or, ap, sym, refl, ◌∙◌, subst, arith}
 use Rattle.std.proofs.lemmas.List.{take_rest}
 use Rattle.crewdesk_main.specs.Parts.{is_plus}
 use Rattle.crewdesk_main.proofs.PartLemmas.{Passed, Passed-journal, Passed-commands, Passed-more, Passed-whole, Passed-no_commands}

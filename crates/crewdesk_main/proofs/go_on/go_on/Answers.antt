@@ -1,4 +1,4 @@
-use Rattle.std.proofs.Common.{◌≡◌, inl, inr, ℕ, sym, subst}
+use Rattle.std.proofs.Common.{◌≡◌, inl, inr, sym, subst}
 use Rattle.desk_text.specs.MoreCommands.{HasMoreFault}
 use Rattle.desk_text.specs.declared.more_fault.MoreFault.{MoreFault}
 use Rattle.desk_text.specs.declared.more_fault.MoreFault.TheVariants as fault
