@@ -61,7 +61,7 @@ goes_on-behind h commands place =
     ∙ ap (history_from h) (sym (map-append by_the_day_file (take place commands) (drop place commands)) ∙ ap (map by_the_day_file) (take-append-drop place commands))
 
 -- the day file's commands may be stated by caller 0
-day-MayState : (commands : List StatedValue) → All IsStated commands → All (λ c. MayState c.0 c.1) (map by_the_day_file commands)
+pub day-MayState : (commands : List StatedValue) → All IsStated commands → All (λ c. MayState c.0 c.1) (map by_the_day_file commands)
 day-MayState [] all = All-nil (λ c. MayState c.0 c.1)
 day-MayState (s ∷ rest) all =
     All-cons (λ c. MayState c.0 c.1) (by_the_day_file s) (map by_the_day_file rest)

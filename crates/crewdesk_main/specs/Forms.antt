@@ -12,6 +12,7 @@ use Rattle.crewdesk_main.specs.declared.form.Form.TheVariants as form
 use Rattle.crewdesk_main.specs.Texts.{EndsPrint, help_text, version_text}
 use Rattle.crewdesk_main.specs.Replay.{EndsReplay, text_of}
 use Rattle.crewdesk_main.specs.Audit.{EndsAudit}
+use Rattle.crewdesk_main.specs.Continue.{EndsContinue}
 use Rattle.crewdesk_main.specs.Records.{EndsTelling, tours_text}
 
 -- a run that ended so printed this text, or had a write fault, and printed a front of it; or memory was wanting
@@ -30,3 +31,4 @@ Ends (form.Tours how) result left left' asked asked' held held' given given' = E
 Ends (form.Gen commands number edition) result left left' asked asked' held held' given given' =
     EndsGen result (tally_text (generated_day edition number commands)) held held' given given'
 Ends form.Audit result left left' asked asked' held held' given given' = EndsAudit result left left' asked asked' held held' given given'
+Ends form.Continue result left left' asked asked' held held' given given' = EndsContinue result left left' asked asked' held held' given given'

@@ -16,6 +16,7 @@ help_text =
     line (codes "crewdesk replay     reads a day file from standard input and writes its journal to standard output")
     ++ line (codes "crewdesk tally      reads a day file from standard input and writes its tally to standard output")
     ++ line (codes "crewdesk audit      reads a journal from standard input and writes whether it is legal, or what is wrong in it")
+    ++ line (codes "crewdesk continue   reads a journal, a line + and commands from standard input and writes the journal that goes on with them")
     ++ line (codes "crewdesk record P   reads a journal from standard input and writes the records of the tours of person P as JSON")
     ++ line (codes "crewdesk excess     reads a journal from standard input and writes the records of all tours that were too long as JSON")
     ++ line (codes "crewdesk gen N K    makes a day of N commands from the number K and writes the tally of its answers")

@@ -60,6 +60,7 @@ form_of words =
     if is_alone (codes "replay") words then Some (form.Day day.Replay)
     else if is_alone (codes "tally") words then Some (form.Day day.Tally)
     else if is_alone (codes "audit") words then Some form.Audit
+    else if is_alone (codes "continue") words then Some form.Continue
     else if is_alone (codes "excess") words then Some (form.Tours tour.Excess)
     else if is_alone (codes "--help") words then Some form.Help
     else if is_alone (codes "--version") words then Some form.Version
@@ -75,6 +76,7 @@ runs other = true
 abbrev pub reads : Form → Bool
 reads (form.Day how) = true
 reads form.Audit = true
+reads form.Continue = true
 reads (form.Tours how) = true
 reads other = false
 

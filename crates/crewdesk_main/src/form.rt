@@ -20,6 +20,8 @@ pub enum Form {
     Day(DayForm),
     /// Audits a journal.
     Audit,
+    /// Goes on with a journal.
+    Continue,
     /// Reads a journal as it stands, and writes these records of its tours.
     Tours(TourForm),
     /// Makes a day from a number, and writes the tally of its replay.
@@ -45,6 +47,8 @@ impl Form {
             Some(Form::Day(DayForm::Tally))
         } else if is_alone(words, "audit") {
             Some(Form::Audit)
+        } else if is_alone(words, "continue") {
+            Some(Form::Continue)
         } else if is_alone(words, "excess") {
             Some(Form::Tours(TourForm::Excess))
         } else if is_alone(words, "--help") {

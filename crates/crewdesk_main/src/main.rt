@@ -2,12 +2,17 @@
 #![tactic(auto)]
 
 mod audit_form;
+mod continue_form;
+mod continue_text;
 mod count_lines;
+mod cut_at_plus;
+mod cut_law;
 mod day_form;
 mod day_tally;
 mod form;
 mod forms;
 mod generate;
+mod go_on;
 mod journal;
 mod limits;
 mod lines;

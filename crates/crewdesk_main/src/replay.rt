@@ -84,7 +84,7 @@ pub fn replay_day<S: Source, K: Sink>(
 }
 
 // Writes which field of which record is wrong, or a front of that line where the sink has a fault.
-fn tell_wrong<K: Sink>(record_no: u32, field: u8, sink: &mut K) -> Status
+pub(crate) fn tell_wrong<K: Sink>(record_no: u32, field: u8, sink: &mut K) -> Status
     ensures unreadable { result ≡ Status.Unreadable }
     ensures written { WritesOrFails (K.held sink.old) (K.held sink.new)
         (K.faults sink.old) (K.faults sink.new) (wrong_line record_no field) }

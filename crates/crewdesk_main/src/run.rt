@@ -7,6 +7,7 @@ ghost use Rattle.crewdesk_main.specs.Forms.{Ends};
 ghost use Rattle.crewdesk_main.specs.Words.{form_of, is_asked, reads, runs};
 
 use crate::audit_form::audit_journal;
+use crate::continue_form::continue_journal;
 use crate::form::Form;
 use crate::generate::tally_generated;
 use crate::replay::replay_day;
@@ -15,8 +16,9 @@ use desk_io::{Sink, Source, Status};
 use std::alloc::Global;
 
 /// Runs the desk as the words say: with `replay` it reads a day file from the source and writes its journal to the sink, with
-/// `tally` its tally; with `audit` it reads a journal and writes whether it is legal; with `gen` and numbers it reads nothing, and
-/// writes the tally of a day that is made from them. It knows no other words.
+/// `tally` its tally; with `audit` it reads a journal and writes whether it is legal; with `continue` it reads a journal and
+/// commands, and writes the journal that goes on with them; with `gen` and numbers it reads nothing, and writes the tally of a
+/// day that is made from them. It knows no other words.
 pub fn run<S: Source, K: Sink>(
     alloc: Global,
     words: &[String],
@@ -43,6 +45,7 @@ pub fn run<S: Source, K: Sink>(
     match Form::read(words) {
         Some(Form::Day(form)) => replay_day(alloc, form, source, sink),
         Some(Form::Audit) => audit_journal(alloc, source, sink),
+        Some(Form::Continue) => continue_journal(alloc, source, sink),
         Some(Form::Tours(form)) => tell_tours(alloc, form, source, sink),
         Some(
             Form::Gen {

@@ -2,6 +2,7 @@
 use std::alloc::{AllocError, Global};
 
 mod audits;
+mod continues;
 mod faults;
 mod forms;
 mod generated;

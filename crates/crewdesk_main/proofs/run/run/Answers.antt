@@ -12,6 +12,11 @@ returns-in-Some-Audit-clause-ends g c = λ given is runs.
     let same : given ≡ form.Audit = let read = c.read.ensures.is in let found = c.in-Some-Audit.is in cc in
     rw (same) (search rules)
 
+pub returns-in-Some-Continue-clause-ends : goal.returns-in-Some-Continue-clause-ends
+returns-in-Some-Continue-clause-ends g c = λ given is runs.
+    let same : given ≡ form.Continue = let read = c.read.ensures.is in let found = c.in-Some-Continue.is in cc in
+    rw (same) (search rules)
+
 pub returns-in-Some-Gen-clause-ends : goal.returns-in-Some-Gen-clause-ends
 returns-in-Some-Gen-clause-ends g c = λ given is runs.
     let same : given ≡ form.Gen c.in-Some-Gen.commands c.in-Some-Gen.number c.in-Some-Gen.edition =

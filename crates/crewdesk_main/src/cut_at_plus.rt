@@ -1,0 +1,33 @@
+//! A journal, cut from the commands that it goes on with.
+ghost use Rattle.std.specs.Prelude.{◌≡◌, ◌≤◌, ◌∷◌, None, false, length, IfSome};
+ghost use Rattle.crewdesk_main.specs.Parts.{is_plus, journal_of, more_of};
+
+/// The part of a text that is a journal, and the part behind it with commands. They are parted by the first line that is just a
+/// plus: where there is none, all is the journal.
+pub fn cut_at_plus(text: &[u8]) -> (&[u8], &[u8])
+    ensures journal { result.0.now ≡ journal_of text.now }
+    ensures more { result.1.now ≡ more_of text.now }
+    ensures within { length result.0.now ≤ length text.now }
+{
+    let mut begins = true;
+    for at in 0..text.len() {
+        if begins {
+            if let Some(more) = behind_plus(&text[at..]) {
+                return (&text[..at], more);
+            }
+        }
+        begins = text[at] == b'\n';
+    }
+    (text, &[])
+}
+
+// What stands behind the plus and the line feed that a text begins with; `None` where it doesn't.
+fn behind_plus(text: &[u8]) -> Option<&[u8]>
+    ensures some { IfSome result (λ more. text.now ≡ 43 ∷ 10 ∷ more.now) }
+    ensures none { result ≡ None → is_plus text.now ≡ false }
+{
+    match text {
+        [b'+', b'\n', more @ ..] => Some(more),
+        _ => None,
+    }
+}
