@@ -1,7 +1,8 @@
 #!/bin/sh
 # journals.sh PROGRAM: what the program writes of each example that is replayed is read again. Its journal has to be legal, with as
-# many entries as it has lines behind the first; with its last line cut short it must not be. And the records of its tours have to
-# be JSON that python3 reads and writes again just so, where python3 is there.
+# many entries as it has lines behind the first; with its last line cut short it must not be. Cut after its first entries, and after
+# each hundredth, it has to go on to the whole with the commands of the others. And the records of its tours have to be JSON that
+# python3 reads and writes again just so, where python3 is there.
 # The last line is 'N passed, M failed'.
 program=$(realpath "$1") || exit 2
 cd "$(dirname "$0")/../examples" || exit 2
@@ -39,6 +40,15 @@ for folder in */; do
     "$program" audit < "$work/cut" > /dev/null 2>&1
     case $? in 8|9) cut=refused;; *) cut=passed;; esac
     check "$cut" refused "an audit of its journal without the last line feed"
+    for first in 0 1 $(seq 100 100 "$entries"); do
+        [ "$first" -le "$entries" ] || continue
+        {
+            head -n $((first + 1)) "$work/journal"
+            echo +
+            tail -n +$((first + 2)) "$work/journal" | sed 's/^[^|]*|\([^|]*\)|.*/\1/'
+        } | "$program" continue 2> /dev/null | cmp -s - "$work/journal"
+        check $? 0 "its journal, which goes on after $first entries"
+    done
     "$program" excess < "$work/journal" > "$work/records" 2> /dev/null
     check $? 0 "the records of its tours that were too long"
     if command -v python3 > /dev/null; then
