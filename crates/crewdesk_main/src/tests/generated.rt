@@ -83,7 +83,7 @@ fn a_generated_tally_that_is_not_taken(rt: HostRuntime) -> Result<(), Fail> {
     );
     assert_eq!(rt;
         sink.bytes(),
-        b"commands 64\ndone 64\noffered 0".get(..30).ok_or("short")?
+        b"commands 64\ndone 64\noffered 0\n".as_slice()
     );
     Ok(())
 }
