@@ -17,6 +17,11 @@ use std::alloc::Global;
 /// How many bytes a journal may have.
 pub const BYTE_LIMIT: usize = 268_435_456;
 
+/// How many bytes a journal may have. It does nothing: its clause is the law.
+pub fn the_most_bytes_of_a_journal()
+    ensures { BYTE_LIMIT ≡ 268_435_456 }
+{}
+
 /// What the audit of a journal of at most 268,435,456 bytes finds: each of its lines is read in turn, and a desk answers what
 /// is stated there.
 pub fn audit(alloc: Global, journal: &[u8]) -> Verdict

@@ -10,7 +10,7 @@ mod resumed;
 mod verdict;
 mod verdict_text;
 
-pub use journal::{BYTE_LIMIT, audit, resume};
+pub use journal::{BYTE_LIMIT, audit, resume, the_most_bytes_of_a_journal};
 pub use laws::an_audit_finds_one_verdict;
 pub use lines::first_line;
 pub use outcome::Outcome;

@@ -4,7 +4,7 @@ ghost use Rattle.desk_text.specs.Line.{IsLine};
 
 use desk_base::split_once;
 
-/// The first line of a text, with its line feed, and what is behind it. A text without a line feed is one line.
+/// The first line of a text, with its line feed, and what is behind it.
 pub fn first_line(text: &[u8]) -> (&[u8], &[u8])
     ensures parts { text.now ≡ result.0.now ++ result.1.now }
     ensures line { (line rest : List ℕ) → IsLine line → text.now ≡ line ++ rest

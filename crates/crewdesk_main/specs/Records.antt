@@ -2,7 +2,7 @@
 use Rattle.std.specs.Prelude.{◌≡◌, ◌≢◌, ◌⊎◌, ℕ, Option, List, [], ◌∷◌, ◌++◌}
 use Rattle.std.specs.List.{All}
 use Rattle.desk_io.specs.declared.status.Status.{Status}
-use Rattle.desk_io.specs.declared.status.Status.TheVariants.{Fine, ReadFault, WriteFault, TooLong, NoOpening, Unreadable}
+use Rattle.desk_io.specs.declared.status.Status.TheVariants.{Fine, ReadFault, WriteFault, TooLong, AuditWrong, NoOpening, Unreadable}
 use Rattle.std.specs.Io.KnownBytes.{Appends}
 use Rattle.desk_io.specs.Faults.{Rose}
 use Rattle.desk_io.specs.Giving.{AddsFront}
@@ -86,3 +86,4 @@ pub record EndsTelling (result : Status) (text : History → List ℕ) (left lef
   pub not_too_long : result ≢ TooLong → TookFront left left' BYTE_LIMIT
   pub no_opening : result ≡ NoOpening → WasRead BYTE_LIMIT left left' (λ bytes. HasFewLines bytes × HasNoOpening bytes)
   pub unreadable : result ≡ Unreadable → TellsLine left left' (WritesOrFails held held' given given')
+  pub not_wrong : result ≢ AuditWrong

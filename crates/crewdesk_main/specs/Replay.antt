@@ -1,7 +1,7 @@
 -- What a replay reads and writes.
 use Rattle.std.specs.Prelude.{◌≡◌, ◌≢◌, ◌⊎◌, ℕ, Option, List, map}
 use Rattle.desk_io.specs.declared.status.Status.{Status}
-use Rattle.desk_io.specs.declared.status.Status.TheVariants.{Fine, ReadFault, WriteFault, TooLong, NoOpening, Unreadable}
+use Rattle.desk_io.specs.declared.status.Status.TheVariants.{Fine, ReadFault, WriteFault, TooLong, AuditWrong, NoOpening, Unreadable}
 use Rattle.std.specs.Io.KnownBytes.{Appends}
 use Rattle.desk_io.specs.Faults.{Rose}
 use Rattle.desk_io.specs.Giving.{AddsFront}
@@ -78,4 +78,5 @@ pub record EndsReplay (result : Status) (text : History → List ℕ) (left left
   pub not_too_long : result ≢ TooLong → TookFront left left' BYTE_LIMIT
   pub no_opening : result ≡ NoOpening → WasRead BYTE_LIMIT left left' HasNoOpening
   pub unreadable : result ≡ Unreadable → FindsWrong left left' (WritesOrFails held held' given given')
+  pub not_wrong : result ≢ AuditWrong
   pub by_the_day : EndsByTheDay result left

@@ -17,8 +17,9 @@ use std::alloc::Global;
 
 /// Runs the desk as the words say: with `replay` it reads a day file from the source and writes its journal to the sink, with
 /// `tally` its tally; with `audit` it reads a journal and writes whether it is legal; with `continue` it reads a journal and
-/// commands, and writes the journal that goes on with them; with `gen` and numbers it reads nothing, and writes the tally of a
-/// day that is made from them. It knows no other words.
+/// commands, and writes the journal that goes on with them; with `record` and a number, or `excess`, it reads a journal as it stands
+/// and writes records of its tours; with `gen` and numbers it reads nothing, and writes the tally of a day that is made from
+/// them. It knows no other words.
 pub fn run<S: Source, K: Sink>(
     alloc: Global,
     words: &[String],

@@ -36,9 +36,17 @@ fn records_that_are_none(rt: HostRuntime) -> Result<(), Fail> {
         (TWO, 2, None),
         (TWO, 1, Some(MoreFault::TooMany)),
         (b"2024-03-04 00:05,acept,12,101\n", 1, wrong(1, 2)),
-        (b"2024-03-04 00:05,vac,1\n2024-03-04 00:05,vac\n", 2, wrong(2, 3)),
+        (
+            b"2024-03-04 00:05,vac,1\n2024-03-04 00:05,vac\n",
+            2,
+            wrong(2, 3),
+        ),
         (b"2024-03-04 00:00,open,2024-03,1,15\n", 1, wrong(1, 2)),
-        (b"2024-03-04 00:05,acept,12,101\n", 0, Some(MoreFault::TooMany)),
+        (
+            b"2024-03-04 00:05,acept,12,101\n",
+            0,
+            Some(MoreFault::TooMany),
+        ),
     ];
     for (text, room, fault) in texts {
         assert_eq!(rt; fault_of(text, room, &rt), fault);
