@@ -1,0 +1,5 @@
+use Rattle.std.proofs.Math.Logic.{∥∥₁_elim}
+use Rattle.call_history.proofs.book.Book.entries.Goals as goal
+
+pub returns-clause-legal : goal.returns-clause-legal
+returns-clause-legal g c = ∥∥₁_elim c.args.self.now.stands squash₁ (λ stands. ∣ g.met.C.DeskCore.legal _ _ stands ∣₁)

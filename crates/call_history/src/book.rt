@@ -1,0 +1,84 @@
+ghost use Rattle.std.specs.Prelude.{◌≡◌, ◌↔◌, ◌+◌, ◌<◌, ◌≤◌, ◌^◌, length, IfOk, IsErr, vec_len, vec_capacity};
+ghost use Rattle.desk_model.specs.History.{History, history_of, opened, with_entry};
+ghost use Rattle.desk_model.specs.Legal.{IsLegal, next};
+ghost use Rattle.desk_model.specs.Mark.{no_wall};
+
+use crate::Full;
+use desk_base::NoMemory;
+use desk_model::{Booked, DeskCore, Entry, LAST_CALLER, Stated};
+use std::alloc::Global;
+
+/// A desk, and all entries that it has answered.
+#[derive(Drop)]
+pub struct Book<C: DeskCore> {
+    core: C,
+    entries: Vec<Entry>,
+    ghost stands: { ∥ C.stands core (history_of (C.opening core) entries.items) ∥₁ },
+    ghost room: { vec_len entries + C.room core ≤ vec_capacity entries },
+    ghost few: { vec_len entries + C.room core < 2 ^ 32 },
+}
+
+impl<C: DeskCore> Book<C> {
+    /// The book of a desk that has answered nothing yet, with memory for an entry for each step that is left to it, fewer than
+    /// 2^32; `NoMemory` where there is none for them.
+    pub fn new(alloc: Global, core: C) -> Result<Book<C>, NoMemory>
+        requires new { C.stands core (opened (C.opening core)) }
+        requires few { C.room core < 2 ^ 32 }
+        ensures history { IfOk result (λ book. ⟦<Book<C> as Booked>⟧.history book ≡ opened (C.opening core)) }
+        ensures room { IfOk result (λ book. ⟦<Book<C> as Booked>⟧.room book ≡ C.room core) }
+    {
+        let entries = Vec::with_capacity(alloc, core.left() as usize)?;
+        Ok(Book { core, entries })
+    }
+
+    /// Answers what caller 0 to 63 states, and keeps the entry as the last: it is the one that the rules give after all entries
+    /// before it. Where the book is full nothing is answered, and nothing changes.
+    pub fn step(&mut self, caller: u8, stated: Stated) -> Result<Entry, Full>
+        requires { caller ≤ LAST_CALLER }
+        ensures answer { IfOk result (λ entry.
+            entry ≡ next (⟦<Book<C> as Booked>⟧.history self.old) caller stated) }
+        ensures kept { IfOk result (λ entry.
+            ⟦<Book<C> as Booked>⟧.history self.new ≡ with_entry (⟦<Book<C> as Booked>⟧.history self.old) entry) }
+        ensures full { IsErr result ↔ (length (⟦<Book<C> as Booked>⟧.history self.old).entries ≡ ⟦<Book<C> as Booked>⟧.room self.old) }
+        ensures same { IsErr result → self.new ≡ self.old }
+        ensures room { ⟦<Book<C> as Booked>⟧.room self.new ≡ ⟦<Book<C> as Booked>⟧.room self.old }
+    {
+        if self.core.left() == 0 {
+            return Err(Full);
+        }
+        let entry = self.core.step(caller, stated);
+        self.entries.push_reserved(entry);
+        Ok(entry)
+    }
+
+    /// All entries, in order.
+    pub fn entries(&self) -> &[Entry]
+        ensures entries { result.now ≡ (⟦<Book<C> as Booked>⟧.history self.now).entries }
+        ensures legal { ∥ IsLegal (⟦<Book<C> as Booked>⟧.history self.now) ∥₁ }
+    {
+        &self.entries
+    }
+
+    /// How many more entries the book has room for.
+    pub fn left(&self) -> u32
+        ensures { result + length (⟦<Book<C> as Booked>⟧.history self.now).entries ≡ ⟦<Book<C> as Booked>⟧.room self.now }
+    {
+        self.core.left() as u32
+    }
+}
+
+impl<C: DeskCore> Booked for Book<C> {
+    ghost use Rattle.std.proofs.Common.{rules, arith};
+
+    ghost history = { λ book. history_of (C.opening book.core) book.entries.items };
+
+    ghost room = { λ book. length book.entries.items + C.room book.core };
+
+    ghost mark = { λ _. no_wall };
+
+    fn count(&self) -> u32 {
+        self.entries.len() as u32
+    }
+
+    ghost within = { λ book. Prim.omega arith };
+}

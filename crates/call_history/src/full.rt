@@ -1,0 +1,3 @@
+/// A book has no room for another entry.
+#[derive(Clone, Copy, Debug, PartialEq, Eq)]
+pub struct Full;
