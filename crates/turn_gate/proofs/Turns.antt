@@ -5,6 +5,7 @@ use Rattle.desk_model.specs.Entry.{EntryValue}
 use Rattle.turn_gate.specs.declared.start.Start.{Start}
 use Rattle.turn_gate.specs.declared.told.Told.{Told}
 use Rattle.turn_gate.specs.declared.view.View.{View}
+use Rattle.turn_gate.specs.Told.{IsNumber}
 use Rattle.turn_gate.specs.Steps.{waits, turns, passes, IsTaken, Looked}
 use Rattle.turn_gate.specs.Seats.{SeatValue, TurnValue, seated, turned, known_in, taken_in}
 use Rattle.turn_gate.specs.Turns.{Knows}
@@ -64,6 +65,9 @@ module _ {B : Type 0} (tell : B → Told) where
 
   pub knows-taken : (seat : SeatValue) (ticket : ℕ) (me : Me (Option B) View) (b : B) → IsServed seat ticket me b → Knows (tell b).entries seat
   knows-taken seat ticket me b is = let note = is.taken.notes 0 _ refl in record { known = note.known; own = note.own }
+
+  pub numbered-taken : (seat : SeatValue) (ticket : ℕ) (me : Me (Option B) View) (b : B) → IsServed seat ticket me b → IsNumber seat.start.seats seat.number
+  numbered-taken seat ticket me b is = (is.taken.notes 0 _ refl).number
 
   -- the seat after its turn
   pub given : (turn : TurnValue) (known : List EntryValue) (me me' : Me (Option B) View) (b : B) → me ≡ (turned turn.number known turn.calls turn.start turn.place turn.taken, (0, Some b) ∷ [])

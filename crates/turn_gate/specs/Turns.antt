@@ -1,13 +1,14 @@
 -- What a call of the gate makes of a seat, a turn and the book.
-use Rattle.std.specs.Prelude.{◌≡◌, ◌+◌, ◌<◌, List, [], ◌∷◌, ◌++◌, length, Option, Some}
+use Rattle.std.specs.Prelude.{◌≡◌, ◌+◌, ◌<◌, ◌≤◌, List, [], ◌∷◌, ◌++◌, length, Option, Some}
 use mathlib.Core.List.{IsPrefix}
 use mathlib.Core.Option.{some}
 use Rattle.atomic_table.specs.Table.{State}
 use Rattle.desk_model.specs.Entry.{EntryValue}
+use Rattle.desk_model.specs.declared.limits.TheConstants.{LAST_CALLER}
 use Rattle.turn_gate.specs.declared.start.Start.{Start}
 use Rattle.turn_gate.specs.declared.told.Told.{Told}
 use Rattle.turn_gate.specs.declared.view.View.{View}
-use Rattle.turn_gate.specs.Told.{own, end, IsBookOf}
+use Rattle.turn_gate.specs.Told.{own, end, IsNumber, IsBookOf}
 use Rattle.turn_gate.specs.Gate.{Gated}
 use Rattle.turn_gate.specs.Seats.{SeatValue, TurnValue}
 
@@ -25,6 +26,8 @@ pub record Took (seat : SeatValue) (turn : TurnValue) (book : Told) : Type 0 whe
   pub taken : book.entries ≡ turn.taken
   pub place : length book.entries ≡ turn.place
   pub within : turn.place < end seat.start
+  pub named : IsNumber seat.start.seats turn.number
+  pub caller : turn.number ≤ LAST_CALLER
   pub of_gate : IsBookOf seat.start book
   pub knows : Knows book.entries seat
 

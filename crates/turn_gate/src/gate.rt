@@ -9,9 +9,10 @@ use crate::gather::gather;
 use crate::steps::{Draw, Look, Pass};
 use crate::terms::Terms;
 use crate::tickets::Board;
+use crate::waiters::Waiters;
 use crate::{Seat, Short, Spent, Turn};
 use atomic_table::{Refused, Table};
-use desk_model::Booked;
+use desk_model::{Booked, LAST_CALLER};
 use std::alloc::{AllocFailed, Global};
 use std::marker::Model;
 use std::snapshot::Snapshot;
@@ -22,10 +23,12 @@ use std::sync::Wait;
 pub struct Gate<B: Booked> {
     table: Board<B>,
     seats: u8,
+    waiters: Waiters,
 }
 
 impl<B: Booked> Model for Gate<B> {
     ghost use Rattle.std.specs.Prelude.{◌≡◌, ◌<◌, ◌≤◌, ◌^◌};
+    ghost use Rattle.desk_model.specs.declared.limits.TheConstants.{LAST_CALLER};
     ghost use Rattle.turn_gate.specs.Told.{told, start_of, end};
     ghost use Rattle.turn_gate.specs.Seats.{GateValue, gate_of};
 
@@ -35,15 +38,16 @@ impl<B: Booked> Model for Gate<B> {
         (told B.history B.room B.mark g.table.shared.key.book.value)) };
 
     ghost invariant = { λ g. (g.table.shared.table_id.words ≡ 2) × (g.table.shared.table_id.slots ≡ 1)
-        × (g.seats ≡ g.table.shared.key.seats) × (1 ≤ g.seats)
-        × (end (start_of g.table.shared.key.seats g.table.shared.key.quota (told B.history B.room B.mark g.table.shared.key.book.value)) < 2 ^ 32) };
+      × (g.seats ≡ g.table.shared.key.seats) × (g.seats ≤ LAST_CALLER)
+      × (end (start_of g.table.shared.key.seats g.table.shared.key.quota (told B.history B.room B.mark g.table.shared.key.book.value)) < 2 ^ 32)
+      × (1 ≤ g.seats) };
 }
 
 impl<B: Booked> Gate<B> {
     /// A gate for a book, with 1 to 63 seats and so many calls of each; or, where memory was wanting, the book.
     pub fn new(alloc: Global, book: B, seats: u8, quota: u32) -> Result<(Gate<B>, Vec<Seat<B>>), B>
         requires some { 1 ≤ seats }
-        requires most { seats ≤ 63 }
+        requires most { seats ≤ LAST_CALLER }
         requires calls { 1 ≤ quota }
         requires places { length (B.history book).entries + seats * quota < 2 ^ 32 }
         ensures start { IfOk result (λ made. made.0.start ≡ start_of seats quota (told B.history B.room B.mark book)) }
@@ -68,7 +72,12 @@ impl<B: Booked> Gate<B> {
         match Table::new(alloc, &[first, first], slots, &terms) {
             Ok((table, all)) => {
                 let made = deal(&table, all, &terms, made);
-                Ok((Gate { table, seats }, made))
+                let gate = Gate {
+                    table,
+                    seats,
+                    waiters: Waiters::new(),
+                };
+                Ok((gate, made))
             }
             Err(Refused { mut slots }) => {
                 let book = slots.pop().unwrap().unwrap();
@@ -91,6 +100,7 @@ impl<B: Booked> Gate<B> {
         let (mut seat, number, left) = seat.into_parts();
         let shared = &self.table.shared;
         let ticket = shared.fetch_add::<Draw>(&mut seat, 0, 1);
+        let mut looks = 0;
         for _ in rt.forever() {
             let serving = shared.load::<Look>(&mut seat, 1);
             if serving == ticket {
@@ -103,7 +113,7 @@ impl<B: Booked> Gate<B> {
                 };
                 return Ok((turn, book));
             }
-            shared.park(rt, 1, serving as u32);
+            looks = self.waiters.pause(rt, &self.table, ticket, serving as u32, looks);
         }
         unreachable!()
     }
@@ -123,8 +133,8 @@ impl<B: Booked> Gate<B> {
         let shared = &self.table.shared;
         let before = shared.exchange(&mut seat, 0, Some(book));
         let None = before else { unreachable!() };
-        shared.fetch_add::<Pass>(&mut seat, 1, 1);
-        shared.wake_all(1);
+        let served = shared.fetch_add::<Pass>(&mut seat, 1, 1);
+        self.waiters.wake(&self.table, served);
         Seat {
             place: seat,
             number,
@@ -153,7 +163,11 @@ impl<B: Booked> Gate<B> {
         if seats.len() < usize::from(self.seats) {
             return Err(Short { gate: self, seats });
         }
-        let Gate { table, seats: _ } = self;
+        let Gate {
+            table,
+            seats: _,
+            waiters: _,
+        } = self;
         let all = gather(&table, seats);
         let mut closed = table.close_with(all);
         let slot = closed.take(0);

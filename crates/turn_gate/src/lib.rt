@@ -16,6 +16,7 @@ mod tickets;
 mod told;
 mod turn;
 mod view;
+mod waiters;
 mod wall;
 
 pub use gate::Gate;
@@ -23,3 +24,6 @@ pub use seat::Seat;
 pub use short::Short;
 pub use spent::Spent;
 pub use turn::Turn;
+
+#[cfg(test)]
+mod tests;

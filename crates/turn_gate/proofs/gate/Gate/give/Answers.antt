@@ -6,8 +6,8 @@ use Rattle.turn_gate.proofs.Keeps.{gives_back}
 use Rattle.turn_gate.proofs.Turns.{seated-itself, put-back, given}
 use Rattle.turn_gate.proofs.gate.Gate.give.Goals as goal
 
-pub fetch_add-requires : goal.fetch_add-requires
-fetch_add-requires g c =
+pub fetch_add-served-requires : goal.fetch_add-served-requires
+fetch_add-served-requires g c =
     let tell = told g.B.Booked.history g.B.Booked.room g.B.Booked.mark in
     let key = c.self.inside.table.shared.key in
     let k = start_of key.seats key.quota (tell key.book.value) in
@@ -31,7 +31,7 @@ invariant_of-result g c =
     let known = known_in c.turn.inside.seat.me.0.notes in
     let was = c.turn.invariant.0 ∙ ap (λ t. (turned t.number known t.calls t.start t.place t.taken, _)) c.turn.view_is in
     let me = put-back turn known _ _ c.args.book was c.exchange-before.ensures.3 in
-    let after = given tell turn known _ _ c.args.book me c.fetch_add.ensures.2 in
+    let after = given tell turn known _ _ c.args.book me c.fetch_add-served.ensures.2 in
     let calls = ap (λ m. m.0.calls) after in
     let quota = ap (λ m. m.0.start.quota) after in
     let had = ap (λ t. t.calls) c.turn.view_is in
@@ -46,8 +46,8 @@ returns g c =
     let known = known_in c.turn.inside.seat.me.0.notes in
     let was = c.turn.invariant.0 ∙ ap (λ t. (turned t.number known t.calls t.start t.place t.taken, _)) c.turn.view_is in
     let me = put-back turn known _ _ c.args.book was c.exchange-before.ensures.3 in
-    let after = given tell turn known _ _ c.args.book me c.fetch_add.ensures.2 in record {
-      table = c.fetch_add.ensures.0 ∙ (c.exchange-before.ensures.0 ∙ ap (λ t. t.table) c.turn.view_is);
+    let after = given tell turn known _ _ c.args.book me c.fetch_add-served.ensures.2 in record {
+      table = c.fetch_add-served.ensures.0 ∙ (c.exchange-before.ensures.0 ∙ ap (λ t. t.table) c.turn.view_is);
       start = ap (λ m. m.0.start) after;
       number = ap (λ t. t.number) c.turn.view_is;
       calls = ap (λ m. m.0.calls) after;

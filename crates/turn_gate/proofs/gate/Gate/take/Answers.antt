@@ -1,10 +1,10 @@
 use Rattle.std.proofs.Common.{rules, ◌≡◌, ◌<◌, ◌∷◌, length, refl, sym, ap, ◌∙◌, subst, Some, arith}
 use Rattle.std.specs.Option.{IsSome}
 use Rattle.atomic_table.specs.Table.{rest}
-use Rattle.turn_gate.specs.Told.{told, start_of}
+use Rattle.turn_gate.specs.Told.{told, start_of, IsNumber}
 use Rattle.turn_gate.specs.Seats.{taken_in}
 use Rattle.turn_gate.proofs.Keeps.{draws, looks}
-use Rattle.turn_gate.proofs.Turns.{is-waiting, turned-itself, found-is, IsServed, served, taken-out, knows-taken}
+use Rattle.turn_gate.proofs.Turns.{is-waiting, turned-itself, found-is, IsServed, served, taken-out, knows-taken, numbered-taken}
 use Rattle.turn_gate.proofs.gate.Gate.take.Goals as goal
 
 pub fetch_add-ticket-requires : goal.fetch_add-ticket-requires
@@ -62,14 +62,22 @@ returns-then-serving-ticket-clause-took g c =
     let found = found-is _ c.exchange.result took.0 c.exchange.ensures.2 took.1.carried in
     let same : took.0 ≡ c.unwrap-book.result = cc (found, c.unwrap-book.ensures) in
     let mine = subst (IsServed tell c.args.seat c.fetch_add-ticket.result c.load-serving.new.seat.me) same took.1 in
-    let out = taken-out tell c.args.seat c.fetch_add-ticket.result _ _ c.unwrap-book.result mine c.exchange.ensures.3 in record {
+    let out = taken-out tell c.args.seat c.fetch_add-ticket.result _ _ c.unwrap-book.result mine c.exchange.ensures.3 in
+    let number = c.into_parts-seat.ensures.number in
+    let named = subst (IsNumber c.args.seat.start.seats) (sym number) (numbered-taken tell c.args.seat c.fetch_add-ticket.result _ c.unwrap-book.result mine) in
+    let seats = ap (λ s. s.seats) (c.requires.1 ∙ sym (ap (λ v. v.start) c.self.view_is)) in
+    let few = c.self.invariant.2 in
+    let callers = c.self.invariant.3 in
+    record {
       table = search rules;
       start = ap (λ m. m.0.start) out;
-      number = c.into_parts-seat.ensures.number;
+      number = number;
       calls = ap (λ m. m.0.calls) out;
       taken = sym (ap (λ m. taken_in m.0) out);
       place = mine.taken.long;
       within = mine.taken.place;
+      named = named;
+      caller = omega arith;
       of_gate = mine.taken.of_gate;
       knows = knows-taken tell c.args.seat c.fetch_add-ticket.result _ c.unwrap-book.result mine;
     }
