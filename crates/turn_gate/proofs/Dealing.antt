@@ -1,5 +1,7 @@
 -- How the notes of a new gate are dealt to its seats, and come together again.
 use Rattle.std.proofs.Common.{◌≡◌, ℕ, zero, suc, ◌+◌, ◌-◌, ◌<◌, List, [], ◌∷◌, ◌++◌, length, refl, sym, ap, ◌∙◌, subst, arith, add-one}
+use Rattle.std.specs.List.{All}
+use Rattle.std.proofs.lemmas.List.Elements.{All-nil, All-cons}
 use Rattle.atomic_table.specs.Seated.{TableId}
 use Rattle.atomic_table.specs.Table.{Me}
 use Rattle.desk_model.specs.Entry.{EntryValue}
@@ -8,7 +10,7 @@ use Rattle.turn_gate.specs.declared.phase.Phase.TheVariants.{Idle}
 use Rattle.turn_gate.specs.declared.start.Start.{Start}
 use Rattle.turn_gate.specs.declared.view.View.{View}
 use Rattle.turn_gate.specs.Steps.{note_of, notes_from, kept, dealt, other_notes, first_note}
-use Rattle.turn_gate.specs.Seats.{GateValue, SeatValue, gate_of, new_seat, new_seats, seated, known_in}
+use Rattle.turn_gate.specs.Seats.{GateValue, SeatValue, IsSeatOf, gate_of, new_seat, new_seats, seated, known_in}
 
 -- the view that has the notes still to deal
 abbrev pub left_view : Start → ℕ → View
@@ -59,3 +61,9 @@ pushed k gate table done made me is same new =
   where
     number : done + 1 ≡ 1 + done
     number = omega arith
+
+-- the seats of a new gate are its own
+pub all-new : (gate : GateValue) (number count : ℕ) → All (IsSeatOf gate) (new_seats gate number count)
+all-new gate number zero = All-nil (IsSeatOf gate)
+all-new gate number (suc count) =
+    All-cons (IsSeatOf gate) (new_seat gate number) (new_seats gate (number + 1) count) (refl, refl) (all-new gate (number + 1) count)

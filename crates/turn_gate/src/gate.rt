@@ -52,6 +52,7 @@ impl<B: Booked> Gate<B> {
         requires places { length (B.history book).entries + seats * quota < 2 ^ 32 }
         ensures start { IfOk result (λ made. made.0.start ≡ start_of seats quota (told B.history B.room B.mark book)) }
         ensures seats { IfOk result (λ made. made.1.items ≡ new_seats made.0 1 seats) }
+        ensures each { IfOk result (λ made. All (IsSeatOf made.0) made.1.items) }
         ensures back { IfErr result (λ same. same ≡ book) }
     {
         let Ok(made) = Vec::with_capacity(alloc, usize::from(seats)) else {
@@ -113,7 +114,7 @@ impl<B: Booked> Gate<B> {
                 };
                 return Ok((turn, book));
             }
-            looks = self.waiters.pause(rt, &self.table, ticket, serving as u32, looks);
+            looks = self.waiters.pause(rt, &self.table, ticket, serving, looks);
         }
         unreachable!()
     }
@@ -134,7 +135,7 @@ impl<B: Booked> Gate<B> {
         let before = shared.exchange(&mut seat, 0, Some(book));
         let None = before else { unreachable!() };
         let served = shared.fetch_add::<Pass>(&mut seat, 1, 1);
-        self.waiters.wake(&self.table, served);
+        self.waiters.wake(served);
         Seat {
             place: seat,
             number,
@@ -157,7 +158,7 @@ impl<B: Booked> Gate<B> {
         ensures known { IfOk result (λ book. All (Knows (B.history book).entries) seats.items) }
         ensures rule { IfOk result (λ book. IsLast (told B.history B.room B.mark) self.start book) }
         ensures all { IfOk result (λ book. self.start.seats ≤ length seats.items) }
-        ensures short { IfErr result (λ s. (s.gate ≡ self) × (s.seats.items ≡ seats.items)
+        ensures short { IfErr result (λ s. (s.gate ≡ self) × (s.seats ≡ seats)
             × (length seats.items < self.start.seats)) }
     {
         if seats.len() < usize::from(self.seats) {

@@ -1,163 +1,181 @@
-//! A gate over a heap of entries: its row, threads, and a gate that is left open for want of seats or of memory.
-ghost use Rattle.std.specs.Prelude.{◌≡◌, ◌≤◌, IfOk, IfErr};
+//! A gate over a heap of entries that is not let go: its row, and threads that take turns.
+ghost use Rattle.std.specs.Prelude.{◌≡◌, ◌*◌, ◌^◌, ◌<◌, ◌≤◌, IfSome};
+ghost use Rattle.std.specs.List.{All};
+ghost use Rattle.desk_model.specs.declared.limits.TheConstants.{LAST_CALLER};
 ghost use Rattle.turn_gate.specs.Told.{end};
 ghost use Rattle.turn_gate.specs.Seats.{IsSeatOf};
 
 use crate::{Gate, Seat};
-use desk_base::{Minute, Month, Window};
-use desk_model::{Cmd, Edition, Opening, Stated};
-use pile::Pile;
-use std::alloc::{AllocError, Global};
+use pile::{Pile, empty};
+use std::alloc::Global;
+use std::process::Abort;
 use std::sync::Wait;
+use std::sync::atomic::AtomicU64;
+use std::sync::atomic::Ordering::SeqCst;
 use std::test::Fail;
+use std::thread;
 use std::thread::{Threads, join};
+use std::time::Instant;
 
 mod pile;
 
-fn empty(alloc: Global, room: u32) -> Result<Pile, Fail> {
-    let start = Minute::read(b"2024-03-04 00:00").ok_or("no minute")?;
-    let march = Month::read(b"2024-03").ok_or("no month")?;
-    let window = Window::new(march, 1).ok_or("no window")?;
-    let opening = Opening::new(start, window, 15, Edition::One).ok_or("no opening")?;
-    let person = desk_base::PersonNo::new(101).ok_or("no person")?;
-    let stated = Stated::new(start, Cmd::MarkOff { person }).ok_or("no statement")?;
-    Ok(Pile::new(alloc, opening, stated, room)?)
+// A gate with room for all turns of its seats.
+fn open(alloc: Global, seats: u8, quota: u32) -> Option<(Gate<Pile>, Vec<Seat<Pile>>)>
+    requires some { 1 ≤ seats }
+    requires most { seats ≤ LAST_CALLER }
+    requires calls { 1 ≤ quota }
+    requires places { seats * quota < 2 ^ 32 }
+    ensures { IfSome result (λ made. All (IsSeatOf made.0) made.1.items
+        × (end made.0.start ≤ made.0.start.book.room)) }
+{
+    let pile = empty(alloc, u32::from(seats) * quota)?;
+    match Gate::new(alloc, pile, seats, quota) {
+        Ok(made) => Some(made),
+        Err(pile) => {
+            pile.into_callers(alloc);
+            None
+        }
+    }
 }
 
-// One turn of a seat, with an entry of its number; or the seat, where it has had its turns.
-fn turn<R: Wait>(rt: &R, gate: &Gate<Pile>, seat: Seat<Pile>) -> Result<(u32, Seat<Pile>), Seat<Pile>>
+// One turn of a seat, with an entry of its number: its place, if the seat had a turn left.
+fn one_turn<R: Wait>(rt: &R, gate: &Gate<Pile>, seat: Seat<Pile>) -> (Option<u32>, Seat<Pile>)
     requires seat { IsSeatOf gate.now seat }
     requires room { end gate.now.start ≤ gate.now.start.book.room }
-    ensures same { IfOk result (λ r. IsSeatOf gate.now r.1) }
-    ensures spent { IfErr result (λ s. s ≡ seat) }
+    ensures { IsSeatOf gate.now result.1 }
 {
     match gate.take(rt, seat) {
         Ok((turn, pile)) => {
             let place = turn.place();
             let pile = pile.add(turn.seat_no());
-            Ok((place, gate.give(turn, pile)))
+            (Some(place), gate.give(turn, pile))
         }
-        Err(spent) => Err(spent.seat),
+        Err(spent) => (None, spent.seat),
     }
 }
 
-// So many turns, or as many as the seat has.
-fn turns<R: Wait>(rt: &R, gate: &Gate<Pile>, mut seat: Seat<Pile>, times: u32) -> Seat<Pile>
+// All turns of a seat.
+fn all_turns<R: Wait>(rt: &R, gate: &Gate<Pile>, seat: Seat<Pile>) -> Seat<Pile>
     requires seat { IsSeatOf gate.now seat }
     requires room { end gate.now.start ≤ gate.now.start.book.room }
     ensures { IsSeatOf gate.now result }
 {
-    for _ in 0..times {
-        match turn(rt, gate, seat) {
-            Ok((_, next)) => seat = next,
-            Err(same) => return same,
-        }
+    let mut seat = seat;
+    for _ in 0..gate.left(&seat) {
+        seat = one_turn(rt, gate, seat).1;
     }
     seat
 }
 
-// Two callers at once.
-fn two_at_once<R: Threads + Wait + Sync>(
-    rt: &R,
-    gate: &Gate<Pile>,
-    one: Seat<Pile>,
-    two: Seat<Pile>,
-    times: u32,
-) -> (Seat<Pile>, Seat<Pile>)
-    requires one { IsSeatOf gate.now one }
-    requires two { IsSeatOf gate.now two }
-    requires room { end gate.now.start ≤ gate.now.start.book.room }
-    ensures { IsSeatOf gate.now result.0 × IsSeatOf gate.now result.1 }
+// One seat more. There is room for it.
+fn put(gate: &Gate<Pile>, seats: Vec<Seat<Pile>>, seat: Seat<Pile>) -> Option<Vec<Seat<Pile>>>
+    requires seats { All (IsSeatOf gate.now) seats.items }
+    requires seat { IsSeatOf gate.now seat }
+    ensures { IfSome result (λ all. All (IsSeatOf gate.now) all.items) }
 {
-    join(
-        rt,
-        move || -> Seat<Pile>
-            requires { IsSeatOf gate.now one × (end gate.now.start ≤ gate.now.start.book.room) }
-            ensures { IsSeatOf gate.now result }
-        { turns(rt, gate, one, times) },
-        move || -> Seat<Pile>
-            requires { IsSeatOf gate.now two × (end gate.now.start ≤ gate.now.start.book.room) }
-            ensures { IsSeatOf gate.now result }
-        { turns(rt, gate, two, times) },
-    )
+    let _ = gate;
+    let mut seats = seats;
+    seats.push(seat).ok()?;
+    Some(seats)
 }
 
-// The callers of a pile's entries, in order.
-fn callers(alloc: Global, pile: Pile) -> Result<Vec<u8>, AllocError> {
-    let entries = pile.into_entries();
-    entries.iter().map(|e| e.caller()).collect(alloc)
+// All turns of these seats, each in a thread of its own.
+fn in_threads<R: Threads + Wait + Sync>(
+    rt: &R,
+    gate: &Gate<Pile>,
+    seats: Vec<Seat<Pile>>,
+) -> Option<Vec<Seat<Pile>>>
+    requires seats { All (IsSeatOf gate.now) seats.items }
+    requires room { end gate.now.start ≤ gate.now.start.book.room }
+    ensures { IfSome result (λ back. All (IsSeatOf gate.now) back.items) }
+{
+    let back = thread::map_vec(rt, seats, &|seat: Seat<Pile>| -> Seat<Pile>
+        requires { IsSeatOf gate.now seat × (end gate.now.start ≤ gate.now.start.book.room) }
+        ensures { IsSeatOf gate.now result }
+    { all_turns(rt, gate, seat) });
+    back.ok()
 }
 
 #[test]
 fn gate_of_two_seats(rt: HostRuntime) -> Result<(), Fail> {
-    let (gate, mut seats) = match Gate::new(rt.alloc(), empty(rt.alloc(), 2)?, 2, 1) {
-        Ok(made) => made,
-        Err(pile) => {
-            pile.into_entries();
-            return Err("no memory".into());
-        }
-    };
+    let (gate, mut seats) = open(rt.alloc(), 2, 1).ok_or("no gate")?;
     let (Some(two), Some(one)) = (seats.pop(), seats.pop()) else {
-        panic!(rt; "there are two seats")
+        panic!(rt; "two seats are wanted")
     };
-    assert_eq!(rt; (one.seat_no(), gate.left(&one)), (1, 1));
-    assert_eq!(rt; (two.seat_no(), gate.left(&two)), (2, 1));
-    let (first, one) = match turn(&rt, &gate, one) {
-        Ok(had) => had,
-        Err(_) => panic!(rt; "seat 1 has a turn"),
-    };
-    let (second, two) = match turn(&rt, &gate, two) {
-        Ok(had) => had,
-        Err(_) => panic!(rt; "seat 2 has a turn"),
-    };
-    assert_eq!(rt; (first, second), (0, 1));
-    let one = match turn(&rt, &gate, one) {
-        Ok(_) => panic!(rt; "seat 1 has had its turn"),
-        Err(same) => same,
-    };
+    assert_eq!(rt; (one.seat_no(), two.seat_no()), (1, 2));
+    let (first, one) = one_turn(&rt, &gate, one);
+    let (second, two) = one_turn(&rt, &gate, two);
+    let (none, one) = one_turn(&rt, &gate, one);
+    assert_eq!(rt; (first, second, none), (Some(0), Some(1), None));
     assert_eq!(rt; (one.seat_no(), gate.left(&one)), (1, 0));
-    seats.push_reserved(two);
-    let (gate, mut seats) = match gate.close(seats) {
-        Ok(_) => panic!(rt; "a seat is missing"),
+    let Some(seats) = put(&gate, Vec::new(rt.alloc()), two) else {
+        panic!(rt; "there was room")
+    };
+    let (gate, seats) = match gate.close(seats) {
+        Ok(_) => panic!(rt; "seat 1 is missing"),
         Err(short) => (short.gate, short.seats),
     };
     assert_eq!(rt; seats.len(), 1);
-    seats.push_reserved(one);
+    assert_eq!(rt; seats.first().map(|s| s.seat_no()), Some(2));
+    let Some(seats) = put(&gate, seats, one) else {
+        panic!(rt; "there was room")
+    };
     match gate.close(seats) {
-        Ok(pile) => {
-            let callers = callers(rt.alloc(), pile)?;
-            assert!(rt; callers.as_slice() == [1, 2].as_slice());
-            Ok(())
-        }
+        Ok(pile) => assert!(rt; pile.into_callers(rt.alloc()) == Some(vec![in rt.alloc(); 1, 2]?)),
         Err(_) => panic!(rt; "both seats were given"),
+    }
+    Ok(())
+}
+
+// All turns of so many seats at once, and then the gate is closed. The callers of the book's entries, in order.
+fn crowd<R: Threads + Wait + Abort + Sync>(rt: &R, alloc: Global, seats: u8, quota: u32) -> Option<Vec<u8>>
+    requires some { 1 ≤ seats }
+    requires most { seats ≤ LAST_CALLER }
+    requires calls { 1 ≤ quota }
+    requires places { seats * quota < 2 ^ 32 }
+{
+    let (gate, seats) = open(alloc, seats, quota)?;
+    let Some(seats) = in_threads(rt, &gate, seats) else {
+        panic!(rt; "memory for threads")
+    };
+    match gate.close(seats) {
+        Ok(pile) => pile.into_callers(alloc),
+        Err(_) => panic!(rt; "all seats were given"),
+    }
+}
+
+// Works until it is told to stop.
+fn toil<R: Wait>(rt: &R, stop: &AtomicU64) {
+    for _ in rt.forever() {
+        if stop.load(SeqCst) != 0 {
+            return;
+        }
     }
 }
 
 #[test]
-fn two_threads_of_a_hundred_turns(rt: HostRuntime) -> Result<(), Fail> {
-    let (gate, mut seats) = match Gate::new(rt.alloc(), empty(rt.alloc(), 200)?, 2, 100) {
-        Ok(made) => made,
-        Err(pile) => {
-            pile.into_entries();
-            return Err("no memory".into());
-        }
-    };
-    let (Some(two), Some(one)) = (seats.pop(), seats.pop()) else {
-        panic!(rt; "there are two seats")
-    };
-    let (one, two) = two_at_once(&rt, &gate, one, two, 100);
-    assert_eq!(rt; (gate.left(&one), gate.left(&two)), (0, 0));
-    seats.push_reserved(one);
-    seats.push_reserved(two);
-    match gate.close(seats) {
-        Ok(pile) => {
-            let callers = callers(rt.alloc(), pile)?;
-            assert_eq!(rt; callers.len(), 200);
-            for seat in [1, 2] {
-                assert_eq!(rt; callers.iter().filter(|c| **c == seat).count(), 100);
-            }
-            Ok(())
-        }
-        Err(_) => panic!(rt; "both seats were given"),
+fn threads_take_turns(rt: HostRuntime) -> Result<(), Fail> {
+    let callers = crowd(&rt, rt.alloc(), 2, 100).ok_or("no memory")?;
+    assert_eq!(rt; callers.len(), 200);
+    for seat in [1, 2] {
+        assert_eq!(rt; callers.iter().filter(|c| **c == seat).count(), 100);
     }
+    let begun = Instant::now(&rt)?;
+    let stop = AtomicU64::new(0);
+    let (callers, _) = join(
+        &rt,
+        || {
+            let callers = crowd(&rt, rt.alloc(), 4, 5_000);
+            stop.store(1, SeqCst);
+            callers
+        },
+        || thread::map_indices(&rt, rt.alloc(), 4, &|_| toil(&rt, &stop)),
+    );
+    let callers = callers.ok_or("no memory")?;
+    assert!(rt; begun.elapsed(&rt)?.as_secs() < 30);
+    assert_eq!(rt; callers.len(), 20_000);
+    for seat in [1, 2, 3, 4] {
+        assert_eq!(rt; callers.iter().filter(|c| **c == seat).count(), 5_000);
+    }
+    Ok(())
 }

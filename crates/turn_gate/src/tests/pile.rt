@@ -1,11 +1,11 @@
-ghost use Rattle.std.specs.Prelude.{◌≡◌, ◌<◌, ◌≤◌, ◌^◌, ◌++◌, ◌∷◌, [], IfOk, vec_len, vec_capacity};
+ghost use Rattle.std.specs.Prelude.{◌≡◌, ◌<◌, ◌≤◌, ◌^◌, ◌++◌, ◌∷◌, [], IfSome, vec_len, vec_capacity};
 ghost use Rattle.desk_model.specs.declared.limits.TheConstants.{LAST_CALLER};
 ghost use Rattle.desk_model.specs.Entry.{entry_of};
 ghost use Rattle.desk_model.specs.declared.reply.Reply.TheVariants.{Done};
 
-use desk_base::Minute;
-use desk_model::{Booked, Entry, LAST_CALLER, Opening, Reply, Stated};
-use std::alloc::{AllocError, Global};
+use desk_base::{Minute, Month, PersonNo, Window};
+use desk_model::{Booked, Cmd, Edition, Entry, Opening, Reply, Stated};
+use std::alloc::Global;
 
 /// A book that is a heap of entries, all of one statement. It is not let go, but taken apart.
 pub(crate) struct Pile {
@@ -37,24 +37,6 @@ impl Booked for Pile {
 }
 
 impl Pile {
-    /// An empty one with so much room.
-    pub(crate) fn new(
-        alloc: Global,
-        opening: Opening,
-        stated: Stated,
-        room: u32,
-    ) -> Result<Pile, AllocError>
-        ensures entries { IfOk result (λ p. p.entries.items ≡ []) }
-        ensures room { IfOk result (λ p. vec_capacity p.entries ≡ room) }
-    {
-        Ok(Pile {
-            opening,
-            stated,
-            moment: opening.start(),
-            entries: Vec::with_capacity(alloc, room as usize)?,
-        })
-    }
-
     /// One entry more, of this caller.
     pub(crate) fn add(self, caller: u8) -> Pile
         requires caller { caller ≤ LAST_CALLER }
@@ -78,16 +60,32 @@ impl Pile {
         }
     }
 
-    /// Its entries.
-    pub(crate) fn into_entries(self) -> Vec<Entry>
-        ensures { result.items ≡ self.entries.items }
-    {
+    /// The callers of its entries, in order.
+    pub(crate) fn into_callers(self, alloc: Global) -> Option<Vec<u8>> {
         let Pile {
             opening: _,
             stated: _,
             moment: _,
             entries,
         } = self;
-        entries
+        entries.iter().map(|e| e.caller()).collect(alloc).ok()
     }
+}
+
+/// An empty pile with so much room.
+pub(crate) fn empty(alloc: Global, room: u32) -> Option<Pile>
+    ensures entries { IfSome result (λ p. p.entries.items ≡ []) }
+    ensures room { IfSome result (λ p. vec_capacity p.entries ≡ room) }
+{
+    let moment = Minute::read(b"2024-03-04 00:00")?;
+    let window = Window::new(Month::of(moment), 1)?;
+    let opening = Opening::new(moment, window, 15, Edition::One)?;
+    let person = PersonNo::new(101)?;
+    let stated = Stated::new(moment, Cmd::MarkOff { person })?;
+    Some(Pile {
+        opening,
+        stated,
+        moment,
+        entries: Vec::with_capacity(alloc, room as usize).ok()?,
+    })
 }
