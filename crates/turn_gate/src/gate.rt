@@ -38,9 +38,9 @@ impl<B: Booked> Model for Gate<B> {
         (told B.history B.room B.mark g.table.shared.key.book.value)) };
 
     ghost invariant = { λ g. (g.table.shared.table_id.words ≡ 2) × (g.table.shared.table_id.slots ≡ 1)
-      × (g.seats ≡ g.table.shared.key.seats) × (g.seats ≤ LAST_CALLER)
-      × (end (start_of g.table.shared.key.seats g.table.shared.key.quota (told B.history B.room B.mark g.table.shared.key.book.value)) < 2 ^ 32)
-      × (1 ≤ g.seats) };
+        × (g.seats ≡ g.table.shared.key.seats) × (g.seats ≤ LAST_CALLER)
+        × (end (start_of g.table.shared.key.seats g.table.shared.key.quota (told B.history B.room B.mark g.table.shared.key.book.value)) < 2 ^ 32)
+        × (1 ≤ g.seats) };
 }
 
 impl<B: Booked> Gate<B> {
@@ -89,6 +89,7 @@ impl<B: Booked> Gate<B> {
     }
 
     /// Waits for the seat's turn, and takes the book. `Spent` where the seat has had its quota of turns, without waiting.
+    #[inline]
     pub fn take<R: Wait>(&self, rt: &R, seat: Seat<B>) -> Result<(Turn<B>, B), Spent<B>>
         requires { IsSeatOf self.now seat }
         ensures took { IfOk result (λ t. Took seat t.0 (told B.history B.room B.mark t.1)) }
@@ -98,10 +99,11 @@ impl<B: Booked> Gate<B> {
         if seat.left() == 0 {
             return Err(Spent { seat });
         }
+        self.waiters.come(rt, &self.table);
         let (mut seat, number, left) = seat.into_parts();
         let shared = &self.table.shared;
         let ticket = shared.fetch_add::<Draw>(&mut seat, 0, 1);
-        let mut looks = 0;
+        let mut looks = 0u32;
         for _ in rt.forever() {
             let serving = shared.load::<Look>(&mut seat, 1);
             if serving == ticket {
@@ -114,12 +116,14 @@ impl<B: Booked> Gate<B> {
                 };
                 return Ok((turn, book));
             }
-            looks = self.waiters.pause(rt, &self.table, ticket, serving, looks);
+            self.waiters.pause(rt, &self.table, ticket, looks);
+            looks = looks.saturating_add(1);
         }
         unreachable!()
     }
 
     /// Gives the book back, with one entry more, whose caller is the seat of the turn. The next turn is served.
+    #[inline]
     pub fn give(&self, turn: Turn<B>, book: B) -> Seat<B>
         requires turn { IsTurnOf self.now turn }
         requires book { MayGive turn (told B.history B.room B.mark book) }
@@ -135,7 +139,7 @@ impl<B: Booked> Gate<B> {
         let before = shared.exchange(&mut seat, 0, Some(book));
         let None = before else { unreachable!() };
         let served = shared.fetch_add::<Pass>(&mut seat, 1, 1);
-        self.waiters.wake(served);
+        self.waiters.go(&self.table, served);
         Seat {
             place: seat,
             number,

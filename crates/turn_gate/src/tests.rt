@@ -45,9 +45,9 @@ fn one_turn<R: Wait>(rt: &R, gate: &Gate<Pile>, seat: Seat<Pile>) -> (Option<u32
     ensures { IsSeatOf gate.now result.1 }
 {
     match gate.take(rt, seat) {
-        Ok((turn, pile)) => {
+        Ok((turn, mut pile)) => {
             let place = turn.place();
-            let pile = pile.add(turn.seat_no());
+            pile.add(turn.seat_no());
             (Some(place), gate.give(turn, pile))
         }
         Err(spent) => (None, spent.seat),
@@ -75,8 +75,10 @@ fn put(gate: &Gate<Pile>, seats: Vec<Seat<Pile>>, seat: Seat<Pile>) -> Option<Ve
 {
     let _ = gate;
     let mut seats = seats;
-    seats.push(seat).ok()?;
-    Some(seats)
+    match seats.push(seat) {
+        Ok(()) => Some(seats),
+        Err(_) => None,
+    }
 }
 
 // All turns of these seats, each in a thread of its own.
@@ -89,10 +91,14 @@ fn in_threads<R: Threads + Wait + Sync>(
     requires room { end gate.now.start ≤ gate.now.start.book.room }
     ensures { IfSome result (λ back. All (IsSeatOf gate.now) back.items) }
 {
-    let back = thread::map_vec(rt, seats, &|seat: Seat<Pile>| -> Seat<Pile>
-        requires { IsSeatOf gate.now seat × (end gate.now.start ≤ gate.now.start.book.room) }
-        ensures { IsSeatOf gate.now result }
-    { all_turns(rt, gate, seat) });
+    let back = thread::map_vec(
+        rt,
+        seats,
+        &|seat: Seat<Pile>| -> Seat<Pile>
+            requires { IsSeatOf gate.now seat × (end gate.now.start ≤ gate.now.start.book.room) }
+            ensures { IsSeatOf gate.entry.now result }
+        { all_turns(rt, gate, seat) },
+    );
     back.ok()
 }
 
@@ -128,7 +134,12 @@ fn gate_of_two_seats(rt: HostRuntime) -> Result<(), Fail> {
 }
 
 // All turns of so many seats at once, and then the gate is closed. The callers of the book's entries, in order.
-fn crowd<R: Threads + Wait + Abort + Sync>(rt: &R, alloc: Global, seats: u8, quota: u32) -> Option<Vec<u8>>
+fn crowd<R: Threads + Wait + Abort + Sync>(
+    rt: &R,
+    alloc: Global,
+    seats: u8,
+    quota: u32,
+) -> Option<Vec<u8>>
     requires some { 1 ≤ seats }
     requires most { seats ≤ LAST_CALLER }
     requires calls { 1 ≤ quota }

@@ -38,26 +38,16 @@ impl Booked for Pile {
 
 impl Pile {
     /// One entry more, of this caller.
-    pub(crate) fn add(self, caller: u8) -> Pile
+    pub(crate) fn add(&mut self, caller: u8)
         requires caller { caller ≤ LAST_CALLER }
-        requires room { vec_len self.entries < vec_capacity self.entries }
-        ensures entries { result.entries.items ≡ self.entries.items ++ entry_of caller self.stated self.moment Done ∷ [] }
-        ensures room { vec_capacity result.entries ≡ vec_capacity self.entries }
-        ensures opening { result.opening ≡ self.opening }
+        requires room { vec_len self.old.entries < vec_capacity self.old.entries }
+        ensures entries { self.new.entries.items
+            ≡ self.old.entries.items ++ entry_of caller self.old.stated self.old.moment Done ∷ [] }
+        ensures room { vec_capacity self.new.entries ≡ vec_capacity self.old.entries }
+        ensures opening { self.new.opening ≡ self.old.opening }
     {
-        let Pile {
-            opening,
-            stated,
-            moment,
-            mut entries,
-        } = self;
-        entries.push_reserved(Entry::new(caller, stated, moment, Reply::Done));
-        Pile {
-            opening,
-            stated,
-            moment,
-            entries,
-        }
+        let entry = Entry::new(caller, self.stated, self.moment, Reply::Done);
+        self.entries.push_reserved(entry);
     }
 
     /// The callers of its entries, in order.
