@@ -5,6 +5,7 @@ use Rattle.desk_model.specs.Entry.{EntryValue}
 use Rattle.desk_model.specs.History.{History}
 use Rattle.desk_model.specs.Mark.{Mark}
 use Rattle.turn_gate.specs.declared.start.Start.{Start}
+use Rattle.turn_gate.specs.declared.terms.Terms.{Terms}
 use Rattle.turn_gate.specs.declared.told.Told.{Told}
 
 -- what a book tells of itself
@@ -13,6 +14,10 @@ told history room mark b = record { opening = (history b).opening; entries = (hi
 
 abbrev pub start_of : ℕ → ℕ → Told → Start
 start_of seats quota book = record { seats = seats; quota = quota; book = book }
+
+-- how a gate begins that is made with these terms
+abbrev pub start_from : {B : Type 0} → (B → Told) → Terms B → Start
+start_from tell terms = start_of terms.seats terms.quota (tell terms.book.value)
 
 -- at which place the gate's first turn is, and before which all its turns are
 abbrev pub base : Start → ℕ

@@ -1,5 +1,5 @@
 ghost use Rattle.std.specs.Prelude.{◌≡◌, ◌≤◌, [], vec_capacity};
-ghost use Rattle.turn_gate.specs.Told.{told, start_of};
+ghost use Rattle.turn_gate.specs.Told.{told, start_from};
 ghost use Rattle.turn_gate.specs.Steps.{first_view};
 ghost use Rattle.turn_gate.specs.Seats.{gate_of, new_seats};
 
@@ -20,11 +20,11 @@ pub(crate) fn deal<B: Booked>(
     requires words { board.now.shared.table_id.words ≡ 2 }
     requires table { all.table_id ≡ board.now.shared.table_id }
     requires me { all.me
-        ≡ (first_view (start_of terms.now.seats terms.now.quota (told B.history B.room B.mark terms.now.book.value)), []) }
+        ≡ (first_view (start_from (told B.history B.room B.mark) terms.now), []) }
     requires empty { made.items ≡ [] }
     requires room { terms.now.seats ≤ vec_capacity made }
     ensures { result.items
-        ≡ new_seats (gate_of board.now.shared.table_id (start_of terms.now.seats terms.now.quota (told B.history B.room B.mark terms.now.book.value))) 1 terms.now.seats }
+        ≡ new_seats (gate_of board.now.shared.table_id (start_from (told B.history B.room B.mark) terms.now)) 1 terms.now.seats }
 {
     for i in 0..terms.seats {
         let place = board.shared.split_seat::<Deal>(&mut all);

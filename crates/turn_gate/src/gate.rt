@@ -29,17 +29,16 @@ pub struct Gate<B: Booked> {
 impl<B: Booked> Model for Gate<B> {
     ghost use Rattle.std.specs.Prelude.{◌≡◌, ◌<◌, ◌≤◌, ◌^◌};
     ghost use Rattle.desk_model.specs.declared.limits.TheConstants.{LAST_CALLER};
-    ghost use Rattle.turn_gate.specs.Told.{told, start_of, end};
+    ghost use Rattle.turn_gate.specs.Told.{told, start_from, end};
     ghost use Rattle.turn_gate.specs.Seats.{GateValue, gate_of};
 
     ghost Value = { GateValue };
 
-    ghost view = { λ g. gate_of g.table.shared.table_id (start_of g.table.shared.key.seats g.table.shared.key.quota
-        (told B.history B.room B.mark g.table.shared.key.book.value)) };
+    ghost view = { λ g. gate_of g.table.shared.table_id (start_from (told B.history B.room B.mark) g.table.shared.key) };
 
     ghost invariant = { λ g. (g.table.shared.table_id.words ≡ 2) × (g.table.shared.table_id.slots ≡ 1)
         × (g.seats ≡ g.table.shared.key.seats) × (g.seats ≤ LAST_CALLER)
-        × (end (start_of g.table.shared.key.seats g.table.shared.key.quota (told B.history B.room B.mark g.table.shared.key.book.value)) < 2 ^ 32)
+        × (end (start_from (told B.history B.room B.mark) g.table.shared.key) < 2 ^ 32)
         × (1 ≤ g.seats) };
 }
 

@@ -8,13 +8,13 @@ use std::alloc::Global;
 pub(crate) struct Tickets;
 
 impl<B: Booked> TableRule<Option<B>, View, Terms<B>> for Tickets {
-    ghost use Rattle.turn_gate.specs.Told.{told, start_of};
+    ghost use Rattle.turn_gate.specs.Told.{told, start_from};
     ghost use Rattle.turn_gate.specs.Gate.{Gated};
     ghost use Rattle.turn_gate.specs.Steps.{first_view};
 
-    ghost holds = { λ k. Gated (told B.history B.room B.mark) (start_of k.seats k.quota (told B.history B.room B.mark k.book.value)) };
+    ghost holds = { λ k. Gated (told B.history B.room B.mark) (start_from (told B.history B.room B.mark) k) };
 
-    ghost first = { λ k. first_view (start_of k.seats k.quota (told B.history B.room B.mark k.book.value)) };
+    ghost first = { λ k. first_view (start_from (told B.history B.room B.mark) k) };
 }
 
 /// Its table: word 0 is the next ticket, word 1 the ticket that is served, and the slot has the book.
