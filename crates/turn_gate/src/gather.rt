@@ -1,0 +1,28 @@
+ghost use Rattle.std.specs.Prelude.{◌≡◌, ◌<◌, [], length, map};
+ghost use Rattle.std.specs.List.{All};
+ghost use Rattle.turn_gate.specs.declared.phase.Phase.TheVariants.{Idle};
+ghost use Rattle.turn_gate.specs.Told.{told, start_from};
+ghost use Rattle.turn_gate.specs.Seats.{gate_of, IsSeatOf, noted};
+
+use crate::Seat;
+use crate::steps::Gather;
+use crate::tickets::{Board, Place};
+use desk_model::Booked;
+
+/// All notes of these seats together.
+pub(crate) fn gather<B: Booked>(board: &Board<B>, mut seats: Vec<Seat<B>>) -> Place<B>
+    requires words { board.now.shared.table_id.words ≡ 2 }
+    requires more { 0 < length seats.items }
+    requires seats { All (IsSeatOf (gate_of board.now.shared.table_id (start_from (told B.history B.room B.mark) board.now.shared.key))) seats.items }
+    ensures table { result.table_id ≡ board.now.shared.table_id }
+    ensures notes { result.me.0.notes ≡ map noted seats.items }
+    ensures idle { result.me.0.phase ≡ Idle }
+    ensures bare { result.me.1 ≡ [] }
+{
+    let (mut all, _, _) = seats.pop().unwrap().into_parts();
+    while let Some(next) = seats.pop() {
+        let (place, _, _) = next.into_parts();
+        board.shared.join_seat::<Gather>(&mut all, place);
+    }
+    all
+}

@@ -1,0 +1,7 @@
+use crate::Seat;
+
+/// The seat has had all its turns, and comes back unchanged.
+#[derive(Drop)]
+pub struct Spent<B> {
+    pub seat: Seat<B>,
+}

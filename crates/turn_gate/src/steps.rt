@@ -1,0 +1,55 @@
+//! What each kind of step tells, and how notes are dealt and gathered.
+use crate::view::View;
+use atomic_table::{Join, Play, Split};
+use desk_model::Booked;
+
+/// A ticket is drawn.
+pub(crate) struct Draw;
+
+impl<B: Booked> Play<Option<B>, View> for Draw {
+    ghost use Rattle.turn_gate.specs.Steps.{drew};
+
+    ghost then = { drew };
+}
+
+/// Whose ticket is served is looked up; who has it has the book from then on.
+pub(crate) struct Look;
+
+impl<B: Booked> Play<Option<B>, View> for Look {
+    ghost use Rattle.turn_gate.specs.Told.{told};
+    ghost use Rattle.turn_gate.specs.Steps.{looked};
+
+    ghost then = { looked (told B.history B.room B.mark) };
+}
+
+/// The book is back, and the next ticket is served.
+pub(crate) struct Pass;
+
+impl<B: Booked> Play<Option<B>, View> for Pass {
+    ghost use Rattle.turn_gate.specs.Told.{told};
+    ghost use Rattle.turn_gate.specs.Steps.{passed};
+
+    ghost then = { passed (told B.history B.room B.mark) };
+}
+
+/// The first note goes to a seat of its own.
+pub(crate) struct Deal;
+
+impl Split<View> for Deal {
+    ghost use Rattle.turn_gate.specs.Steps.{kept, dealt};
+
+    ghost left = { kept };
+
+    ghost right = { dealt };
+}
+
+/// The notes of two seats come together.
+pub(crate) struct Gather;
+
+impl Join<View> for Gather {
+    ghost use Rattle.turn_gate.specs.Steps.{joined, spent};
+
+    ghost both = { joined };
+
+    ghost spent = { spent };
+}
