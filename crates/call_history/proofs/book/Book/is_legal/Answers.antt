@@ -1,5 +1,5 @@
 use Rattle.std.proofs.Math.Logic.{∥∥₁_elim}
-use Rattle.call_history.proofs.book.Book.entries.Goals as goal
+use Rattle.call_history.proofs.book.Book.is_legal.Goals as goal
 
 pub returns-clause-legal : goal.returns-clause-legal
 returns-clause-legal g c = ∥∥₁_elim c.args.self.now.stands squash₁ (λ stands. ∣ g.met.C.DeskCore.legal _ _ stands ∣₁)
