@@ -70,7 +70,7 @@ pub use one_statement::a_record_states_one_command;
 pub use opening_line::write_opening;
 pub use outcome_line::{write_bar, write_outcome};
 pub use read_fail::ReadFail;
-pub use spelled_entry::{read_entry, read_statement};
+pub use spelled_entry::{read_entry, read_next_entry, read_statement};
 pub use statement::Statement;
 pub use table_of_records::{
     a_record_is_wrong_at_one_place, the_table_has_just_the_records_of_commands,

@@ -11,7 +11,7 @@ use crate::last_minute::LastMinute;
 use crate::line_fields::fields_of_line;
 use crate::spelled_reply::read_reply;
 use crate::statement::Statement;
-use desk_base::{Minute, read_decimal};
+use desk_base::read_decimal;
 use desk_model::{Entry, LAST_CALLER, Stated};
 
 /// The entry of a line of the journal, `caller|command|moment|reply` with its line feed; `None` for every other text: the line
@@ -20,10 +20,22 @@ pub fn read_entry(line: &[u8]) -> Option<Entry>
     ensures some { IfSome result (IsEntryLine line.now) }
     ensures only { (e : EntryValue) → IsEntryLine line.now e → result ≡ Some e }
 {
+    read_next_entry(&mut LastMinute::new(), &mut LastMinute::new(), line)
+}
+
+/// The same of a line behind others. The last minutes are those that the lines before it named: they only spare work.
+pub fn read_next_entry(
+    stated_last: &mut LastMinute,
+    moment_last: &mut LastMinute,
+    line: &[u8],
+) -> Option<Entry>
+    ensures some { IfSome result (IsEntryLine line.now) }
+    ensures only { (e : EntryValue) → IsEntryLine line.now e → result ≡ Some e }
+{
     let (caller, rest) = cut(before(line, b"\n")?, b'|')?;
     let (stated, rest) = cut(rest, b'|')?;
     let (moment, reply) = cut(rest, b'|')?;
-    read_parts(caller, stated, moment, reply)
+    read_parts(stated_last, moment_last, caller, stated, moment, reply)
 }
 
 /// Who stated what by a line of the journal, read as far as that stands in it: `caller|command|`. It is `None` where the line
@@ -40,14 +52,21 @@ pub fn read_statement(last: &mut LastMinute, line: &[u8]) -> Option<Statement>
     })
 }
 
-fn read_parts(caller: &[u8], stated: &[u8], moment: &[u8], reply: &[u8]) -> Option<Entry>
+fn read_parts(
+    stated_last: &mut LastMinute,
+    moment_last: &mut LastMinute,
+    caller: &[u8],
+    stated: &[u8],
+    moment: &[u8],
+    reply: &[u8],
+) -> Option<Entry>
     ensures some { IfSome result (SpellsEntry caller.now stated.now moment.now reply.now) }
     ensures only { (e : EntryValue) → SpellsEntry caller.now stated.now moment.now reply.now e
         → result ≡ Some e }
 {
     let caller = read_caller(caller)?;
-    let stated = read_stated(&mut LastMinute::new(), stated)?;
-    let moment = Minute::read(moment)?;
+    let stated = read_stated(stated_last, stated)?;
+    let moment = moment_last.read(moment)?;
     let reply = read_reply(reply)?;
     Some(Entry::new(caller, stated, moment, reply))
 }
