@@ -1,30 +1,12 @@
 -- The first line of a text.
 use Rattle.std.proofs.Common.{◌≡◌, ◌≢◌, ◌∙◌, ◌<◌, ℕ, suc, ◌+◌, ◌==◌, Some, None, List, [], ◌∷◌, ◌++◌, length, get_or, take, drop, sym, ap, arith, append_assoc}
 use Rattle.std.proofs.Math.Seq.{take-suc}
-use Rattle.std.proofs.lemmas.Bool.{eqb-true, false_from_ne_true}
-use Rattle.std.proofs.lemmas.Grind.{get_or_default_zero}
-use Rattle.std.proofs.lemmas.List.Splits.{slice_split_first, slice_split_none}
-use Rattle.std.proofs.lemmas.List.Sums.{position_or_len_is}
-use Rattle.std.specs.List.{position_or_len}
+use Rattle.std.proofs.lemmas.Bool.{eqb-true}
 use Rattle.memchr.specs.Find.{IsFirstByte, is_byte}
 use Rattle.desk_base.specs.Parts.{parts_by}
 use Rattle.desk_text.specs.Line.{IsLine}
 use Rattle.desk_text.proofs.CutLemmas.{parts-one, text-parts, some-parts}
 use Rattle.desk_text.proofs.BeginningLemmas.{unfed}
-
--- the bytes before the first mark are the first part
-pub parts_by-found : (mark at : ℕ) (bytes : List ℕ) → IsFirstByte (is_byte mark) bytes (Some at)
-    → parts_by mark bytes ≡ take at bytes ∷ parts_by mark (drop (at + 1) bytes)
-parts_by-found mark at bytes found =
-    let here : position_or_len (λ b. b == mark) bytes ≡ at = position_or_len_is (λ b. b == mark) bytes at 0 (omega (arith, found.0.high))
-        (λ k before. false_from_ne_true _ (found.0.before k (omega arith) before)) (λ within. found.1) in
-    slice_split_first (λ b. b == mark) bytes 0 (omega (arith, here, found.0.high))
-    ∙ ap (λ n. take n bytes ∷ parts_by mark (drop (n + 1) bytes)) here
-
--- where there is no mark, all bytes are
-pub parts_by-absent : (mark : ℕ) (bytes : List ℕ) → IsFirstByte (is_byte mark) bytes None → parts_by mark bytes ≡ bytes ∷ []
-parts_by-absent mark bytes none =
-    slice_split_none (λ b. b == mark) bytes (λ k d within. ap (λ b. b == mark) (get_or_default_zero bytes k d within) ∙ false_from_ne_true _ (none k (omega arith) within))
 
 -- the bytes up to a line feed, with it
 pub take-feed : (at : ℕ) (text : List ℕ) → IsFirstByte (is_byte 10) text (Some at) → take (at + 1) text ≡ take at text ++ 10 ∷ []

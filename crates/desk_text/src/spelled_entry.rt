@@ -1,5 +1,5 @@
 //! Entries, and what was stated by whom, read from lines of a journal.
-ghost use Rattle.std.specs.Prelude.{◌≡◌, ◌≤◌, ℕ, decimal, IfSome};
+ghost use Rattle.std.specs.Prelude.{◌≡◌, ◌≤◌, ℕ, decimal, IfSome, IsSomeAnd};
 ghost use Rattle.desk_model.specs.declared.limits.TheConstants.{LAST_CALLER};
 ghost use Rattle.desk_model.specs.Entry.{EntryValue};
 ghost use Rattle.desk_model.specs.Statement.{StatedValue};
@@ -38,18 +38,21 @@ pub fn read_next_entry(
     read_parts(stated_last, moment_last, caller, stated, moment, reply)
 }
 
-/// Who stated what by a line of the journal, read as far as that stands in it: `caller|command|`. It is `None` where the line
-/// begins otherwise. `last` is the minute that the lines before it stated last: it only spares work.
-pub fn read_statement(last: &mut LastMinute, line: &[u8]) -> Option<Statement>
-    ensures some { IfSome result (BeginsEntry line.now) }
-    ensures only { (e : EntryValue) → IsEntryLine line.now e → result ≡ Some (statement_of e) }
+/// Who stated what by a line of the journal, read as far as that stands in it, `caller|command|`, and the outcome that stands
+/// behind it, as it is. It is `None` where the line begins otherwise. `last` is the minute that the lines before it stated last: it
+/// only spares work.
+pub fn read_statement<'a>(last: &mut LastMinute, line: &'a [u8]) -> Option<(Statement, &'a [u8])>
+    ensures some { IfSome result (λ read. BeginsEntry line.now read.1.now read.0) }
+    ensures only { (e : EntryValue) → IsEntryLine line.now e
+        → IsSomeAnd result (λ read. read.0 ≡ statement_of e) }
 {
     let (caller, rest) = cut(line, b'|')?;
-    let (stated, _outcome) = cut(rest, b'|')?;
-    Some(Statement {
+    let (stated, outcome) = cut(rest, b'|')?;
+    let statement = Statement {
         caller: read_caller(caller)?,
         stated: read_stated(last, stated)?,
-    })
+    };
+    Some((statement, outcome))
 }
 
 fn read_parts(

@@ -1,6 +1,7 @@
 use Rattle.std.proofs.Common.{◌≡◌, ◌∙◌, ◌+◌, ◌∷◌, ◌++◌, [], Some, None, length, take, drop, ap, arith}
 use Rattle.memchr.specs.Find.{IsFirstByte, is_byte}
-use Rattle.audit_desk.proofs.LineLemmas.{parts_by-found, parts_by-absent, take-feed, first-is, no-feed}
+use Rattle.desk_text.proofs.CutLemmas.{parts_by-found, parts_by-absent}
+use Rattle.audit_desk.proofs.LineLemmas.{take-feed, first-is, no-feed}
 use Rattle.audit_desk.proofs.lines.first_line.Goals as goal
 
 pub returns-in-Some-clause-line : goal.returns-in-Some-clause-line
