@@ -26,13 +26,6 @@ not_own e number other = grind (arith, nat_tests, other)
 pub own-other : (entries : List EntryValue) (e : EntryValue) (number : ℕ) → e.caller ≢ number → own (entries ++ e ∷ []) number ≡ own entries number
 own-other entries e number other = filter-append (λ x. x.caller == number) entries (e ∷ []) ∙ (ap (λ z. own entries number ++ z) (not_own e number other) ∙ append-nil (own entries number))
 
--- one entry of one's own more
-is_own : (e : EntryValue) (number : ℕ) → e.caller ≡ number → filter (λ x. x.caller == number) (e ∷ []) ≡ e ∷ []
-is_own e number mine = grind (arith, nat_tests, mine)
-
-pub own-mine : (entries : List EntryValue) (e : EntryValue) (number : ℕ) → e.caller ≡ number → own (entries ++ e ∷ []) number ≡ own entries number ++ e ∷ []
-own-mine entries e number mine = filter-append (λ x. x.caller == number) entries (e ∷ []) ∙ ap (λ z. own entries number ++ z) (is_own e number mine)
-
 -- where another seat's entry comes last
 pub note-later : (seats : ℕ) (entries : List EntryValue) (e : EntryValue) (a : Note) → e.caller ≢ a.number → IsNote seats entries a → IsNote seats (entries ++ e ∷ []) a
 note-later seats entries e a other is = record {
@@ -79,10 +72,6 @@ pub phase-passed : (next serving count : ℕ) (entries more : List EntryValue) (
 phase-passed next serving count entries more Idle is other = tt
 phase-passed next serving count entries more (Waiting mine) is other = (is.0, omega arith, is.2)
 phase-passed next serving count entries more (Turn mine taken) is other = absurd (other is.1)
-
--- a view with no note is idle
-pub phase-bare : (next serving : ℕ) (entries : List EntryValue) (p : Phase) → IsPhase next serving entries 0 p → ¬ IsTurn p
-phase-bare next serving entries p is turn = let one = turn-one next serving 0 entries p is turn in omega arith
 
 -- the notes of a new gate: so many, each number once, and each knows the list
 pub length-notes_from : (number count : ℕ) (known : List EntryValue) → length (notes_from number count known) ≡ count
