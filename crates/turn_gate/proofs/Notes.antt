@@ -26,6 +26,13 @@ not_own e number other = grind (arith, nat_tests, other)
 pub own-other : (entries : List EntryValue) (e : EntryValue) (number : ℕ) → e.caller ≢ number → own (entries ++ e ∷ []) number ≡ own entries number
 own-other entries e number other = filter-append (λ x. x.caller == number) entries (e ∷ []) ∙ (ap (λ z. own entries number ++ z) (not_own e number other) ∙ append-nil (own entries number))
 
+-- one entry of one's own more
+is_own : (e : EntryValue) (number : ℕ) → e.caller ≡ number → filter (λ x. x.caller == number) (e ∷ []) ≡ e ∷ []
+is_own e number mine = grind (arith, nat_tests, mine)
+
+pub own-mine : (entries : List EntryValue) (e : EntryValue) (number : ℕ) → e.caller ≡ number → own (entries ++ e ∷ []) number ≡ own entries number ++ e ∷ []
+own-mine entries e number mine = filter-append (λ x. x.caller == number) entries (e ∷ []) ∙ ap (λ z. own entries number ++ z) (is_own e number mine)
+
 -- where another seat's entry comes last
 pub note-later : (seats : ℕ) (entries : List EntryValue) (e : EntryValue) (a : Note) → e.caller ≢ a.number → IsNote seats entries a → IsNote seats (entries ++ e ∷ []) a
 note-later seats entries e a other is = record {
