@@ -80,10 +80,6 @@ phase-passed next serving count entries more Idle is other = tt
 phase-passed next serving count entries more (Waiting mine) is other = (is.0, omega arith, is.2)
 phase-passed next serving count entries more (Turn mine taken) is other = absurd (other is.1)
 
--- a view with no note is idle
-pub phase-bare : (next serving : ℕ) (entries : List EntryValue) (p : Phase) → IsPhase next serving entries 0 p → ¬ IsTurn p
-phase-bare next serving entries p is turn = let one = turn-one next serving 0 entries p is turn in omega arith
-
 -- the notes of a new gate: so many, each number once, and each knows the list
 pub length-notes_from : (number count : ℕ) (known : List EntryValue) → length (notes_from number count known) ≡ count
 length-notes_from number zero known = refl

@@ -12,7 +12,8 @@ use Rattle.turn_gate.specs.declared.view.View.{View}
 use Rattle.turn_gate.specs.Told.{base, IsBookOf}
 use Rattle.turn_gate.specs.Notes.{total, numbered, notes, calls, busy, HasTicket, IsTurn, IsNote, IsPhase}
 
--- a view: each of its notes, at most the quota of calls for each note, and its phase
+-- a view: Histories, of each of its notes; at most the quota of calls for each note; Turn and Tickets, by its phase. Only a
+-- view with a note is of the gate
 pub record IsView (k : Start) (next serving : ℕ) (entries : List EntryValue) (v : View) : Type 0 where
   pub start : 0 < length v.notes → v.start ≡ k
   pub notes : (m : ℕ) (a : Note) → get_elem? v.notes m ≡ some a → IsNote k.seats entries a
@@ -34,22 +35,23 @@ pub record IsOut {B : Type 0} (homes : List (maybe.Option (Option B))) (views : 
   pub there : get_elem? views seat ≡ some view
   pub turn : IsTurn view.phase
 
--- `now` is what is told of the book: at home, or as it was taken
+-- `now` is what is told of the book: at home, or as it was taken. A seat takes the slot by the look that finds its ticket served,
+-- and brings it back by the step that serves the next, so whoever has the turn has the book, or what it has become
 pub record Gated {B : Type 0} (tell : B → Told) (k : Start) (s : State (Option B) View) : Type 0 where
   pub next : ℕ
   pub serving : ℕ
   pub now : Told
   -- the next ticket, and the one that is served
   pub words : s.words ≡ next ∷ serving ∷ []
-  -- Notes: the numbers 1 to `seats`, each once; the tickets drawn are all calls
+  -- Notes: they have the numbers 1 to `seats`, each once; as many tickets were drawn as there were calls
   pub numbers : (number : ℕ) → 1 ≤ number → number ≤ k.seats → total (numbered number) s.views ≡ 1
   pub all_notes : total notes s.views ≡ k.seats
   pub all_calls : base k + total calls s.views ≡ next
-  -- Tickets: those drawn and not served are of as many views, each of another
+  -- Tickets: those that were drawn and are not served are of as many views, each of another
   pub all_busy : serving + total busy s.views ≡ next
   pub each : (j : ℕ) (v : View) → get_elem? s.views j ≡ some v → IsView k next serving now.entries v
   pub apart : (i j : ℕ) (v w : View) (ticket : ℕ) → get_elem? s.views i ≡ some v → get_elem? s.views j ≡ some w → HasTicket v.phase ticket → HasTicket w.phase ticket → i ≡ j
-  -- Slot: empty exactly where a view has the turn; the book has as many entries as were served
+  -- Slot: empty exactly where a view has the turn; the book has as many entries as were served, and keeps what it began with
   pub slot : IsHome tell s.homes s.views now ⊎ IsOut s.homes s.views
   pub long : length now.entries ≡ serving
   pub book : IsBookOf k now

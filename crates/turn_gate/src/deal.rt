@@ -19,12 +19,12 @@ pub(crate) fn deal<B: Booked>(
     requires key { board.now.shared.key ≡ terms.now }
     requires words { board.now.shared.table_id.words ≡ 2 }
     requires table { all.table_id ≡ board.now.shared.table_id }
-    requires me { all.me
-        ≡ (first_view (start_from (told B.history B.room B.mark) terms.now), []) }
+    requires me { all.me ≡ (first_view (start_from (told B.history B.room B.mark) terms.now), []) }
     requires empty { made.items ≡ [] }
     requires room { terms.now.seats ≤ vec_capacity made }
     ensures { result.items
-        ≡ new_seats (gate_of board.now.shared.table_id (start_from (told B.history B.room B.mark) terms.now)) 1 terms.now.seats }
+        ≡ new_seats (gate_of board.now.shared.table_id (start_from (told B.history B.room B.mark) terms.now))
+        1 terms.now.seats }
 {
     for i in 0..terms.seats {
         let place = board.shared.split_seat::<Deal>(&mut all);

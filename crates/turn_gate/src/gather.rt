@@ -13,7 +13,8 @@ use desk_model::Booked;
 pub(crate) fn gather<B: Booked>(board: &Board<B>, mut seats: Vec<Seat<B>>) -> Place<B>
     requires words { board.now.shared.table_id.words ≡ 2 }
     requires more { 0 < length seats.items }
-    requires seats { All (IsSeatOf (gate_of board.now.shared.table_id (start_from (told B.history B.room B.mark) board.now.shared.key))) seats.items }
+    requires seats { All (IsSeatOf (gate_of board.now.shared.table_id
+        (start_from (told B.history B.room B.mark) board.now.shared.key))) seats.items }
     ensures table { result.table_id ≡ board.now.shared.table_id }
     ensures notes { result.me.0.notes ≡ map noted seats.items }
     ensures idle { result.me.0.phase ≡ Idle }

@@ -4,6 +4,7 @@
 mod deal;
 mod gate;
 mod gather;
+mod laws;
 mod note;
 mod phase;
 mod seat;
@@ -20,6 +21,7 @@ mod waiters;
 mod wall;
 
 pub use gate::Gate;
+pub use laws::what_one_entry_more_makes_known;
 pub use seat::Seat;
 pub use short::Short;
 pub use spent::Spent;

@@ -27,7 +27,11 @@ impl<B> Model for Turn<B> {
     } };
 
     ghost invariant = { λ t.
-        (t.seat.me ≡ (turned t.number (known_in t.seat.me.0.notes) t.seat.me.0.calls t.seat.me.0.start t.place (taken_in t.seat.me.0), (0, None) ∷ []))
+        (t.seat.me ≡ (
+          turned t.number (known_in t.seat.me.0.notes) t.seat.me.0.calls t.seat.me.0.start t.place
+              (taken_in t.seat.me.0),
+          (0, None) ∷ [],
+        ))
         × (t.seat.me.0.calls + t.left ≡ t.seat.me.0.start.quota) };
 }
 
