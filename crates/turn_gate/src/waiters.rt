@@ -10,7 +10,7 @@ use std::sync::atomic::AtomicU64;
 use std::sync::atomic::Ordering::SeqCst;
 
 // There is a bell for each caller with a ticket, since a gate has fewer seats.
-const BELLS: u64 = 64;
+const BELLS: usize = 64;
 
 // How often a caller looks before it sleeps: at the door, and with a ticket.
 const LOOKS_AT_THE_DOOR: u32 = 10;
@@ -26,7 +26,7 @@ pub(crate) struct Waiters {
     // 1 where a caller without a ticket may sleep
     door: AtomicU64,
     // by its ticket, 1 where a caller sleeps, or is about to
-    bells: [AtomicU64; 64],
+    bells: [AtomicU64; BELLS],
 }
 
 // Nobody has the turn or waits for it.
@@ -46,7 +46,7 @@ impl Waiters {
     }
 
     fn bell(&self, ticket: u64) -> &AtomicU64 {
-        &self.bells[(ticket % BELLS) as usize]
+        &self.bells[(ticket % BELLS as u64) as usize]
     }
 
     /// Waits for a while where others have tickets, so that one who comes again at once need not hand over each time.
