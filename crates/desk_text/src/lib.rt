@@ -89,8 +89,6 @@ mod more_tests;
 #[cfg(test)]
 mod read_line_tests;
 #[cfg(test)]
-mod read_reply_tests;
-#[cfg(test)]
 mod refused_line_tests;
 #[cfg(test)]
 mod refused_tests;

@@ -1,190 +1,268 @@
-//! Lines of replies, as the journal has them.
-use crate::tests::{code, line_is, minute};
-use crate::write_entry;
+//! Replies and bars, as an entry's line has them: each is written as its text, and read from it.
+use crate::tests::{code, entry_of, minute, person, vacancy};
+use crate::{LineText, read_entry, write_entry};
 use denial_rules::Bar;
-use desk_base::{Minute, Month, PersonNo, VacNo, YEARS_END};
-use desk_model::{Cmd, Entry, Reply, Stated, VacState};
+use desk_base::{Code, Minute, Month, VacNo, YEARS_END};
+use desk_model::{Cmd, Entry, Reply, VacState};
 use duty_events::{EventFault, Kind, Stage};
 use qualifications::Craft;
-use std::test::Fail;
+use std::process::Abort;
+
+// What stands in front of the reply.
+const FRONT: &[u8] = b"0|2024-03-04 00:01,next,12|2024-03-04 00:02|";
+
+// The entry's line whose last part is this text.
+fn line_of(text: &[u8]) -> Option<LineText> {
+    let mut line = LineText::new();
+    for part in [FRONT, text, b"\n".as_slice()] {
+        line.try_extend_from_slice(part).ok()?;
+    }
+    Some(line)
+}
+
+// Whether that line is read; `None` where it has no room.
+pub fn is_answer(text: &[u8]) -> Option<bool> {
+    Some(read_entry(line_of(text)?.as_slice()).is_some())
+}
+
+// The entry of `next` and this reply.
+fn answer_of(reply: Reply) -> Option<Entry> {
+    let vac = VacNo::new(12)?;
+    entry_of(0, Cmd::Next { vac }, reply)
+}
+
+// Whether the reply is written as the text, and read from it.
+fn is_text_of(text: &[u8], reply: &Reply) -> bool {
+    let (Some(line), Some(entry)) = (line_of(text), answer_of(*reply)) else {
+        return false;
+    };
+    let line = line.as_slice();
+    let Some(found) = read_entry(line) else {
+        return false;
+    };
+    write_entry(&entry).as_slice() == line && found.reply() == *reply
+}
+
+// The place of the first text that is not its reply's.
+fn first_otherwise(replies: &[(&[u8], Reply)]) -> Option<usize> {
+    replies
+        .iter()
+        .position(|(text, reply)| !is_text_of(text, reply))
+}
 
 // The first minute behind the year 2099.
-fn late() -> Result<Minute, Fail> {
-    Ok(Minute::new(YEARS_END).ok_or("no minute")?)
+fn late(rt: &impl Abort) -> Minute {
+    Minute::new(YEARS_END).expect(rt, "a minute")
 }
 
-// Whether the entry of `next` and this reply has this line.
-fn reply_is(reply: Reply, line: &[u8]) -> Result<bool, Fail> {
-    let vac = VacNo::new(12).ok_or("no vacancy")?;
-    line_is(0, Cmd::Next { vac }, reply, line)
-}
-
-// Whether the line of an entry with this reply ends so.
-fn answer_is(reply: Reply, text: &[u8]) -> Result<bool, Fail> {
-    let vac = VacNo::new(12).ok_or("no vacancy")?;
-    let stated = Stated::new(minute(b"2024-03-04 00:01")?, Cmd::Next { vac }).ok_or("not stated")?;
-    let entry = Entry::new(0, stated, minute(b"2024-03-04 00:02")?, reply);
-    Ok(write_entry(&entry).as_slice().ends_with(text))
+fn wrong_stage(stage: Stage) -> Reply {
+    Reply::Event(EventFault::WrongStage(stage))
 }
 
 #[test]
-fn lines_of_replies(rt: HostRuntime) -> Result<(), Fail> {
-    let offered = Reply::Offered {
-        person: PersonNo::new(101).ok_or("no person")?,
-        board: code(b"P1")?,
-        position: 500,
-    };
-    let line = b"0|2024-03-04 00:01,next,12|2024-03-04 00:02|offered 101 P1 500\n";
-    assert!(rt; reply_is(offered, line)?);
-    let unknown = Reply::UnknownBoard(code(b"P2")?);
-    let line = b"0|2024-03-04 00:01,next,12|2024-03-04 00:02|unknown board P2\n";
-    assert!(rt; reply_is(unknown, line)?);
-    let lapsed = Reply::Lapsed(minute(b"2024-03-04 08:00")?);
-    let line = b"0|2024-03-04 00:01,next,12|2024-03-04 00:02|lapsed 2024-03-04 08:00\n";
-    assert!(rt; reply_is(lapsed, line)?);
-    let line = b"0|2024-03-04 00:01,next,12|2024-03-04 00:02|plan too long 21103(a)(2)\n";
-    assert!(rt; reply_is(Reply::PlanTooLong, line)?);
-    let line = b"0|2024-03-04 00:01,next,12|2024-03-04 00:02|plan too long 21103(d)\n";
-    assert!(rt; reply_is(Reply::ReliefTooLong, line)?);
-    let line = b"0|2024-03-04 00:01,next,12|2024-03-04 00:02|not in edition 1\n";
-    assert!(rt; reply_is(Reply::OtherEdition, line)?);
-    Ok(())
-}
-
-#[test]
-fn lines_of_what_is_seen(rt: HostRuntime) -> Result<(), Fail> {
-    let person = PersonNo::new(101).ok_or("no person")?;
-    let last = PersonNo::new(9_999_999).ok_or("no person")?;
-    let replies: [(Reply, &[u8]); 8] = [
-        (Reply::Seen(person), b"|seen 101\n"),
-        (Reply::NoOne { length: 0 }, b"|no one 0\n"),
-        (Reply::NoOne { length: 500 }, b"|no one 500\n"),
-        (Reply::State(VacState::Vacant), b"|state vacant\n"),
-        (
-            Reply::State(VacState::OnOffer(person)),
-            b"|state offered 101\n",
-        ),
-        (Reply::State(VacState::Taken(person)), b"|state taken 101\n"),
-        (
-            Reply::State(VacState::Begun(last)),
-            b"|state begun 9999999\n",
-        ),
-        (Reply::State(VacState::Annulled), b"|state annulled\n"),
+fn replies_that_keep_nothing(rt: HostRuntime) {
+    let replies: [(&[u8], Reply); 18] = [
+        (b"done", Reply::Done),
+        (b"outside window", Reply::OutsideWindow),
+        (b"unknown person", Reply::UnknownPerson),
+        (b"unknown vacancy", Reply::UnknownVacancy),
+        (b"used", Reply::Used),
+        (b"already", Reply::Already),
+        (b"not listed", Reply::NotListed),
+        (b"past closed", Reply::PastClosed),
+        (b"plan too long 21103(a)(2)", Reply::PlanTooLong),
+        (b"plan too long 21103(d)", Reply::ReliefTooLong),
+        (b"not in edition 1", Reply::OtherEdition),
+        (b"no offer", Reply::NoOffer),
+        (b"not assigned", Reply::NotAssigned),
+        (b"persons full", Reply::PersonsFull),
+        (b"boards full", Reply::BoardsFull),
+        (b"lists full", Reply::ListsFull),
+        (b"members full", Reply::MembersFull),
+        (b"vacancies full", Reply::VacanciesFull),
     ];
-    for (reply, text) in replies {
-        assert!(rt; answer_is(reply, text)?);
-    }
-    Ok(())
+    assert_eq!(rt; first_otherwise(&replies), None);
 }
 
 #[test]
-fn lines_of_offers_that_are_refused(rt: HostRuntime) -> Result<(), Fail> {
-    let person = PersonNo::new(101).ok_or("no person")?;
-    let replies: [(Reply, &[u8]); 6] = [
-        (Reply::RunAround(person), b"|run around 101\n"),
-        (Reply::Already, b"|already\n"),
-        (Reply::NoOffer, b"|no offer\n"),
-        (
-            Reply::EarlyNoAnswer(minute(b"2024-03-04 08:00")?),
-            b"|early 2024-03-04 08:00\n",
-        ),
-        (Reply::EarlyNoAnswer(late()?), b"|early 68374080\n"),
-        (Reply::NotAssigned, b"|not assigned\n"),
-    ];
-    for (reply, text) in replies {
-        assert!(rt; answer_is(reply, text)?);
-    }
-    Ok(())
-}
-
-#[test]
-fn lines_of_refused_events(rt: HostRuntime) -> Result<(), Fail> {
-    let since = minute(b"2024-03-04 00:00")?;
-    let stage = Stage::Interim {
-        kind: Kind::D,
-        since,
-        place: code(b"HOM")?,
+fn replies_that_keep_numbers(rt: HostRuntime) {
+    let rider = person(&rt, 101);
+    let last = person(&rt, 9_999_999);
+    let board = code(&rt, b"P1");
+    let most = Reply::Hours {
+        used: 4_294_967_295,
+        capped: 0,
     };
-    let wrong = Reply::Event(EventFault::WrongStage(stage));
-    let line =
-        b"0|2024-03-04 00:01,next,12|2024-03-04 00:02|wrong stage interim D 2024-03-04 00:00 HOM\n";
-    assert!(rt; reply_is(wrong, line)?);
-    let home = Reply::Event(EventFault::WrongStage(Stage::RidingHome));
-    let line = b"0|2024-03-04 00:01,next,12|2024-03-04 00:02|wrong stage riding home\n";
-    assert!(rt; reply_is(home, line)?);
-    let behind = Reply::Event(EventFault::Behind(since));
-    let line = b"0|2024-03-04 00:01,next,12|2024-03-04 00:02|behind 2024-03-04 00:00\n";
-    assert!(rt; reply_is(behind, line)?);
-    let long = Reply::Event(EventFault::InterimTooLong(600));
-    let line = b"0|2024-03-04 00:01,next,12|2024-03-04 00:02|interim too long 600\n";
-    assert!(rt; reply_is(long, line)?);
-    let other = Reply::Event(EventFault::OtherPlace(code(b"ALT")?));
-    let line = b"0|2024-03-04 00:01,next,12|2024-03-04 00:02|other place ALT\n";
-    assert!(rt; reply_is(other, line)?);
     let hours = Reply::Hours {
         used: 2_520,
         capped: 1_800,
     };
-    let line = b"0|2024-03-04 00:01,next,12|2024-03-04 00:02|hours 2520 1800\n";
-    assert!(rt; reply_is(hours, line)?);
-    Ok(())
-}
-
-// Whether the line of an entry that is answered by this bar ends so.
-fn denial_is(bar: Bar, text: &[u8]) -> Result<bool, Fail> {
-    answer_is(Reply::Denied(bar), text)
-}
-
-#[test]
-fn texts_of_bars(rt: HostRuntime) -> Result<(), Fail> {
-    let vac = VacNo::new(9_999_999).ok_or("no vacancy")?;
-    let place = code(b"AWAY01")?;
-    assert!(rt; denial_is(Bar::MarkedOff, b"|denied B1\n")?);
-    assert!(rt; denial_is(Bar::InTour, b"|denied B2 tour\n")?);
-    assert!(rt; denial_is(Bar::Assigned(vac), b"|denied B2 assigned 9999999\n")?);
-    assert!(rt; denial_is(Bar::OnOffer(vac), b"|denied B3 9999999\n")?);
-    assert!(rt; denial_is(Bar::Elsewhere(place), b"|denied B4 AWAY01\n")?);
-    assert!(rt; denial_is(Bar::OtherCraft(Craft::C), b"|denied B5 C\n")?);
-    assert!(rt; denial_is(Bar::Lacks(63), b"|denied B6 63\n")?);
-    assert!(rt; denial_is(Bar::Answered, b"|denied B7\n")?);
-    let until = minute(b"2024-03-04 08:10")?;
-    assert!(rt; denial_is(Bar::Held(until), b"|denied B8 2024-03-04 08:10\n")?);
-    assert!(rt; denial_is(Bar::Held(late()?), b"|denied B8 68374080\n")?);
-    let clear = Reply::Clear {
-        board: place,
+    let offered = Reply::Offered {
+        person: rider,
+        board,
         position: 500,
     };
-    let line = b"0|2024-03-04 00:01,next,12|2024-03-04 00:02|clear AWAY01 500\n";
-    assert!(rt; reply_is(clear, line)?);
-    let line = b"0|2024-03-04 00:01,next,12|2024-03-04 00:02|not listed\n";
-    assert!(rt; reply_is(Reply::NotListed, line)?);
-    Ok(())
+    let replies: [(&[u8], Reply); 12] = [
+        (b"unfilled 0", Reply::Unfilled { listed: 0 }),
+        (b"unfilled 65535", Reply::Unfilled { listed: 65_535 }),
+        (b"no one 0", Reply::NoOne { length: 0 }),
+        (b"no one 500", Reply::NoOne { length: 500 }),
+        (b"seen 101", Reply::Seen(rider)),
+        (b"seen 9999999", Reply::Seen(last)),
+        (b"run around 101", Reply::RunAround(rider)),
+        (b"offer open 101", Reply::OfferOpen(rider)),
+        (b"frozen 12", Reply::Frozen(vacancy(&rt, 12))),
+        (b"hours 4294967295 0", most),
+        (b"hours 2520 1800", hours),
+        (b"offered 101 P1 500", offered),
+    ];
+    assert_eq!(rt; first_otherwise(&replies), None);
+    let places: [(&[u8], Code, u16); 3] = [
+        (b"clear P1 1", board, 1),
+        (b"clear P1 9999", board, 9_999),
+        (b"clear AWAY01 500", code(&rt, b"AWAY01"), 500),
+    ];
+    for (text, board, position) in places {
+        assert!(rt; is_text_of(text, &Reply::Clear { board, position }));
+    }
 }
 
 #[test]
-fn texts_of_the_bars_of_the_law(rt: HostRuntime) -> Result<(), Fail> {
-    let ends = minute(b"2024-03-05 06:30")?;
-    let late = late()?;
-    let month = Month::read(b"2024-03").ok_or("no month")?;
-    assert!(rt; denial_is(Bar::Rest(ends), b"|denied 21103(a)(3) 2024-03-05 06:30\n")?);
-    assert!(rt; denial_is(Bar::MoreRest(late), b"|denied 21103(c)(4) 68374080\n")?);
-    assert!(rt;
-        denial_is(
-            Bar::Undisturbed(ends),
-            b"|denied 21103(e) 2024-03-05 06:30\n"
-        )?
-    );
+fn states_of_a_vacancy(rt: HostRuntime) {
+    let rider = person(&rt, 101);
+    let last = person(&rt, 9_999_999);
+    let replies: [(&[u8], Reply); 8] = [
+        (b"state vacant", Reply::State(VacState::Vacant)),
+        (b"state offered 101", Reply::State(VacState::OnOffer(rider))),
+        (b"state taken 101", Reply::State(VacState::Taken(rider))),
+        (b"state begun 9999999", Reply::State(VacState::Begun(last))),
+        (b"state annulled", Reply::State(VacState::Annulled)),
+        (b"closed taken 101", Reply::Closed(VacState::Taken(rider))),
+        (
+            b"closed begun 9999999",
+            Reply::Closed(VacState::Begun(last)),
+        ),
+        (b"closed annulled", Reply::Closed(VacState::Annulled)),
+    ];
+    assert_eq!(rt; first_otherwise(&replies), None);
+}
+
+#[test]
+fn replies_that_keep_codes_and_minutes(rt: HostRuntime) {
+    let report = minute(&rt, b"2024-03-04 08:00");
+    let first = minute(&rt, b"2000-01-01 00:00");
+    let last = minute(&rt, b"2099-12-31 23:59");
+    let late = late(&rt);
+    let latest = Minute::new(268_435_455).expect(&rt, "a minute");
+    let replies: [(&[u8], Reply); 10] = [
+        (b"unknown board P2", Reply::UnknownBoard(code(&rt, b"P2"))),
+        (b"bad chain ABCDEF", Reply::BadChain(code(&rt, b"ABCDEF"))),
+        (b"event ahead 2000-01-01 00:00", Reply::EventAhead(first)),
+        (b"report past 2024-03-04 08:00", Reply::ReportPast(report)),
+        (b"lapsed 2024-03-04 08:00", Reply::Lapsed(report)),
+        (b"lapsed 2099-12-31 23:59", Reply::Lapsed(last)),
+        (b"lapsed 68374080", Reply::Lapsed(late)),
+        (b"lapsed 268435455", Reply::Lapsed(latest)),
+        (b"early 2024-03-04 08:00", Reply::EarlyNoAnswer(report)),
+        (b"early 68374080", Reply::EarlyNoAnswer(late)),
+    ];
+    assert_eq!(rt; first_otherwise(&replies), None);
+}
+
+#[test]
+fn events_that_were_refused(rt: HostRuntime) {
+    let since = minute(&rt, b"2024-03-04 00:00");
+    let place = code(&rt, b"HOM");
+    let kind = Kind::P;
+    let passenger = Stage::Interim { kind, since, place };
+    let kind = Kind::D;
+    let duty = Stage::Interim { kind, since, place };
+    let stages: [(&[u8], Reply); 7] = [
+        (b"wrong stage off", wrong_stage(Stage::Off)),
+        (b"wrong stage riding", wrong_stage(Stage::Riding)),
+        (b"wrong stage duty", wrong_stage(Stage::Duty)),
+        (b"wrong stage waiting", wrong_stage(Stage::Waiting)),
+        (b"wrong stage riding home", wrong_stage(Stage::RidingHome)),
+        (
+            b"wrong stage interim P 2024-03-04 00:00 HOM",
+            wrong_stage(passenger),
+        ),
+        (
+            b"wrong stage interim D 2024-03-04 00:00 HOM",
+            wrong_stage(duty),
+        ),
+    ];
+    assert_eq!(rt; first_otherwise(&stages), None);
+    let faults: [(&[u8], EventFault); 4] = [
+        (b"behind 2024-03-04 00:00", EventFault::Behind(since)),
+        (b"interim too long 600", EventFault::InterimTooLong(600)),
+        (b"other place HOM", EventFault::OtherPlace(place)),
+        (
+            b"other place ALT",
+            EventFault::OtherPlace(code(&rt, b"ALT")),
+        ),
+    ];
+    for (text, fault) in faults {
+        assert!(rt; is_text_of(text, &Reply::Event(fault)));
+    }
+}
+
+// The place of the first text that is not its bar's denial.
+fn first_otherwise_denied(bars: &[(&[u8], Bar)]) -> Option<usize> {
+    bars.iter()
+        .position(|(text, bar)| !is_text_of(text, &Reply::Denied(*bar)))
+}
+
+#[test]
+fn denials(rt: HostRuntime) {
+    let vac = vacancy(&rt, 9_999_999);
+    let until = minute(&rt, b"2024-03-04 08:10");
+    let ends = minute(&rt, b"2024-03-05 06:30");
+    let bars: [(&[u8], Bar); 11] = [
+        (b"denied B1", Bar::MarkedOff),
+        (b"denied B2 tour", Bar::InTour),
+        (b"denied B2 assigned 9999999", Bar::Assigned(vac)),
+        (b"denied B3 9999999", Bar::OnOffer(vac)),
+        (b"denied B4 AWAY01", Bar::Elsewhere(code(&rt, b"AWAY01"))),
+        (b"denied B5 C", Bar::OtherCraft(Craft::C)),
+        (b"denied B6 63", Bar::Lacks(63)),
+        (b"denied B7", Bar::Answered),
+        (b"denied B8 2024-03-04 08:10", Bar::Held(until)),
+        (b"denied B8 2024-03-05 06:30", Bar::Held(ends)),
+        (b"denied B8 68374080", Bar::Held(late(&rt))),
+    ];
+    assert_eq!(rt; first_otherwise_denied(&bars), None);
+}
+
+#[test]
+fn denials_by_the_law(rt: HostRuntime) {
+    let ends = minute(&rt, b"2024-03-05 06:30");
+    let late = late(&rt);
+    let month = Month::read(b"2024-03").expect(&rt, "a month");
     let (run, need) = (6, 2_880);
     let six = Bar::SixDays { run, need };
-    assert!(rt; denial_is(six, b"|denied 21103(a)(4)(A) 6 2880\n")?);
     let (run, need) = (11, 4_320);
+    let more = Bar::SixDays { run, need };
     let seven = Bar::SevenDays { run, need };
-    assert!(rt; denial_is(seven, b"|denied 21103(a)(4)(A)(ii) 11 4320\n")?);
-    let total = 16_561;
-    let over = Bar::MonthHours { month, total };
-    assert!(rt; denial_is(over, b"|denied 21103(a)(1) 2024-03 16561\n")?);
     let total = 1_801;
     let limbo = Bar::LimboHours { month, total };
-    assert!(rt; denial_is(limbo, b"|denied 21103(c)(1) 2024-03 1801\n")?);
-    Ok(())
+    let total = 16_561;
+    let bars: [(&[u8], Bar); 9] = [
+        (b"denied 21103(a)(3) 2024-03-05 06:30", Bar::Rest(ends)),
+        (b"denied 21103(c)(4) 68374080", Bar::MoreRest(late)),
+        (b"denied 21103(e) 2024-03-05 06:30", Bar::Undisturbed(ends)),
+        (b"denied 21103(a)(4)(A) 11 4320", more),
+        (b"denied 21103(a)(4)(A) 6 2880", six),
+        (b"denied 21103(a)(4)(A)(ii) 11 4320", seven),
+        (
+            b"denied 21103(a)(1) 2024-03 16561",
+            Bar::MonthHours { month, total },
+        ),
+        (
+            b"denied 21103(c)(1) 2024-03 16561",
+            Bar::LimboHours { month, total },
+        ),
+        (b"denied 21103(c)(1) 2024-03 1801", limbo),
+    ];
+    assert_eq!(rt; first_otherwise_denied(&bars), None);
 }
