@@ -20,11 +20,11 @@ fn rest_and_excess(rt: HostRuntime) -> Result<(), Fail> {
         ((5, 8_59), (5, 10_30), 600, 0, Wanted::Undisturbed(5, 9_00)),
         ((5, 9_00), (5, 10_30), 600, 0, Wanted::Free),
     ];
-    assert_eq!(rt; wrong(&clock, &asked), None);
-    assert_eq!(rt; Some(clock.rest_end()), march(5, 9_00));
-    assert_eq!(rt; clock.stage(), Stage::Off);
-    assert_eq!(rt; clock.last(), march(4, 21_30));
-    assert_eq!(rt; hours(&clock, b"2024-03"), Some((810, 90)));
+    assert!(rt; wrong(&clock, &asked).is_none());
+    assert!(rt; Some(clock.rest_end()) == march(5, 9_00));
+    assert!(rt; clock.stage() == Stage::Off);
+    assert!(rt; clock.last() == march(4, 21_30));
+    assert!(rt; hours(&clock, b"2024-03") == Some((810, 90)));
     Ok(())
 }
 
@@ -43,7 +43,7 @@ fn interim_of_240_minutes(rt: HostRuntime) {
             (4, 16_00, Does::Final(b"HOM")),
         ];
         let found = told(b"2024-03", 1, &steps).and_then(|clock| hours(&clock, b"2024-03"));
-        assert_eq!(rt; found, used);
+        assert!(rt; found == used);
     }
     // and the two hours before it count while it runs
     let steps = [
@@ -51,7 +51,7 @@ fn interim_of_240_minutes(rt: HostRuntime) {
         (4, 10_00, Does::Interim(Kind::D, b"HOM")),
     ];
     let found = told(b"2024-03", 1, &steps).and_then(|clock| hours(&clock, b"2024-03"));
-    assert_eq!(rt; found, Some((120, 0)));
+    assert!(rt; found == Some((120, 0)));
 }
 
 // Ten hours off are a rest, from where the interim began during which the final release came.
@@ -62,18 +62,18 @@ fn final_during_an_interim(rt: HostRuntime) -> Result<(), Fail> {
         (4, 14_00, Does::Interim(Kind::D, b"ALT")),
     ];
     let mut clock = told(b"2024-03", 1, &steps).ok_or("no clock")?;
-    assert_eq!(rt; Some(clock.place()), Code::read(b"HOM"));
+    assert!(rt; Some(clock.place()) == Code::read(b"HOM"));
     let elsewhere = [(4, 20_00, Does::Final(b"HOM"))];
-    assert_eq!(rt; tell(&mut clock, &elsewhere), None);
+    assert!(rt; tell(&mut clock, &elsewhere).is_none());
     let released = [(4, 20_00, Does::Final(b"ALT"))];
-    assert_eq!(rt; tell(&mut clock, &released), Some(()));
-    assert_eq!(rt; Some(clock.place()), Code::read(b"ALT"));
-    assert_eq!(rt; hours(&clock, b"2024-03"), Some((360, 0)));
+    assert!(rt; tell(&mut clock, &released) == Some(()));
+    assert!(rt; Some(clock.place()) == Code::read(b"ALT"));
+    assert!(rt; hours(&clock, b"2024-03") == Some((360, 0)));
     let asked = [
         ((4, 20_01), (5, 0_00), 600, 0, Wanted::Undisturbed(5, 0_00)),
         ((5, 0_00), (5, 0_00), 600, 0, Wanted::Free),
     ];
-    assert_eq!(rt; wrong(&clock, &asked), None);
+    assert!(rt; wrong(&clock, &asked).is_none());
     Ok(())
 }
 
@@ -92,7 +92,7 @@ fn tour_end_after_last_worked_minute(rt: HostRuntime) -> Result<(), Fail> {
         ((4, 22_00), (5, 1_00), 600, 0, Wanted::Undisturbed(4, 20_00)),
         ((5, 1_00), (5, 1_00), 600, 0, Wanted::Free),
     ];
-    assert_eq!(rt; wrong(&clock, &asked), None);
+    assert!(rt; wrong(&clock, &asked).is_none());
     Ok(())
 }
 
@@ -100,11 +100,11 @@ fn tour_end_after_last_worked_minute(rt: HostRuntime) -> Result<(), Fail> {
 fn tour_across_a_month_end(rt: HostRuntime) -> Result<(), Fail> {
     let steps = [(0, 22_00, Does::Duty), (1, 4_00, Does::Final(b"HOM"))];
     let mut clock = told(b"2024-02", 2, &steps).ok_or("no clock")?;
-    assert_eq!(rt; hours(&clock, b"2024-02"), Some((120, 0)));
-    assert_eq!(rt; hours(&clock, b"2024-03"), Some((240, 0)));
-    assert_eq!(rt; hours(&clock, b"2024-04"), None);
+    assert!(rt; hours(&clock, b"2024-02") == Some((120, 0)));
+    assert!(rt; hours(&clock, b"2024-03") == Some((240, 0)));
+    assert!(rt; hours(&clock, b"2024-04").is_none());
     // nothing comes behind the window
-    assert_eq!(rt; tell(&mut clock, &[(32, 0_00, Does::Duty)]), None);
+    assert!(rt; tell(&mut clock, &[(32, 0_00, Does::Duty)]).is_none());
     Ok(())
 }
 
@@ -117,7 +117,7 @@ fn month_hours_and_limbo_at_the_limit(rt: HostRuntime) -> Result<(), Fail> {
         ((13, 12_00), (14, 8_00), 600, 0, Wanted::Free),
         ((13, 12_00), (14, 8_00), 601, 0, over),
     ];
-    assert_eq!(rt; wrong(&clock, &asked), None);
+    assert!(rt; wrong(&clock, &asked).is_none());
     let waited = [
         (1, 0_00, Does::Duty),
         (1, 12_00, Does::Relieve),
@@ -129,9 +129,9 @@ fn month_hours_and_limbo_at_the_limit(rt: HostRuntime) -> Result<(), Fail> {
         ((4, 12_00), (5, 8_00), 600, 120, Wanted::Free),
         ((4, 12_00), (5, 8_00), 600, 121, over),
     ];
-    assert_eq!(rt; wrong(&clock, &asked), None);
-    assert_eq!(rt; hours(&clock, b"2024-03"), Some((2_520, 1_800)));
-    assert_eq!(rt; Some(clock.rest_end()), march(4, 10_00));
+    assert!(rt; wrong(&clock, &asked).is_none());
+    assert!(rt; hours(&clock, b"2024-03") == Some((2_520, 1_800)));
+    assert!(rt; Some(clock.rest_end()) == march(4, 10_00));
     Ok(())
 }
 
@@ -150,18 +150,18 @@ fn six_days_at_home_and_a_seventh_from_away(rt: HostRuntime) -> Result<(), Fail>
         ((10, 12_00), (11, 15_59), 600, 0, Wanted::SixDays),
         ((10, 12_00), (11, 16_00), 600, 0, Wanted::Free),
     ];
-    assert_eq!(rt; wrong(&home, &asked), None);
+    assert!(rt; wrong(&home, &asked).is_none());
     let mut away = six_days(b"ALT").ok_or("no clock")?;
-    assert_eq!(rt; Some(away.place()), Code::read(b"ALT"));
+    assert!(rt; Some(away.place()) == Code::read(b"ALT"));
     let asked = [((10, 3_00), (10, 8_00), 600, 0, Wanted::Free)];
-    assert_eq!(rt; wrong(&away, &asked), None);
+    assert!(rt; wrong(&away, &asked).is_none());
     let seventh = [(10, 8_00, Does::Duty), (10, 16_00, Does::Final(b"HOM"))];
-    assert_eq!(rt; tell(&mut away, &seventh), Some(()));
+    assert!(rt; tell(&mut away, &seventh) == Some(()));
     let asked = [
         ((12, 12_00), (13, 15_59), 600, 0, Wanted::SevenDays),
         ((12, 12_00), (13, 16_00), 600, 0, Wanted::Free),
     ];
-    assert_eq!(rt; wrong(&away, &asked), None);
+    assert!(rt; wrong(&away, &asked).is_none());
     Ok(())
 }
 
@@ -171,14 +171,14 @@ fn a_clock_again(rt: HostRuntime) -> Result<(), Fail> {
     let mut clock = six_days(b"ALT").ok_or("no clock")?;
     let kept = clock.copy()?;
     clock.restart(Code::read(b"NEW").ok_or("no code")?);
-    assert_eq!(rt; Some(clock.place()), Code::read(b"NEW"));
-    assert_eq!(rt; clock.last(), None);
-    assert_eq!(rt; clock.rest_end(), Minute::FIRST);
-    assert_eq!(rt; hours(&clock, b"2024-03"), Some((0, 0)));
+    assert!(rt; Some(clock.place()) == Code::read(b"NEW"));
+    assert!(rt; clock.last().is_none());
+    assert!(rt; clock.rest_end() == Minute::FIRST);
+    assert!(rt; hours(&clock, b"2024-03") == Some((0, 0)));
     // with no events it answers for a job before the window too
     let asked = [((0, 8_00), (0, 8_00), 600, 0, Wanted::Free)];
-    assert_eq!(rt; wrong(&clock, &asked), None);
-    assert_eq!(rt; Some(kept.place()), Code::read(b"ALT"));
-    assert_eq!(rt; hours(&kept, b"2024-03"), Some((2_880, 0)));
+    assert!(rt; wrong(&clock, &asked).is_none());
+    assert!(rt; Some(kept.place()) == Code::read(b"ALT"));
+    assert!(rt; hours(&kept, b"2024-03") == Some((2_880, 0)));
     Ok(())
 }

@@ -103,7 +103,7 @@ const RUNS: [(&[Step], u8, u8); 9] = [
 #[test]
 fn days_in_a_row(rt: HostRuntime) {
     for (steps, from, wanted) in RUNS {
-        assert_eq!(rt; more_to_six(steps, from), Some(wanted));
+        assert!(rt; more_to_six(steps, from) == Some(wanted));
     }
 }
 
@@ -118,9 +118,9 @@ fn starts_of_tours(rt: HostRuntime) -> Result<(), Fail> {
         (11, 1_00, Does::Duty),
     ];
     tell(&mut clock, &more).ok_or("not told")?;
-    assert_eq!(rt; clock.stage(), Stage::Duty);
-    assert_eq!(rt; clock.last(), march(11, 1_00));
+    assert!(rt; clock.stage() == Stage::Duty);
+    assert!(rt; clock.last() == march(11, 1_00));
     tell(&mut clock, &[(11, 8_00, Does::Final(b"HOM"))]).ok_or("not told")?;
-    assert_eq!(rt; wrong_at(&clock, &[(11, 18_00, Wanted::Free)]), None);
+    assert!(rt; wrong_at(&clock, &[(11, 18_00, Wanted::Free)]).is_none());
     Ok(())
 }
