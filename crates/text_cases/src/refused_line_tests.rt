@@ -1,6 +1,6 @@
 //! Lines that are no journal's are not read.
 use crate::reply_tests::is_answer;
-use crate::{read_entry, read_opening};
+use desk_text::{read_entry, read_opening};
 
 // A line each.
 const NO_REPLIES: &[u8] = b"\

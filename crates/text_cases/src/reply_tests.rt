@@ -1,9 +1,9 @@
 //! Replies and bars, as an entry's line has them: each is written as its text, and read from it.
 use crate::tests::{code, entry_of, minute, person, vacancy};
-use crate::{LineText, read_entry, write_entry};
 use denial_rules::Bar;
 use desk_base::{Code, Minute, Month, VacNo, YEARS_END};
 use desk_model::{Cmd, Entry, Reply, VacState};
+use desk_text::{LineText, read_entry, write_entry};
 use duty_events::{EventFault, Kind, Stage};
 use qualifications::Craft;
 use std::process::Abort;

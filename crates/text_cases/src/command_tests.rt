@@ -1,8 +1,8 @@
 //! Records of commands are read as they are written.
-use crate::{LastMinute, read_record, write_entry};
 use arrayvec::ArrayVec;
 use desk_base::{Minute, split_once};
 use desk_model::{Entry, Reply, Stated};
+use desk_text::{LastMinute, read_record, write_entry};
 
 // A line each.
 const RECORDS: &[u8] = b"\

@@ -1,9 +1,9 @@
 //! Lines of commands, as the journal has them.
 ghost use Rattle.std.specs.Prelude.{◌≤◌};
 
-use crate::write_entry;
 use desk_base::{Code, Minute, PersonNo, VacNo, split_once};
 use desk_model::{Chain, Cmd, Entry, Job, Reply, Stated};
+use desk_text::write_entry;
 use qualifications::{Craft, Quals};
 use std::process::Abort;
 

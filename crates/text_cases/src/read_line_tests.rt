@@ -1,9 +1,9 @@
 //! Lines of a journal are read as they are written, and outcomes and bars are written.
 use crate::tests::{code, minute};
-use crate::{read_entry, read_opening, write_bar, write_entry, write_opening, write_outcome};
 use denial_rules::Bar;
 use desk_base::{Minute, Month, Window};
 use desk_model::{Edition, Opening, Reply};
+use desk_text::{read_entry, read_opening, write_bar, write_entry, write_opening, write_outcome};
 
 // Entries' lines.
 const ENTRIES: &[u8] = b"\

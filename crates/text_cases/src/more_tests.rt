@@ -1,6 +1,6 @@
 //! Commands that a journal goes on with.
-use crate::{MoreFault, read_more};
 use desk_base::Minute;
+use desk_text::{MoreFault, read_more};
 use std::alloc::Global;
 
 const TWO: &[u8] = b"2024-03-04 00:05,accept,12,101\n2024-03-04 00:06,next,12\n";

@@ -1,7 +1,7 @@
 //! What names the edition of the rules in an opening.
 use crate::day_tests::day_of;
-use crate::{DayFault, read_day};
 use desk_model::Edition;
+use desk_text::{DayFault, read_day};
 use std::alloc::Global;
 
 const FIVE_FIELDS: &[u8] = b"2024-03-04 00:00,open,2024-03,1,15";

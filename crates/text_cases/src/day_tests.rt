@@ -1,7 +1,7 @@
 //! Day files are read whole, and of their faults the first is told.
-use crate::{DayFault, ReadFail, read_command, read_day};
 use desk_base::{Code, Minute, VacNo};
 use desk_model::{Cmd, Stated};
+use desk_text::{DayFault, ReadFail, read_command, read_day};
 use std::alloc::{AllocError, Global};
 use std::test::Fail;
 
