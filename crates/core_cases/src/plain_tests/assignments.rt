@@ -47,7 +47,7 @@ fn dropped_and_annulled(rt: HostRuntime) -> Result<(), Fail> {
         (b"06:14", of_vac("annul", 12), done()),
         (b"06:15", of_person("drop", 2), Some(Reply::NotAssigned)),
     ];
-    assert_eq!(rt; first_wrong(&mut core, &steps)?, None);
+    assert!(rt; first_wrong(&mut core, &steps)?.is_none());
     Ok(())
 }
 
@@ -104,6 +104,6 @@ fn begun_and_lapsed(rt: HostRuntime) -> Result<(), Fail> {
         (b"17:04", look(b"Y1", 1), seen(1)),
         (b"17:05", of_vac("vac", 12), begun(1).map(Reply::State)),
     ];
-    assert_eq!(rt; first_wrong(&mut core, &steps)?, None);
+    assert!(rt; first_wrong(&mut core, &steps)?.is_none());
     Ok(())
 }

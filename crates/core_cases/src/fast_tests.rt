@@ -1,7 +1,7 @@
 //! A desk that looks up beside one that searches all that was stated, and tables that are full.
-use crate::FastCore;
 use desk_base::{Code, Minute, Month, PersonNo, VacNo, Window};
 use desk_model::{Chain, Cmd, DeskCore, Edition, Job, Opening, Reply, Stated};
+use fast_core::FastCore;
 use qualifications::{Craft, Quals};
 use std::test::Fail;
 
@@ -101,8 +101,8 @@ fn no_room_for_entries(rt: HostRuntime) -> Result<(), Fail> {
     ];
     for (time, cmd, reply) in steps {
         let expected = at(time).map(|moment| (moment, reply));
-        assert_eq!(rt; take(&mut core, at(time), cmd), expected);
+        assert!(rt; take(&mut core, at(time), cmd) == expected);
     }
-    assert_eq!(rt; core.left(), u64::MAX - 5);
+    assert!(rt; core.left() == u64::MAX - 5);
     Ok(())
 }

@@ -1,6 +1,6 @@
 //! Openings, chains, jobs, what is stated and entries are made within their ranges and tell their parts.
-use crate::{Chain, Cmd, Edition, Entry, Job, Opening, Reply, Stated};
 use desk_base::{Code, Minute, Month, VacNo, Window};
+use desk_model::{Chain, Cmd, Edition, Entry, Job, Opening, Reply, Stated};
 use qualifications::{Craft, Quals};
 use std::test::Fail;
 
@@ -20,16 +20,15 @@ fn openings_keep_their_ranges(rt: HostRuntime) -> Result<(), Fail> {
     for (text, answer, is_opening) in cases {
         let start = Minute::read(text).ok_or("no minute")?;
         let opening = Opening::new(start, window, answer, Edition::Two);
-        assert_eq!(rt; opening.is_some(), is_opening);
+        assert!(rt; opening.is_some() == is_opening);
         if let Some(opening) = opening {
-            assert_eq!(rt;
+            assert!(rt;
                 (
                     opening.start(),
                     opening.window(),
                     opening.answer(),
                     opening.edition()
-                ),
-                (start, window, answer, Edition::Two)
+                ) == (start, window, answer, Edition::Two)
             );
         }
     }
@@ -55,17 +54,14 @@ fn jobs_keep_their_ranges(rt: HostRuntime) -> Result<(), Fail> {
     ];
     for (report, duty, limbo, is_job) in cases {
         let job = job_of(report, duty, limbo)?;
-        assert_eq!(rt; job.is_some(), is_job);
+        assert!(rt; job.is_some() == is_job);
         if let Some(job) = job {
-            assert_eq!(rt;
-                (job.report(), job.duty(), job.limbo()),
-                (report, duty, limbo)
-            );
-            assert_eq!(rt; job.vac().number(), 12);
-            assert_eq!(rt; job.is_relief(), true);
-            assert_eq!(rt; job.craft(), Craft::E);
-            assert_eq!(rt; job.quals().write().as_slice(), b"3".as_slice());
-            assert_eq!(rt; job.place().text(), b"HOM".as_slice());
+            assert!(rt; (job.report(), job.duty(), job.limbo()) == (report, duty, limbo));
+            assert!(rt; job.vac().number() == 12);
+            assert!(rt; job.is_relief() == true);
+            assert!(rt; job.craft() == Craft::E);
+            assert!(rt; job.quals().write().as_slice() == b"3".as_slice());
+            assert!(rt; job.place().text() == b"HOM".as_slice());
         }
     }
     Ok(())
@@ -98,14 +94,11 @@ fn entries_keep_what_was_stated(rt: HostRuntime) -> Result<(), Fail> {
     };
     let stated = Stated::new(minute, cmd).ok_or("not stated")?;
     let entry = Entry::new(63, stated, moment, Reply::UnknownVacancy);
-    assert_eq!(rt;
-        (entry.caller(), *entry.stated(), entry.moment()),
-        (63, stated, moment)
-    );
-    assert_eq!(rt; entry.reply(), Reply::UnknownVacancy);
-    assert_eq!(rt; (stated.minute(), *stated.cmd()), (minute, cmd));
+    assert!(rt; (entry.caller(), *entry.stated(), entry.moment()) == (63, stated, moment));
+    assert!(rt; entry.reply() == Reply::UnknownVacancy);
+    assert!(rt; (stated.minute(), *stated.cmd()) == (minute, cmd));
     let after = Minute::new(68_374_080).ok_or("no minute")?;
-    assert_eq!(rt; Stated::new(after, cmd), None);
+    assert!(rt; Stated::new(after, cmd).is_none());
     Ok(())
 }
 
@@ -124,14 +117,14 @@ fn chains_as_texts(rt: HostRuntime) -> Result<(), Fail> {
     ];
     for (text, codes) in cases {
         let chain = Chain::read(text).ok_or("not read")?;
-        assert_eq!(rt; chain.write().as_slice(), text);
-        assert_eq!(rt; chain.codes().len(), codes.len());
+        assert!(rt; chain.write().as_slice() == text);
+        assert!(rt; chain.codes().len() == codes.len());
         for (code, expected) in chain.codes().iter().zip(codes) {
-            assert_eq!(rt; code.text(), *expected);
+            assert!(rt; code.text() == *expected);
         }
     }
     let chain = Chain::read(b"E1+E2").ok_or("not read")?;
-    assert_eq!(rt; chain, Chain::read(b"E1+E2").ok_or("not read")?);
+    assert!(rt; chain == Chain::read(b"E1+E2").ok_or("not read")?);
     assert!(rt; chain != Chain::read(b"E2+E1").ok_or("not read")?);
     assert!(rt; chain != Chain::read(b"E1").ok_or("not read")?);
     Ok(())
@@ -156,6 +149,6 @@ fn texts_that_are_no_chains(rt: HostRuntime) {
         b"E1 E2",
     ];
     for text in wrong {
-        assert_eq!(rt; Chain::read(text), None);
+        assert!(rt; Chain::read(text).is_none());
     }
 }

@@ -1,7 +1,7 @@
 //! Tables up to the last for which there is room, and one more.
 use super::{at, board, enrol, list, opening, take, vacancy};
-use crate::FastCore;
 use desk_model::{Cmd, Edition, Reply};
+use fast_core::FastCore;
 use std::test::Fail;
 
 // The code of a board by its number: B00 and so on.
@@ -20,37 +20,28 @@ fn tables_that_are_full(rt: HostRuntime) -> Result<(), Fail> {
     let opening = opening(Edition::One).ok_or("no opening")?;
     let mut core = FastCore::new(rt.alloc(), opening, u64::MAX)?;
     for person in 1..1_001 {
-        assert_eq!(rt; answer(&mut core, enrol(person)), Some(Reply::Done));
+        assert!(rt; answer(&mut core, enrol(person)) == Some(Reply::Done));
     }
-    assert_eq!(rt; answer(&mut core, enrol(1_001)), Some(Reply::PersonsFull));
+    assert!(rt; answer(&mut core, enrol(1_001)) == Some(Reply::PersonsFull));
     let pool = board(b"P1", false, b"HOM");
-    assert_eq!(rt; answer(&mut core, pool), Some(Reply::Done));
+    assert!(rt; answer(&mut core, pool) == Some(Reply::Done));
     for number in 1..64 {
         let made = board(&code(number), true, b"HOM");
-        assert_eq!(rt; answer(&mut core, made), Some(Reply::Done));
+        assert!(rt; answer(&mut core, made) == Some(Reply::Done));
     }
     let made = board(&code(64), true, b"HOM");
-    assert_eq!(rt; answer(&mut core, made), Some(Reply::BoardsFull));
+    assert!(rt; answer(&mut core, made) == Some(Reply::BoardsFull));
     for person in 1..501 {
-        assert_eq!(rt; answer(&mut core, list(person, b"P1")), Some(Reply::Done));
+        assert!(rt; answer(&mut core, list(person, b"P1")) == Some(Reply::Done));
     }
-    assert_eq!(rt;
-        answer(&mut core, list(501, b"P1")),
-        Some(Reply::MembersFull)
-    );
+    assert!(rt; answer(&mut core, list(501, b"P1")) == Some(Reply::MembersFull));
     for number in 1..4 {
-        assert_eq!(rt;
-            answer(&mut core, list(1, &code(number))),
-            Some(Reply::Done)
-        );
+        assert!(rt; answer(&mut core, list(1, &code(number))) == Some(Reply::Done));
     }
-    assert_eq!(rt; answer(&mut core, list(1, b"B04")), Some(Reply::ListsFull));
+    assert!(rt; answer(&mut core, list(1, b"B04")) == Some(Reply::ListsFull));
     for vac in 1..20_001 {
-        assert_eq!(rt; answer(&mut core, vacancy(vac)), Some(Reply::Done));
+        assert!(rt; answer(&mut core, vacancy(vac)) == Some(Reply::Done));
     }
-    assert_eq!(rt;
-        answer(&mut core, vacancy(20_001)),
-        Some(Reply::VacanciesFull)
-    );
+    assert!(rt; answer(&mut core, vacancy(20_001)) == Some(Reply::VacanciesFull));
     Ok(())
 }

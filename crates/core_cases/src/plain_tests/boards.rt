@@ -43,7 +43,7 @@ fn marked_off_and_on_and_taken_off_a_board(rt: HostRuntime) -> Result<(), Fail> 
         (b"06:11", list(2, b"P1"), done()),
         (b"06:11", look(b"P1", 3), seen(2)),
     ];
-    assert_eq!(rt; first_wrong(&mut core, &steps)?, None);
+    assert!(rt; first_wrong(&mut core, &steps)?.is_none());
     Ok(())
 }
 
@@ -78,6 +78,6 @@ fn given_qualifications(rt: HostRuntime) -> Result<(), Fail> {
         (b"06:07", of_vac("vac", 99), Some(Reply::UnknownVacancy)),
         (b"06:07", of_vac("annul", 99), Some(Reply::UnknownVacancy)),
     ];
-    assert_eq!(rt; first_wrong(&mut core, &steps)?, None);
+    assert!(rt; first_wrong(&mut core, &steps)?.is_none());
     Ok(())
 }

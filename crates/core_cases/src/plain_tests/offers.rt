@@ -40,7 +40,7 @@ fn declined_taken_back_and_not_answered(rt: HostRuntime) -> Result<(), Fail> {
         (b"06:30", of_both("withdraw", 12, 1), Some(Reply::NoOffer)),
         (b"06:30", of_vac("vac", 12), on_offer(3)),
     ];
-    assert_eq!(rt; first_wrong(&mut core, &steps)?, None);
+    assert!(rt; first_wrong(&mut core, &steps)?.is_none());
     Ok(())
 }
 
@@ -87,6 +87,6 @@ fn an_offer_to_whom_the_caller_names(rt: HostRuntime) -> Result<(), Fail> {
         (b"06:13", look(b"X1", 3), seen(2)),
         (b"06:13", look(b"Y1", 2), seen(2)),
     ];
-    assert_eq!(rt; first_wrong(&mut core, &steps)?, None);
+    assert!(rt; first_wrong(&mut core, &steps)?.is_none());
     Ok(())
 }
