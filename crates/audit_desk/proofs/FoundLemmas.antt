@@ -29,8 +29,13 @@ journal-goes_on h e text left line behind read parts is =
     ∙ sym (append_assoc (journal h) (entry_line e) behind) ∙ ap (λ t. t ++ behind) (sym (journal-next h e))
 
 -- what comes next to who stated what by an entry
-pub next-statement : (h : History) (e right : EntryValue) (s : Statement) → Some s ≡ Some (statement_of e) → right ≡ next h s.caller s.stated → right ≡ next h e.caller e.stated
-next-statement h e right s same is = let it : s ≡ statement_of e = cc in subst (λ t. right ≡ next h t.caller t.stated) it is
+pub next-statement : (h : History) (e right : EntryValue) (s : Statement) → s ≡ statement_of e → right ≡ next h s.caller s.stated → right ≡ next h e.caller e.stated
+next-statement h e right s same is = subst (λ t. right ≡ next h t.caller t.stated) same is
+
+-- by it they stated that
+pub statement-next : (h : History) (right : EntryValue) (s : Statement) → right ≡ next h s.caller s.stated → s ≡ statement_of right
+unfolding next
+statement-next h right s is = sym (ap statement_of is)
 
 -- an entry with the outcome of the one that comes next is the one that comes next
 pub entry-same : (h : History) (e right : EntryValue) → right ≡ next h e.caller e.stated → outcome_of e ≡ outcome_of right → e ≡ right

@@ -1,3 +1,3 @@
 mod LineLemmas
 pub mod FoundLemmas
-mod OneLemmas
+pub mod OneLemmas

@@ -1,14 +1,18 @@
 -- The first line of a text.
-use Rattle.std.proofs.Common.{◌≡◌, ◌≢◌, ◌∙◌, ℕ, ◌+◌, List, [], ◌∷◌, ◌++◌, length, get_or, take, drop, sym, ap, append_assoc, length-append}
-use Rattle.std.proofs.Math.Seq.{take-append_seam, drop-append_seam}
+use Rattle.std.proofs.Common.{◌≡◌, ◌≢◌, ◌∙◌, ◌<◌, ℕ, suc, ◌+◌, ◌==◌, Some, None, List, [], ◌∷◌, ◌++◌, length, get_or, take, drop, sym, ap, arith, append_assoc}
+use Rattle.std.proofs.Math.Seq.{take-suc}
+use Rattle.std.proofs.lemmas.Bool.{eqb-true}
+use Rattle.memchr.specs.Find.{IsFirstByte, is_byte}
 use Rattle.desk_base.specs.Parts.{parts_by}
 use Rattle.desk_text.specs.Line.{IsLine}
-use Rattle.desk_text.proofs.CutLemmas.{parts-one, parts-text, text-parts, some-parts}
+use Rattle.desk_text.proofs.CutLemmas.{parts-one, text-parts, some-parts}
 use Rattle.desk_text.proofs.BeginningLemmas.{unfed}
 
--- a text with a line feed: its first line ends with it
-pub with-feed : (text front back : List ℕ) → parts_by 10 text ≡ front ∷ parts_by 10 back → text ≡ (front ++ 10 ∷ []) ++ back
-with-feed text front back parts = parts-text 10 text front back parts ∙ sym (append_assoc front (10 ∷ []) back)
+-- the bytes up to a line feed, with it
+pub take-feed : (at : ℕ) (text : List ℕ) → IsFirstByte (is_byte 10) text (Some at) → take (at + 1) text ≡ take at text ++ 10 ∷ []
+take-feed at text found =
+    let next : at + 1 ≡ suc at = omega arith in
+    ap (λ n. take n text) next ∙ take-suc text at 0 found.0.high ∙ ap (λ b. take at text ++ b ∷ []) (eqb-true _ _ found.1)
 
 -- a line that a text begins with is its first
 pub first-is : (text front back line rest : List ℕ) → parts_by 10 text ≡ front ∷ parts_by 10 back → IsLine line → text ≡ line ++ rest
@@ -26,12 +30,3 @@ no-feed text front line rest parts is e =
     let same : text ≡ is.text ++ 10 ∷ rest = e ∙ ap (λ t. t ++ rest) is.is ∙ append_assoc is.text (10 ∷ []) rest in
     let both = sym parts ∙ text-parts 10 text is.text rest free same in
     some-parts 10 rest (ap (λ ps. drop 1 ps) both)
-
--- a text cut behind its first line feed
-pub fed-front : (text front back : List ℕ) → text ≡ (front ++ 10 ∷ []) ++ back → take (length front + 1) text ≡ front ++ 10 ∷ []
-fed-front text front back whole =
-    ap (λ n. take n text) (sym (length-append front (10 ∷ []))) ∙ ap (take (length (front ++ 10 ∷ []))) whole ∙ take-append_seam (front ++ 10 ∷ []) back
-
-pub fed-back : (text front back : List ℕ) → text ≡ (front ++ 10 ∷ []) ++ back → drop (length front + 1) text ≡ back
-fed-back text front back whole =
-    ap (λ n. drop n text) (sym (length-append front (10 ∷ []))) ∙ ap (drop (length (front ++ 10 ∷ []))) whole ∙ drop-append_seam (front ++ 10 ∷ []) back

@@ -7,7 +7,8 @@ use Rattle.desk_model.specs.Entry.{EntryValue}
 use Rattle.desk_model.specs.Fits.{Fits}
 use Rattle.desk_model.specs.History.{History, history_of, opened, with_entry, step_of, steps_from, steps}
 use Rattle.desk_model.specs.Legal.{IsLegal, IsNext, next}
-use Rattle.desk_model.specs.Journal.{opening_line, entry_line, entry_lines}
+use Rattle.desk_model.specs.Journal.{opening_line, entry_line, entry_lines, journal}
+use Rattle.desk_model.specs.Opening.{IsOpening}
 use Rattle.desk_text.specs.Line.{IsLine}
 use Rattle.desk_text.proofs.LineLemmas.{entry_line-IsLine, opening_line-IsLine}
 use Rattle.desk_text.proofs.BeginningLemmas.{lines-two, entry_line-one, opening_line-one}
@@ -17,7 +18,7 @@ use Rattle.audit_desk.specs.declared.verdict.Verdict.{Verdict}
 use Rattle.audit_desk.specs.declared.verdict.Verdict.TheVariants as verdict
 
 -- a line has a byte
-some-line : (line rest : List ℕ) → IsLine line → [] ≢ line ++ rest
+pub some-line : (line rest : List ℕ) → IsLine line → [] ≢ line ++ rest
 some-line line rest is e = omega (arith, ap length e, length-append line rest, ap length is.is, length-append is.text (10 ∷ []))
 
 -- two texts that begin with the lines of entries are one: so are the entries
@@ -29,12 +30,13 @@ entries-two a b x y ha hb e =
 -- ---- histories that a text begins with
 
 -- the second entries go on behind the first with one whose line is behind theirs
-record GoesOn (es fs : List EntryValue) (x : List ℕ) : Type 0 where
-  entry : EntryValue
-  later : List EntryValue
-  parts : fs ≡ es ++ entry ∷ later
-  rest : List ℕ
-  line : x ≡ entry_line entry ++ rest
+pub record GoesOn (es fs : List EntryValue) (x : List ℕ) : Type 0 where
+  pub entry : EntryValue
+  pub later : List EntryValue
+  pub parts : fs ≡ es ++ entry ∷ later
+  pub fits : Fits entry
+  pub rest : List ℕ
+  pub line : x ≡ entry_line entry ++ rest
 
 -- they do so with one entry more in front of both
 goes_on-more : (g f : EntryValue) (es fs : List EntryValue) (x : List ℕ) → g ≡ f → GoesOn es fs x → GoesOn (g ∷ es) (f ∷ fs) x
@@ -42,6 +44,7 @@ goes_on-more g f es fs x same goes = record {
   entry = goes.entry;
   later = goes.later;
   parts = ap (λ e. e ∷ fs) (sym same) ∙ ap (λ l. g ∷ l) goes.parts;
+  fits = goes.fits;
   rest = goes.rest;
   line = goes.line;
 }
@@ -51,9 +54,9 @@ lists-two : (es fs : List EntryValue) (x y : List ℕ) → All Fits es → All F
     → ((es ≡ fs) × (x ≡ y)) ⊎ (GoesOn es fs x ⊎ GoesOn fs es y)
 lists-two [] [] x y he hf e = inl (refl, e)
 lists-two [] (f ∷ fs) x y he hf e =
-    inr (inl (record { entry = f; later = fs; parts = refl; rest = entry_lines fs ++ y; line = e ∙ append_assoc (entry_line f) (entry_lines fs) y }))
+    inr (inl (record { entry = f; later = fs; parts = refl; fits = All-head Fits f fs hf; rest = entry_lines fs ++ y; line = e ∙ append_assoc (entry_line f) (entry_lines fs) y }))
 lists-two (g ∷ es) [] x y he hf e =
-    inr (inr (record { entry = g; later = es; parts = refl; rest = entry_lines es ++ x; line = sym e ∙ append_assoc (entry_line g) (entry_lines es) x }))
+    inr (inr (record { entry = g; later = es; parts = refl; fits = All-head Fits g es he; rest = entry_lines es ++ x; line = sym e ∙ append_assoc (entry_line g) (entry_lines es) x }))
 lists-two (g ∷ es) (f ∷ fs) x y he hf e =
     let both = entries-two g f (entry_lines es ++ x) (entry_lines fs ++ y) (All-head Fits g es he) (All-head Fits f fs hf)
     (sym (append_assoc (entry_line g) (entry_lines es) x) ∙ e ∙ append_assoc (entry_line f) (entry_lines fs) y) in
@@ -81,35 +84,41 @@ step-next k (f ∷ es) e later all =
     subst (λ l. IsNext (history_of k.opening l) e) (append_assoc k.entries (f ∷ []) es)
     (step-next (with_entry k f) es e later (All-tail (λ s. IsNext s.before s.entry) (step_of k f) (steps_from (with_entry k f) (es ++ e ∷ later)) all))
 
-legal-next : (h i : History) (x : List ℕ) → IsLegal i → All Fits i.entries → h.opening ≡ i.opening → GoesOn h.entries i.entries x → Next h x
+legal-next : (h i : History) (x : List ℕ) → IsLegal i → h.opening ≡ i.opening → GoesOn h.entries i.entries x → Next h x
 unfolding steps
-legal-next h i x legal fits same on = record {
+legal-next h i x legal same on = record {
   entry = on.entry;
   next_is = subst (λ o. IsNext (history_of o h.entries) on.entry) (sym same)
       (step-next (opened i.opening) h.entries on.entry on.later (subst (λ l. All (λ s. IsNext s.before s.entry) (steps_from (opened i.opening) l)) on.parts legal.each));
-  fits = fits-there h.entries on.entry on.later (subst (All Fits) on.parts fits);
+  fits = on.fits;
   rest = on.rest;
   line = on.line;
 }
-  where
-    fits-there : (es : List EntryValue) (e : EntryValue) (later : List EntryValue) → All Fits (es ++ e ∷ later) → Fits e
-    fits-there [] e later all = All-head Fits e later all
-    fits-there (f ∷ es) e later all = fits-there es e later (All-tail Fits f (es ++ e ∷ later) all)
 
--- two legal histories whose journals a text begins with are the same, with the same behind them, or one of them goes on
+-- two histories whose journals a text begins with, legal or not, are the same, with the same behind them, or one of them goes on
+pub journals-two : (h i : History) (x y : List ℕ) → IsOpening h.opening → IsOpening i.opening → All Fits h.entries → All Fits i.entries → journal h ++ x ≡ journal i ++ y
+    → ((h ≡ i) × (x ≡ y)) ⊎ ((h.opening ≡ i.opening) × (GoesOn h.entries i.entries x ⊎ GoesOn i.entries h.entries y))
+journals-two h i x y ho io hf if e =
+    let parts : opening_line h.opening ++ (entry_lines h.entries ++ x) ≡ opening_line i.opening ++ (entry_lines i.entries ++ y) =
+    sym (append_assoc (opening_line h.opening) (entry_lines h.entries) x) ∙ e ∙ append_assoc (opening_line i.opening) (entry_lines i.entries) y in
+    let both = lines-two (opening_line h.opening) (opening_line i.opening) _ _ (opening_line-IsLine h.opening ho) (opening_line-IsLine i.opening io) parts in
+    go (opening_line-one h.opening i.opening ho io both.0) (lists-two h.entries i.entries x y hf if both.1)
+  where
+    go : h.opening ≡ i.opening → ((h.entries ≡ i.entries) × (x ≡ y)) ⊎ (GoesOn h.entries i.entries x ⊎ GoesOn i.entries h.entries y)
+        → ((h ≡ i) × (x ≡ y)) ⊎ ((h.opening ≡ i.opening) × (GoesOn h.entries i.entries x ⊎ GoesOn i.entries h.entries y))
+    go opening (inl is) = inl (ap (λ o. history_of o h.entries) opening ∙ ap (history_of i.opening) is.0, is.1)
+    go opening (inr on) = inr (opening, on)
+
+-- and of two that are legal the next entry of one comes next
 begins-two : ((h : History) → IsLegal h → All Fits h.entries) → (text : List ℕ) (h i : History) (x y : List ℕ) → Begins text h x → Begins text i y
     → ((h ≡ i) × (x ≡ y)) ⊎ (Next h x ⊎ Next i y)
 begins-two fit text h i x y one other =
-    let parts : opening_line h.opening ++ (entry_lines h.entries ++ x) ≡ opening_line i.opening ++ (entry_lines i.entries ++ y) =
-    sym (append_assoc (opening_line h.opening) (entry_lines h.entries) x) ∙ sym one.parts ∙ other.parts ∙ append_assoc (opening_line i.opening) (entry_lines i.entries) y in
-    let both = lines-two (opening_line h.opening) (opening_line i.opening) _ _ (opening_line-IsLine h.opening one.legal.opening) (opening_line-IsLine i.opening other.legal.opening) parts in
-    let opening = opening_line-one h.opening i.opening one.legal.opening other.legal.opening both.0 in
-    go opening (lists-two h.entries i.entries x y (fit h one.legal) (fit i other.legal) both.1)
+    go (journals-two h i x y one.legal.opening other.legal.opening (fit h one.legal) (fit i other.legal) (sym one.parts ∙ other.parts))
   where
-    go : h.opening ≡ i.opening → ((h.entries ≡ i.entries) × (x ≡ y)) ⊎ (GoesOn h.entries i.entries x ⊎ GoesOn i.entries h.entries y) → ((h ≡ i) × (x ≡ y)) ⊎ (Next h x ⊎ Next i y)
-    go opening (inl is) = inl (ap (λ o. history_of o h.entries) opening ∙ ap (history_of i.opening) is.0, is.1)
-    go opening (inr (inl on)) = inr (inl (legal-next h i x other.legal (fit i other.legal) opening on))
-    go opening (inr (inr on)) = inr (inr (legal-next i h y one.legal (fit h one.legal) (sym opening) on))
+    go : ((h ≡ i) × (x ≡ y)) ⊎ ((h.opening ≡ i.opening) × (GoesOn h.entries i.entries x ⊎ GoesOn i.entries h.entries y)) → ((h ≡ i) × (x ≡ y)) ⊎ (Next h x ⊎ Next i y)
+    go (inl is) = inl is
+    go (inr (opening, inl on)) = inr (inl (legal-next h i x other.legal opening on))
+    go (inr (opening, inr on)) = inr (inr (legal-next i h y one.legal (sym opening) on))
 
 -- ---- verdicts
 

@@ -9,7 +9,7 @@ use crate::lines::first_line;
 use crate::{Outcome, Verdict};
 use desk_model::{DeskCore, Entry};
 use desk_text::{
-    LastMinute, LineText, each_line_ends_once, fill_with_entry, read_entry, read_statement,
+    LastMinute, LineText, each_line_ends_once, fill_with_outcome, read_entry, read_statement,
 };
 
 // What the desk answered by an entry.
@@ -37,18 +37,17 @@ pub(crate) fn audit_entries<C: DeskCore>(core: &mut C, text: &[u8]) -> Result<u3
     each_line_ends_once();
     let mut left = text;
     let mut count: u32 = 0;
-    let mut right_line = LineText::new();
-    let mut read_last = LastMinute::new();
+    let mut right_outcome = LineText::new();
     let mut stated_last = LastMinute::new();
     let mut moment_last = LastMinute::new();
     while !left.is_empty() {
         let (line, behind) = first_line(left);
-        let Some(statement) = read_statement(&mut read_last, line) else {
+        let Some((statement, outcome)) = read_statement(&mut stated_last, line) else {
             return Err(Verdict::Unreadable(count + 2));
         };
         let right = core.step(statement.caller, statement.stated);
-        fill_with_entry(&mut right_line, &mut stated_last, &mut moment_last, &right);
-        if line != right_line.as_slice() {
+        fill_with_outcome(&mut right_outcome, &mut moment_last, &right);
+        if outcome != right_outcome.as_slice() {
             let Some(entry) = &read_entry(line) else {
                 return Err(Verdict::Unreadable(count + 2));
             };

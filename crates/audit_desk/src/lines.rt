@@ -2,7 +2,7 @@
 ghost use Rattle.std.specs.Prelude.{◌≡◌, ◌≢◌, ◌<◌, ◌++◌, ℕ, List, [], length};
 ghost use Rattle.desk_text.specs.Line.{IsLine};
 
-use desk_base::split_once;
+use memchr::memchr;
 
 /// The first line of a text, with its line feed, and what is behind it.
 pub fn first_line(text: &[u8]) -> (&[u8], &[u8])
@@ -11,9 +11,8 @@ pub fn first_line(text: &[u8]) -> (&[u8], &[u8])
         → (result.0.now ≡ line) × (result.1.now ≡ rest) }
     ensures shorter { text.now ≢ [] → length result.1.now < length text.now }
 {
-    let (front, behind) = split_once(text, b'\n');
-    match behind {
-        Some(_) => text.split_at(front.len() + 1),
+    match memchr(b'\n', text) {
+        Some(at) => text.split_at(at + 1),
         None => (text, &[]),
     }
 }

@@ -24,7 +24,7 @@ use Rattle.duty_record.specs.Kept.{Keeps}
 use Rattle.duty_record.specs.Tours.{tours, excess_list}
 use Rattle.crewdesk_main.specs.declared.tour_form.TourForm.{TourForm}
 use Rattle.crewdesk_main.specs.declared.tour_form.TourForm.TheVariants as form
-use Rattle.crewdesk_main.specs.Ends.{WasRead, WritesOrFails}
+use Rattle.crewdesk_main.specs.Ends.{WasRead, WritesOrFails, TellsMore, EndsAs, Tells as Holds}
 use Rattle.crewdesk_main.specs.Lines.{HasTooManyLines, HasFewLines}
 
 -- the text begins with the journal of this history, legal or not, each of whose values is in its range, and this is behind it
@@ -75,6 +75,14 @@ told_by form.Excess h = excess_list h
 abbrev pub tours_text : TourForm → History → List ℕ
 tours_text how h = json_text (told_by how h) ++ 10 ∷ []
 
+-- which status comes where, by the bytes that the source tells
+pub record EndsByTheLines (result : Status) (left : Option (List ℕ)) : Type 0 where
+  pub more_bytes : TellsMore BYTE_LIMIT left → EndsAs result TooLong
+  pub too_many : Holds BYTE_LIMIT left HasTooManyLines → EndsAs result TooLong
+  pub no_opening : Holds BYTE_LIMIT left (λ bytes. HasFewLines bytes × HasNoOpening bytes) → EndsAs result NoOpening
+  pub unreadable : (line : ℕ) → Holds BYTE_LIMIT left (λ bytes. HasFewLines bytes × HasNoEntry bytes line) → EndsAs result Unreadable
+  pub journal : (h : History) → Holds BYTE_LIMIT left (λ bytes. HasFewLines bytes × StartsWith bytes h []) → result ≢ WriteFault → EndsAs result Fine
+
 -- a run that ended so read a journal as it stands, and wrote this text of its history: what its source and sink told before and
 -- after, and how many faults they counted
 pub record EndsTelling (result : Status) (text : History → List ℕ) (left left' : Option (List ℕ)) (asked asked' : ℕ) (held held' : Option (List ℕ)) (given given' : ℕ) : Type 0 where
@@ -87,3 +95,4 @@ pub record EndsTelling (result : Status) (text : History → List ℕ) (left lef
   pub no_opening : result ≡ NoOpening → WasRead BYTE_LIMIT left left' (λ bytes. HasFewLines bytes × HasNoOpening bytes)
   pub unreadable : result ≡ Unreadable → TellsLine left left' (WritesOrFails held held' given given')
   pub not_wrong : result ≢ AuditWrong
+  pub by_the_lines : EndsByTheLines result left

@@ -16,6 +16,7 @@ mod go_on;
 mod journal;
 mod limits;
 mod lines;
+mod lines_law;
 mod read_number;
 mod read_tours;
 mod replay;

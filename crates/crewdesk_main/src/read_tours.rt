@@ -6,7 +6,7 @@ ghost use Rattle.desk_model.specs.Journal.{journal};
 ghost use Rattle.crewdesk_main.specs.Records.{KeepsJournal, IsUnread};
 
 use audit_desk::{BYTE_LIMIT, Verdict, first_line};
-use desk_text::{each_line_ends_once, read_entry, read_opening};
+use desk_text::{LastMinute, each_line_ends_once, read_next_entry, read_opening};
 use duty_record::DutyRecords;
 use std::alloc::Global;
 
@@ -37,9 +37,11 @@ fn read_entries(alloc: Global, text: &[u8]) -> Result<DutyRecords, Verdict>
     let mut records = DutyRecords::new(alloc);
     let mut left = text;
     let mut count: u32 = 0;
+    let mut stated_last = LastMinute::new();
+    let mut moment_last = LastMinute::new();
     while !left.is_empty() {
         let (line, behind) = first_line(left);
-        let Some(entry) = &read_entry(line) else {
+        let Some(entry) = &read_next_entry(&mut stated_last, &mut moment_last, line) else {
             return Err(Verdict::Unreadable(count + 2));
         };
         match records.read(entry) {

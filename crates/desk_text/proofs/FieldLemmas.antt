@@ -9,8 +9,10 @@ use Rattle.desk_model.specs.Opening.{OpeningValue, edition_fields}
 use Rattle.desk_model.specs.Journal.{opening_line}
 use Rattle.desk_model.specs.Entry.{EntryValue}
 use Rattle.desk_model.specs.StatedTexts.{stated_fields}
+use Rattle.desk_model.specs.declared.reply.Reply.{Reply}
 use Rattle.desk_model.specs.ReplyTexts.{reply_text}
 use Rattle.desk_model.specs.Journal.{entry_line}
+use Rattle.desk_text.specs.Line.{outcome_line}
 use Rattle.desk_text.specs.Marked.{marked}
 
 -- a line to which these fields were added, each behind a comma
@@ -23,9 +25,12 @@ added-marked line [] = sym (append-nil line)
 added-marked line (field ∷ fields) = added-marked (line ++ 44 ∷ field) fields ∙ append_assoc line (44 ∷ field) (marked fields)
 
 pub entry_line-pieces : (e : EntryValue) → entry_line e
-    ≡ ((((((decimal e.caller ++ 124 ∷ []) ++ join_with_byte 44 (stated_fields e.stated)) ++ 124 ∷ []) ++ minute_text e.moment) ++ 124 ∷ []) ++ reply_text e.reply) ++ 10 ∷ []
+    ≡ (((decimal e.caller ++ 124 ∷ []) ++ join_with_byte 44 (stated_fields e.stated)) ++ 124 ∷ []) ++ outcome_line e.moment e.reply
 unfolding entry_line
 entry_line-pieces e = simp append_assoc
+
+pub outcome_line-pieces : (front : List ℕ) (moment : ℕ) (r : Reply) → front ++ outcome_line moment r ≡ (((front ++ minute_text moment) ++ 124 ∷ []) ++ reply_text r) ++ 10 ∷ []
+outcome_line-pieces front moment r = simp append_assoc
 
 -- a field, and what names an edition behind it
 joined-last : (field : List ℕ) (e : Edition) → join_with_byte 44 (field ∷ edition_fields e) ≡ field ++ marked (edition_fields e)

@@ -3,7 +3,7 @@ use Rattle.std.specs.Result.{result_ok}
 use Rattle.std.proofs.Common.{◌≡◌, ◌∙◌, ℕ, suc, Result, Ok, Err, IfOk, IfSome, ◌<◌, ◌≤◌, ◌==◌, Bool, true, false, not, List, [], ◌∷◌, ◌++◌, length, get_or, take, decimal, refl, sym, ap, arith, append_assoc}
 use Rattle.std.specs.List.{All, join_with_byte}
 use Rattle.std.proofs.lemmas.Bool.Decides.{nat_tests}
-use Rattle.std.proofs.lemmas.List.{take_all, append_cancel_right}
+use Rattle.std.proofs.lemmas.List.{take_all, append_cancel_left, append_cancel_right}
 use Rattle.std.proofs.lemmas.List.Splits.{join_with_byte-slice_split}
 use Rattle.std.proofs.lemmas.List.Sums.{AllPass-from_list_all}
 use Rattle.desk_base.specs.Minute.{minute_text}
@@ -19,7 +19,8 @@ use Rattle.desk_model.specs.StatedTexts.{event_fields, command_fields, stated_fi
 use Rattle.desk_model.specs.Statement.{StatedValue}
 use Rattle.desk_model.specs.declared.limits.TheConstants.{LAST_CALLER}
 use Rattle.desk_text.specs.declared.statement.Statement.{Statement}
-use Rattle.desk_text.specs.SpelledEntry.{IsEntryLine, SpellsStated, SpellsEntry, BeginsEntry}
+use Rattle.desk_text.specs.Line.{outcome_line}
+use Rattle.desk_text.specs.SpelledEntry.{IsEntryLine, SpellsStated, SpellsEntry, BeginsEntry, statement_of}
 use Rattle.desk_text.proofs.FirstFieldsLemmas.{take-short}
 use Rattle.desk_text.proofs.PlainLemmas.{Passes, IsInner, is_inner, join, weaker, number, minute_in}
 use Rattle.desk_text.proofs.LineLemmas.{stated_inner}
@@ -122,10 +123,31 @@ entry_line-beginning e = simp append_assoc
 
 -- a caller and what is stated, spelled in a line's first parts, are who stated what by it
 pub BeginsEntry-parts : (line caller rest stated outcome : List ℕ) (s : Statement) → s.caller ≤ LAST_CALLER → line ≡ caller ++ 124 ∷ rest → rest ≡ stated ++ 124 ∷ outcome
-    → caller ≡ decimal s.caller → SpellsStated stated s.stated → BeginsEntry line s
+    → caller ≡ decimal s.caller → SpellsStated stated s.stated → BeginsEntry line outcome s
 BeginsEntry-parts line caller rest stated outcome s is a b c spells = record {
   caller_in = is;
   valid = spells.valid;
-  outcome = outcome;
   line_is = rw (a, b, c, spells.text_is) refl;
 }
+
+entry_line-parts-outcome : (e : EntryValue) → entry_line e ≡ decimal e.caller ++ 124 ∷ (join_with_byte 44 (stated_fields e.stated) ++ 124 ∷ outcome_line e.moment e.reply)
+unfolding entry_line
+entry_line-parts-outcome e = simp append_assoc
+
+-- a line that begins so is that of an entry by the same caller, of the same command, exactly where its outcome is the entry's
+pub BeginsEntry-outcome : (line outcome : List ℕ) (s : Statement) (e : EntryValue) → BeginsEntry line outcome s → s ≡ statement_of e → line ≡ entry_line e → outcome ≡ outcome_line e.moment e.reply
+BeginsEntry-outcome line outcome s e begins same is =
+    let front : List ℕ = decimal e.caller ++ 124 ∷ (join_with_byte 44 (stated_fields e.stated) ++ 124 ∷ []) in
+    append_cancel_left front outcome (outcome_line e.moment e.reply) (
+        sym (front-of e.caller e.stated outcome)
+        ∙ ap (λ t. decimal t.caller ++ 124 ∷ (join_with_byte 44 (stated_fields t.stated) ++ 124 ∷ outcome)) (sym same) ∙ sym begins.line_is ∙ is
+        ∙ entry_line-parts-outcome e ∙ front-of e.caller e.stated (outcome_line e.moment e.reply))
+  where
+    front-of : (caller : ℕ) (t : StatedValue) (x : List ℕ)
+        → decimal caller ++ 124 ∷ (join_with_byte 44 (stated_fields t) ++ 124 ∷ x) ≡ (decimal caller ++ 124 ∷ (join_with_byte 44 (stated_fields t) ++ 124 ∷ [])) ++ x
+    front-of caller t x = simp append_assoc
+
+pub entry_line-outcome : (line outcome : List ℕ) (s : Statement) (e : EntryValue) → BeginsEntry line outcome s → s ≡ statement_of e → outcome ≡ outcome_line e.moment e.reply → line ≡ entry_line e
+entry_line-outcome line outcome s e begins same is =
+    begins.line_is ∙ ap (λ t. decimal t.caller ++ 124 ∷ (join_with_byte 44 (stated_fields t.stated) ++ 124 ∷ outcome)) same
+    ∙ ap (λ x. decimal e.caller ++ 124 ∷ (join_with_byte 44 (stated_fields e.stated) ++ 124 ∷ x)) is ∙ sym (entry_line-parts-outcome e)

@@ -33,9 +33,8 @@ pub record SpellsEntry (caller stated moment reply : List ℕ) (e : EntryValue) 
 abbrev pub statement_of : EntryValue → Statement
 statement_of e = record { caller = e.caller; stated = e.stated }
 
--- the line begins with who stated what, as that of an entry does
-pub record BeginsEntry (line : List ℕ) (s : Statement) : Type 0 where
+-- the line is that of who stated what as far as it tells that, and this outcome is behind it
+pub record BeginsEntry (line outcome : List ℕ) (s : Statement) : Type 0 where
   pub caller_in : s.caller ≤ LAST_CALLER
   pub valid : IsStated s.stated
-  pub outcome : List ℕ
   pub line_is : line ≡ decimal s.caller ++ 124 ∷ (join_with_byte 44 (stated_fields s.stated) ++ 124 ∷ outcome)

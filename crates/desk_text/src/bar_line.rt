@@ -4,7 +4,7 @@ ghost use Rattle.arrayvec.specs.ArrayVec.{array_vec_len};
 ghost use Rattle.desk_base.specs.Month.{month_text};
 ghost use Rattle.desk_model.specs.BarTexts.{late_text, kept_text, bar_text};
 
-use crate::line_text::{LineText, put, put_number};
+use crate::line_text::{LineText, put, put_byte, put_number};
 use denial_rules::{Bar, name};
 use desk_base::{Minute, Month, YEARS_END};
 
@@ -32,23 +32,23 @@ fn put_kept(line: &mut LineText, bar: &Bar)
             put_number(line, vacancy.number());
         }
         Bar::OnOffer(vacancy) => {
-            put(line, b" ");
+            put_byte(line, b' ');
             put_number(line, vacancy.number());
         }
         Bar::Elsewhere(place) => {
-            put(line, b" ");
+            put_byte(line, b' ');
             put(line, place.text());
         }
         Bar::OtherCraft(craft) => {
-            put(line, b" ");
+            put_byte(line, b' ');
             put(line, craft.text());
         }
         Bar::Lacks(number) => {
-            put(line, b" ");
+            put_byte(line, b' ');
             put_number(line, u32::from(*number));
         }
         Bar::Held(ends) | Bar::Rest(ends) | Bar::MoreRest(ends) | Bar::Undisturbed(ends) => {
-            put(line, b" ");
+            put_byte(line, b' ');
             put_late(line, *ends);
         }
         Bar::SixDays { run, need } | Bar::SevenDays { run, need } => put_days(line, *run, *need),
@@ -64,9 +64,9 @@ fn put_days(line: &mut LineText, run: u32, need: u32)
     ensures text { line.new.items ≡ line.old.items ++ 32 ∷ decimal run ++ 32 ∷ decimal need }
     ensures len { array_vec_len line.new ≤ array_vec_len line.old + 22 }
 {
-    put(line, b" ");
+    put_byte(line, b' ');
     put_number(line, run);
-    put(line, b" ");
+    put_byte(line, b' ');
     put_number(line, need);
 }
 
@@ -76,9 +76,9 @@ fn put_total(line: &mut LineText, month: Month, total: u32)
     ensures text { line.new.items ≡ line.old.items ++ 32 ∷ month_text month ++ 32 ∷ decimal total }
     ensures len { array_vec_len line.new ≤ array_vec_len line.old + 19 }
 {
-    put(line, b" ");
+    put_byte(line, b' ');
     put(line, &month.write());
-    put(line, b" ");
+    put_byte(line, b' ');
     put_number(line, total);
 }
 

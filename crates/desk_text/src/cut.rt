@@ -2,7 +2,7 @@
 ghost use Rattle.std.specs.Prelude.{◌≡◌, ◌≢◌, ◌==◌, ◌∷◌, ◌++◌, ℕ, List, false, IfSome, IfNone, IsSomeAnd};
 ghost use Rattle.std.specs.List.{All};
 
-use desk_base::split_once;
+use memchr::memchr;
 
 /// What stands before the first mark, and what stands behind it; `None` where there is no mark.
 pub fn cut(text: &[u8], mark: u8) -> Option<(&[u8], &[u8])>
@@ -11,11 +11,8 @@ pub fn cut(text: &[u8], mark: u8) -> Option<(&[u8], &[u8])>
         → text.now ≡ front ++ mark ∷ back
         → IsSomeAnd result (λ parts. (parts.0.now ≡ front) × (parts.1.now ≡ back)) }
 {
-    let (front, after) = split_once(text, mark);
-    match after {
-        Some(back) => Some((front, back)),
-        None => None,
-    }
+    let at = memchr(mark, text)?;
+    Some((&text[..at], &text[at + 1..]))
 }
 
 /// What stands behind the head of a text; `None` where the text begins otherwise.

@@ -3,8 +3,8 @@ ghost use Rattle.std.specs.Prelude.{◌≡◌};
 ghost use Rattle.desk_model.specs.Journal.{entry_line};
 
 use crate::last_minute::LastMinute;
-use crate::line_text::{LineText, put, put_number};
-use crate::reply_line::put_reply;
+use crate::line_text::{LineText, put_byte, put_number};
+use crate::outcome_line::put_outcome;
 use crate::stated_line::put_stated;
 use desk_model::Entry;
 
@@ -31,11 +31,8 @@ pub fn fill_with_entry(
 {
     line.clear();
     put_number(line, u32::from(entry.caller()));
-    put(line, b"|");
+    put_byte(line, b'|');
     put_stated(line, stated, entry.stated());
-    put(line, b"|");
-    put(line, &moment.write(entry.moment()));
-    put(line, b"|");
-    put_reply(line, &entry.reply());
-    put(line, b"\n");
+    put_byte(line, b'|');
+    put_outcome(line, moment, entry.moment(), &entry.reply());
 }

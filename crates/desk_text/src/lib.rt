@@ -68,9 +68,9 @@ pub use more_commands::{bytes_state_one_list_of_commands, read_more};
 pub use more_fault::MoreFault;
 pub use one_statement::a_record_states_one_command;
 pub use opening_line::write_opening;
-pub use outcome_line::{write_bar, write_outcome};
+pub use outcome_line::{fill_with_outcome, write_bar, write_outcome};
 pub use read_fail::ReadFail;
-pub use spelled_entry::{read_entry, read_statement};
+pub use spelled_entry::{read_entry, read_next_entry, read_statement};
 pub use statement::Statement;
 pub use table_of_records::{
     a_record_is_wrong_at_one_place, the_table_has_just_the_records_of_commands,

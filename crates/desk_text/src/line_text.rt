@@ -1,5 +1,5 @@
 //! Lines of text, built piece by piece in a buffer of their own.
-ghost use Rattle.std.specs.Prelude.{◌≡◌, ◌≤◌, ◌+◌, ◌∷◌, ◌++◌, length, decimal};
+ghost use Rattle.std.specs.Prelude.{◌≡◌, ◌≤◌, ◌+◌, [], ◌∷◌, ◌++◌, length, decimal};
 ghost use Rattle.arrayvec.specs.ArrayVec.{array_vec_len};
 
 use arrayvec::ArrayVec;
@@ -17,6 +17,15 @@ pub fn put(line: &mut LineText, text: &[u8])
     line.try_extend_from_slice(text).unwrap();
 }
 
+/// Adds a byte at the end of the line.
+pub fn put_byte(line: &mut LineText, byte: u8)
+    requires { array_vec_len line.old + 1 ≤ 512 }
+    ensures text { line.new.items ≡ line.old.items ++ byte ∷ [] }
+    ensures len { array_vec_len line.new ≡ array_vec_len line.old + 1 }
+{
+    line.push(byte);
+}
+
 /// Adds a number in decimal, 10 digits at most.
 pub fn put_number(line: &mut LineText, number: u32)
     requires { array_vec_len line.old + 10 ≤ 512 }
@@ -32,7 +41,7 @@ pub fn put_field(line: &mut LineText, field: &[u8])
     ensures text { line.new.items ≡ line.old.items ++ 44 ∷ field.now }
     ensures len { array_vec_len line.new ≡ array_vec_len line.old + length field.now + 1 }
 {
-    put(line, b",");
+    put_byte(line, b',');
     put(line, field);
 }
 

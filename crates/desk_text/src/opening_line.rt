@@ -4,7 +4,7 @@ ghost use Rattle.desk_model.specs.Journal.{opening_line};
 ghost use Rattle.desk_model.specs.Opening.{edition_fields};
 ghost use Rattle.desk_text.specs.Marked.{marked};
 
-use crate::line_text::{LineText, put, put_number};
+use crate::line_text::{LineText, put, put_byte, put_number};
 use desk_model::{Edition, Opening};
 
 /// The opening's line of the journal.
@@ -16,12 +16,12 @@ pub fn write_opening(opening: &Opening) -> LineText
     put(&mut line, &opening.start().write());
     put(&mut line, b",open,");
     put(&mut line, &window.first().write());
-    put(&mut line, b",");
+    put_byte(&mut line, b',');
     put_number(&mut line, u32::from(window.months()));
-    put(&mut line, b",");
+    put_byte(&mut line, b',');
     put_number(&mut line, u32::from(opening.answer()));
     put(&mut line, edition_text(opening.edition()));
-    put(&mut line, b"\n");
+    put_byte(&mut line, b'\n');
     line
 }
 

@@ -4,7 +4,7 @@ ghost use Rattle.arrayvec.specs.ArrayVec.{array_vec_len};
 ghost use Rattle.desk_model.specs.ReplyTexts.{state_text, stage_text, fault_text, reply_text};
 
 use crate::bar_line::{put_bar, put_late};
-use crate::line_text::{LineText, put, put_number};
+use crate::line_text::{LineText, put, put_byte, put_number};
 use crate::stated_line::kind_text;
 use desk_model::{Reply, VacState};
 use duty_events::{EventFault, Stage};
@@ -41,7 +41,7 @@ pub fn put_reply(line: &mut LineText, reply: &Reply)
         Reply::Clear { board, position } => {
             put(line, b"clear ");
             put(line, board.text());
-            put(line, b" ");
+            put_byte(line, b' ');
             put_number(line, u32::from(*position));
         }
         Reply::Unfilled { listed } => {
@@ -51,7 +51,7 @@ pub fn put_reply(line: &mut LineText, reply: &Reply)
         Reply::Hours { used, capped } => {
             put(line, b"hours ");
             put_number(line, *used);
-            put(line, b" ");
+            put_byte(line, b' ');
             put_number(line, *capped);
         }
         Reply::Seen(person) => {
@@ -114,9 +114,9 @@ pub fn put_reply(line: &mut LineText, reply: &Reply)
         } => {
             put(line, b"offered ");
             put_number(line, person.number());
-            put(line, b" ");
+            put_byte(line, b' ');
             put(line, board.text());
-            put(line, b" ");
+            put_byte(line, b' ');
             put_number(line, u32::from(*position));
         }
     }
@@ -163,9 +163,9 @@ fn put_stage(line: &mut LineText, stage: &Stage)
         Stage::Interim { kind, since, place } => {
             put(line, b"interim ");
             put(line, kind_text(kind));
-            put(line, b" ");
+            put_byte(line, b' ');
             put(line, &since.write());
-            put(line, b" ");
+            put_byte(line, b' ');
             put(line, place.text());
         }
     }

@@ -1,5 +1,5 @@
 //! Entries, and what was stated by whom, read from lines of a journal.
-ghost use Rattle.std.specs.Prelude.{◌≡◌, ◌≤◌, ℕ, decimal, IfSome};
+ghost use Rattle.std.specs.Prelude.{◌≡◌, ◌≤◌, ℕ, decimal, IfSome, IsSomeAnd};
 ghost use Rattle.desk_model.specs.declared.limits.TheConstants.{LAST_CALLER};
 ghost use Rattle.desk_model.specs.Entry.{EntryValue};
 ghost use Rattle.desk_model.specs.Statement.{StatedValue};
@@ -11,7 +11,7 @@ use crate::last_minute::LastMinute;
 use crate::line_fields::fields_of_line;
 use crate::spelled_reply::read_reply;
 use crate::statement::Statement;
-use desk_base::{Minute, read_decimal};
+use desk_base::read_decimal;
 use desk_model::{Entry, LAST_CALLER, Stated};
 
 /// The entry of a line of the journal, `caller|command|moment|reply` with its line feed; `None` for every other text: the line
@@ -20,34 +20,56 @@ pub fn read_entry(line: &[u8]) -> Option<Entry>
     ensures some { IfSome result (IsEntryLine line.now) }
     ensures only { (e : EntryValue) → IsEntryLine line.now e → result ≡ Some e }
 {
+    read_next_entry(&mut LastMinute::new(), &mut LastMinute::new(), line)
+}
+
+/// The same of a line behind others. The last minutes are those that the lines before it named: they only spare work.
+pub fn read_next_entry(
+    stated_last: &mut LastMinute,
+    moment_last: &mut LastMinute,
+    line: &[u8],
+) -> Option<Entry>
+    ensures some { IfSome result (IsEntryLine line.now) }
+    ensures only { (e : EntryValue) → IsEntryLine line.now e → result ≡ Some e }
+{
     let (caller, rest) = cut(before(line, b"\n")?, b'|')?;
     let (stated, rest) = cut(rest, b'|')?;
     let (moment, reply) = cut(rest, b'|')?;
-    read_parts(caller, stated, moment, reply)
+    read_parts(stated_last, moment_last, caller, stated, moment, reply)
 }
 
-/// Who stated what by a line of the journal, read as far as that stands in it: `caller|command|`. It is `None` where the line
-/// begins otherwise. `last` is the minute that the lines before it stated last: it only spares work.
-pub fn read_statement(last: &mut LastMinute, line: &[u8]) -> Option<Statement>
-    ensures some { IfSome result (BeginsEntry line.now) }
-    ensures only { (e : EntryValue) → IsEntryLine line.now e → result ≡ Some (statement_of e) }
+/// Who stated what by a line of the journal, read as far as that stands in it, `caller|command|`, and the outcome that stands
+/// behind it, as it is. It is `None` where the line begins otherwise. `last` is the minute that the lines before it stated last: it
+/// only spares work.
+pub fn read_statement<'a>(last: &mut LastMinute, line: &'a [u8]) -> Option<(Statement, &'a [u8])>
+    ensures some { IfSome result (λ read. BeginsEntry line.now read.1.now read.0) }
+    ensures only { (e : EntryValue) → IsEntryLine line.now e
+        → IsSomeAnd result (λ read. read.0 ≡ statement_of e) }
 {
     let (caller, rest) = cut(line, b'|')?;
-    let (stated, _outcome) = cut(rest, b'|')?;
-    Some(Statement {
+    let (stated, outcome) = cut(rest, b'|')?;
+    let statement = Statement {
         caller: read_caller(caller)?,
         stated: read_stated(last, stated)?,
-    })
+    };
+    Some((statement, outcome))
 }
 
-fn read_parts(caller: &[u8], stated: &[u8], moment: &[u8], reply: &[u8]) -> Option<Entry>
+fn read_parts(
+    stated_last: &mut LastMinute,
+    moment_last: &mut LastMinute,
+    caller: &[u8],
+    stated: &[u8],
+    moment: &[u8],
+    reply: &[u8],
+) -> Option<Entry>
     ensures some { IfSome result (SpellsEntry caller.now stated.now moment.now reply.now) }
     ensures only { (e : EntryValue) → SpellsEntry caller.now stated.now moment.now reply.now e
         → result ≡ Some e }
 {
     let caller = read_caller(caller)?;
-    let stated = read_stated(&mut LastMinute::new(), stated)?;
-    let moment = Minute::read(moment)?;
+    let stated = read_stated(stated_last, stated)?;
+    let moment = moment_last.read(moment)?;
     let reply = read_reply(reply)?;
     Some(Entry::new(caller, stated, moment, reply))
 }

@@ -6,7 +6,7 @@ ghost use Rattle.desk_model.specs.History.{History, opened, with_entry};
 ghost use Rattle.desk_text.specs.declared.reply_sort.ReplySort.TheVariants as sort;
 ghost use Rattle.desk_text.specs.Tally.{Counts, tally_text, count_line, count};
 
-use crate::line_text::{LineText, put};
+use crate::line_text::{LineText, put, put_byte};
 use crate::reply_sort::ReplySort;
 use desk_base::Minute;
 use desk_model::{Entry, Opening, what_an_entry_makes_of_the_desk};
@@ -82,7 +82,7 @@ impl Tally {
         put_count(&mut text, b"refused", self.refused);
         put(&mut text, b"moment ");
         put(&mut text, &self.moment.write());
-        put(&mut text, b"\n");
+        put_byte(&mut text, b'\n');
         text
     }
 }
@@ -94,9 +94,9 @@ fn put_count(text: &mut LineText, word: &[u8], count: u64)
     ensures len { array_vec_len text.new ≤ array_vec_len text.old + length word.now + 22 }
 {
     put(text, word);
-    put(text, b" ");
+    put_byte(text, b' ');
     put(text, Buffer::new().format(count).as_bytes());
-    put(text, b"\n");
+    put_byte(text, b'\n');
 }
 
 /// The six sorts of a tally add up to all commands. It does nothing: its clause is the law.

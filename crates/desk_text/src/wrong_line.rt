@@ -2,7 +2,7 @@
 ghost use Rattle.std.specs.Prelude.{◌≡◌};
 ghost use Rattle.desk_text.specs.Line.{wrong_line};
 
-use crate::line_text::{LineText, put, put_number};
+use crate::line_text::{LineText, put, put_byte, put_number};
 
 /// The line that says which field of which record is the first wrong one. Both are counted from 1.
 pub fn write_wrong(record_no: u32, field: u8) -> LineText
@@ -11,8 +11,8 @@ pub fn write_wrong(record_no: u32, field: u8) -> LineText
     let mut line = LineText::new();
     put(&mut line, b"unreadable ");
     put_number(&mut line, record_no);
-    put(&mut line, b" ");
+    put_byte(&mut line, b' ');
     put_number(&mut line, u32::from(field));
-    put(&mut line, b"\n");
+    put_byte(&mut line, b'\n');
     line
 }

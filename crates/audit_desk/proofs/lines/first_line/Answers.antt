@@ -1,31 +1,19 @@
-use Rattle.std.proofs.Common.{◌≡◌, ◌∙◌, ◌∷◌, ◌++◌, [], length, ap, arith, length-append}
-use Rattle.desk_base.specs.Parts.{parts_by}
-use Rattle.audit_desk.proofs.LineLemmas.{with-feed, first-is, no-feed, fed-front, fed-back}
+use Rattle.std.proofs.Common.{◌≡◌, ◌∙◌, ◌+◌, ◌∷◌, ◌++◌, [], Some, None, length, take, drop, ap, arith}
+use Rattle.memchr.specs.Find.{IsFirstByte, is_byte}
+use Rattle.desk_text.proofs.CutLemmas.{parts_by-found, parts_by-absent}
+use Rattle.audit_desk.proofs.LineLemmas.{take-feed, first-is, no-feed}
 use Rattle.audit_desk.proofs.lines.first_line.Goals as goal
 
-pub split_at-requires : goal.split_at-requires
-split_at-requires c =
-    let front = c.split_once.result.0.now in
-    let back = c.in-Some.field-0.now in
-    let parts : parts_by 10 c.args.text.now ≡ front ∷ parts_by 10 back = rw (c.in-Some.is) at c.split_once.ensures.parts in
-    omega (arith, ap length (with-feed c.args.text.now front back parts), length-append (front ++ 10 ∷ []) back, length-append front (10 ∷ []))
-
-pub returns-in-Some : goal.returns-in-Some
-returns-in-Some c =
+pub returns-in-Some-clause-line : goal.returns-in-Some-clause-line
+returns-in-Some-clause-line c = λ line rest is e.
     let text = c.args.text.now in
-    let front = c.split_once.result.0.now in
-    let back = c.in-Some.field-0.now in
-    let parts : parts_by 10 text ≡ front ∷ parts_by 10 back = rw (c.in-Some.is) at c.split_once.ensures.parts in
-    let whole = with-feed text front back parts in
-    let one : c.split_at.result.0.now ≡ front ++ 10 ∷ [] = c.split_at.ensures.front ∙ fed-front text front back whole in
-    let other : c.split_at.result.1.now ≡ back = c.split_at.ensures.back ∙ fed-back text front back whole in
-    record {
-      parts = rw (one, other) whole;
-      line = λ line rest is e. let first = first-is text front back line rest parts is e in (one ∙ first.0, other ∙ first.1);
-      shorter = λ some. omega (arith, ap length other, ap length whole, length-append (front ++ 10 ∷ []) back, length-append front (10 ∷ []));
-    }
+    let at = c.in-Some.at in
+    let found : IsFirstByte (is_byte 10) text (Some at) = rw (c.in-Some.is) at c.memchr.ensures in
+    let first = first-is text (take at text) (drop (at + 1) text) line rest (parts_by-found 10 at text found) is e in
+    (c.split_at.ensures.front ∙ take-feed at text found ∙ first.0, c.split_at.ensures.back ∙ first.1)
 
 pub returns-in-None-clause-line : goal.returns-in-None-clause-line
 returns-in-None-clause-line c = λ line rest is e.
-    let parts : parts_by 10 c.args.text.now ≡ c.split_once.result.0.now ∷ [] = rw (c.in-None.is) at c.split_once.ensures.parts in
-    absurd (no-feed c.args.text.now c.split_once.result.0.now line rest parts is e)
+    let text = c.args.text.now in
+    let none : IsFirstByte (is_byte 10) text None = rw (c.in-None.is) at c.memchr.ensures in
+    absurd (no-feed text text line rest (parts_by-absent 10 text none) is e)

@@ -21,7 +21,7 @@ pub returns-in_default-clause-unread : goal.returns-in_default-clause-unread
 returns-in_default-clause-unread c = λ memory o valid.
     HasNoEntry-next c.loop-left.records _ c.loop-left.left.now c.first_line.result.0.now c.first_line.result.1.now c.loop-left.count (c.loop-left.count + 2)
     (c.loop-left.invariant.read o valid) (some-left c.loop-left.left.now c.loop-left-test.ensures) c.each_line_ends_once.ensures.entry c.first_line.ensures.line
-    (λ e is. let found = c.read_entry.ensures.only e is in let missing = c.in_default.is in cc) refl
+    (λ e is. let found = c.read_next_entry.ensures.only e is in let missing = c.in_default.is in cc) refl
 
 pub loop-left-preserved : goal.loop-left-preserved
 loop-left-preserved c = record {
@@ -29,7 +29,7 @@ loop-left-preserved c = record {
   read = λ o valid.
       let has = c.loop-left.invariant.read o valid in
       HasRead-more c.loop-left.records c.read.new.self _ c.loop-left.left.now c.first_line.result.0.now c.first_line.result.1.now c.loop-left.count c.in-Some.entry has
-      c.first_line.ensures.parts (rw (c.in-Some.is) at c.read_entry.ensures.some) (rw (c.in-Ok.is) at (c.read.ensures has.history has.keeps));
+      c.first_line.ensures.parts (rw (c.in-Some.is) at c.read_next_entry.ensures.some) (rw (c.in-Ok.is) at (c.read.ensures has.history has.keeps));
 }
 
 pub returns-clause-read : goal.returns-clause-read

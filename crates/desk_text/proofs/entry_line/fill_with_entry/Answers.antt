@@ -6,7 +6,7 @@ use Rattle.desk_text.proofs.entry_line.fill_with_entry.Goals as goal
 
 pub returns : goal.returns
 returns c =
-    let stated = c.put_stated.ensures.text ∙ ap (λ s. c.put.new.line.items ++ join_with_byte 44 (stated_fields s)) c.stated.ensures in
-    rw (c.put-5.ensures.text, c.put_reply.ensures.text, c.put-4.ensures.text, c.put-3.ensures.text, c.put-2.ensures.text, stated, c.put.ensures.text, c.put_number.ensures.text, c.clear.ensures)
-    (rw (c.reply.ensures, c.write.ensures, c.moment.ensures, c.from.ensures, c.caller.ensures.value)
+    let stated = c.put_stated.ensures.text ∙ ap (λ s. c.put_byte.new.line.items ++ join_with_byte 44 (stated_fields s)) c.stated.ensures in
+    rw (c.put_outcome.ensures, c.put_byte-2.ensures.text, stated, c.put_byte.ensures.text, c.put_number.ensures.text, c.clear.ensures)
+    (rw (c.reply.ensures, c.moment.ensures, c.from.ensures, c.caller.ensures.value)
     (sym (entry_line-pieces c.args.entry.now)))

@@ -1,7 +1,7 @@
 use Rattle.std.proofs.Common.{◌∙◌}
 use Rattle.std.proofs.lemmas.Option.{IfSome_then}
 use Rattle.desk_text.proofs.SpelledEntryLemmas.{parts_text, entry_line-parts, before-line_feed, line-of-parts, caller-unbarred, stated-unbarred, moment-unbarred}
-use Rattle.desk_text.proofs.spelled_entry.read_entry.Goals as goal
+use Rattle.desk_text.proofs.spelled_entry.read_next_entry.Goals as goal
 
 pub returns-in_err-before-clause-only : goal.returns-in_err-before-clause-only
 returns-in_err-before-clause-only c = λ e is. absurd (c.in_err-before.ensures.none _ (is.line_is ∙ entry_line-parts e))
