@@ -90,7 +90,7 @@ fn time_off_by_days_in_a_row(rt: HostRuntime) {
         (100, 4_320),
     ];
     for (run, wanted) in table {
-        assert_eq!(rt; need(run), wanted);
+        assert!(rt; need(run) == wanted);
     }
 }
 
@@ -137,7 +137,7 @@ fn days_in_a_row(rt: HostRuntime) -> Result<(), Fail> {
     ];
     for (tours, wanted) in table {
         let events = told(rt.alloc(), tours, &[])?;
-        assert_eq!(rt; run(&events), Some(wanted));
+        assert!(rt; run(&events) == Some(wanted));
     }
     Ok(())
 }
@@ -149,13 +149,13 @@ fn starts_of_tours_that_have_not_ended(rt: HostRuntime) -> Result<(), Fail> {
         march(10, 1_00).map(Event::Duty),
     ];
     let events = told(rt.alloc(), &FIVE, &ride)?;
-    assert_eq!(rt; run(&events), Some(6));
+    assert!(rt; run(&events) == Some(6));
     let services = [
         service(9, 8_00, 16_00, b"HOM"),
         service(10, 8_00, 16_00, b"HOM"),
     ];
     let events = told(rt.alloc(), &FIVE, &services)?;
-    assert_eq!(rt; run(&events), Some(5));
+    assert!(rt; run(&events) == Some(5));
     Ok(())
 }
 
@@ -174,8 +174,8 @@ fn six_days_that_end_away(rt: HostRuntime) -> Result<(), Fail> {
         (11, 16_00, false),
         (20, 8_00, false),
     ];
-    assert_eq!(rt; run(&events), Some(6));
-    assert_eq!(rt; wrong(&events, &reports), None);
+    assert!(rt; run(&events) == Some(6));
+    assert!(rt; wrong(&events, &reports).is_none());
     Ok(())
 }
 
@@ -200,12 +200,12 @@ fn six_days_by_numbers(rt: HostRuntime) -> Result<(), Fail> {
         (11, true, 2_880, true),
     ];
     for (day, away, longest, wanted) in table {
-        assert_eq!(rt; ok_by(&events, day, away, longest), Some(wanted));
+        assert!(rt; ok_by(&events, day, away, longest) == Some(wanted));
     }
-    assert_eq!(rt; next_run(5, 100, 100), 5);
-    assert_eq!(rt; next_run(5, 100, 101), 6);
-    assert_eq!(rt; next_run(5, 100, 102), 1);
-    assert_eq!(rt; next_run(0, 0, 0), 1);
+    assert!(rt; next_run(5, 100, 100) == 5);
+    assert!(rt; next_run(5, 100, 101) == 6);
+    assert!(rt; next_run(5, 100, 102) == 1);
+    assert!(rt; next_run(0, 0, 0) == 1);
     Ok(())
 }
 
@@ -224,7 +224,7 @@ fn seven_days(rt: HostRuntime) -> Result<(), Fail> {
         (13, 15_59, false),
         (13, 16_00, true),
     ];
-    assert_eq!(rt; run(&events), Some(7));
-    assert_eq!(rt; wrong(&events, &reports), None);
+    assert!(rt; run(&events) == Some(7));
+    assert!(rt; wrong(&events, &reports).is_none());
     Ok(())
 }

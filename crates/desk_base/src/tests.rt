@@ -3,8 +3,19 @@ use crate::{Code, Day, Minute, Month, NoMemory, PersonNo, VacNo, Window};
 use std::alloc::AllocError;
 use std::test::Fail;
 
+// Whether the text is that of the minute with this number, which is of this day and this month.
+fn is_known(text: &[u8], number: u64, day: u32, month: u16) -> bool {
+    let Some(minute) = Minute::read(text) else {
+        return false;
+    };
+    minute.number() == number
+        && Some(minute) == Minute::new(number)
+        && Day::of(minute).number() == day
+        && Month::of(minute).number() == month
+}
+
 #[test]
-fn minutes_of_known_dates(rt: HostRuntime) -> Result<(), Fail> {
+fn minutes_of_known_dates(rt: HostRuntime) {
     let known: [(&[u8], u64, u32, u16); 6] = [
         (b"2000-01-01 00:00", 15_778_080, 10_957, 360),
         (b"2000-02-29 23:59", 15_864_479, 11_016, 361),
@@ -14,25 +25,27 @@ fn minutes_of_known_dates(rt: HostRuntime) -> Result<(), Fail> {
         (b"2099-12-31 23:59", 68_374_079, 47_481, 1559),
     ];
     for (text, number, day, month) in known {
-        let minute = Minute::read(text).ok_or("not read")?;
-        assert_eq!(rt; minute.number(), number);
-        assert_eq!(rt; Some(minute), Minute::new(number));
-        assert_eq!(rt; Day::of(minute).number(), day);
-        assert_eq!(rt; Month::of(minute).number(), month);
+        assert!(rt; is_known(text, number, day, month));
     }
-    let minute = Minute::read(b"2024-02-29 12:34").ok_or("not read")?;
-    assert!(rt; minute.number() >= 15_778_080 && minute.number() < 68_374_080);
-    assert_eq!(rt; minute.write().as_slice(), b"2024-02-29 12:34".as_slice());
-    Ok(())
+    assert!(rt; is_written(b"2024-02-29 12:34"));
+}
+
+// Whether the text is that of a minute of the years 2000 to 2099, which is written so.
+fn is_written(text: &[u8]) -> bool {
+    let Some(minute) = Minute::read(text) else {
+        return false;
+    };
+    minute.number() >= 15_778_080
+        && minute.number() < 68_374_080
+        && minute.write().as_slice() == text
 }
 
 #[test]
 fn minutes_after_a_minute(rt: HostRuntime) {
-    assert_eq!(rt; Some(Minute::FIRST), Minute::new(0));
-    assert_eq!(rt; Some(Minute::FIRST.after(600)), Minute::new(600));
-    assert_eq!(rt;
-        Some(Minute::FIRST.after(600).after(15_777_480)),
-        Minute::read(b"2000-01-01 00:00")
+    assert!(rt; Some(Minute::FIRST) == Minute::new(0));
+    assert!(rt; Some(Minute::FIRST.after(600)) == Minute::new(600));
+    assert!(rt;
+        Some(Minute::FIRST.after(600).after(15_777_480)) == Minute::read(b"2000-01-01 00:00")
     );
 }
 
@@ -58,12 +71,23 @@ fn texts_that_are_no_minutes(rt: HostRuntime) {
         b"+024-03-04 00:00",
     ];
     for text in wrong {
-        assert_eq!(rt; Minute::read(text), None);
+        assert!(rt; Minute::read(text).is_none());
     }
 }
 
+// Whether the text is that of the month with this number, first minute and count of minutes.
+fn is_month(text: &[u8], number: u16, first: u64, minutes: u32) -> bool {
+    let Some(month) = Month::read(text) else {
+        return false;
+    };
+    Some(month) == Month::new(number)
+        && month.number() == number
+        && month.first().number() == first
+        && month.minutes() == minutes
+}
+
 #[test]
-fn months_of_the_calendar(rt: HostRuntime) -> Result<(), Fail> {
+fn months_of_the_calendar(rt: HostRuntime) {
     let known: [(&[u8], u16, u64, u32); 4] = [
         (b"2000-01", 360, 15_778_080, 44_640),
         (b"2023-02", 637, 27_920_160, 40_320),
@@ -71,34 +95,39 @@ fn months_of_the_calendar(rt: HostRuntime) -> Result<(), Fail> {
         (b"2099-12", 1559, 68_329_440, 44_640),
     ];
     for (text, number, first, minutes) in known {
-        let month = Month::read(text).ok_or("not read")?;
-        assert_eq!(rt; Some(month), Month::new(number));
-        assert_eq!(rt; month.first().number(), first);
-        assert_eq!(rt; month.minutes(), minutes);
+        assert!(rt; is_month(text, number, first, minutes));
     }
     let wrong: [&[u8]; 7] = [
         b"", b"2024-2", b"2024-00", b"2024-13", b"1999-12", b"2100-01", b"2024 02",
     ];
     for text in wrong {
-        assert_eq!(rt; Month::read(text), None);
+        assert!(rt; Month::read(text).is_none());
     }
-    let month = Month::new(649).ok_or("no month")?;
-    assert_eq!(rt; month.number(), 649);
-    assert_eq!(rt; Month::new(6125), None);
-    Ok(())
+    assert!(rt; Month::new(6125).is_none());
+}
+
+// The window of so many months from one on, if there is such a window; `None` where the text is no month's.
+fn window_of(first: &[u8], months: u8) -> Option<Option<Window>> {
+    Some(Window::new(Month::read(first)?, months))
+}
+
+// Whether the window is March 2024.
+fn is_march(window: &Window) -> bool {
+    Some(window.first()) == Month::read(b"2024-03")
+        && window.months() == 1
+        && Some(window.start()) == Minute::read(b"2024-03-01 00:00")
+        && Some(window.end()) == Minute::read(b"2024-04-01 00:00")
 }
 
 #[test]
 fn windows_end_in_2099(rt: HostRuntime) -> Result<(), Fail> {
-    let last = Month::read(b"2099-12").ok_or("not read")?;
-    let march = Month::read(b"2024-03").ok_or("not read")?;
-    assert_eq!(rt; Window::new(last, 2), None);
-    assert_eq!(rt; Window::new(march, 0), None);
-    assert_eq!(rt; Window::new(march, 25), None);
-    let window = Window::new(march, 1).ok_or("no window")?;
-    assert_eq!(rt; (window.first(), window.months()), (march, 1));
-    assert_eq!(rt; Some(window.start()), Minute::read(b"2024-03-01 00:00"));
-    assert_eq!(rt; Some(window.end()), Minute::read(b"2024-04-01 00:00"));
+    assert!(rt; window_of(b"2099-12", 2) == Some(None));
+    assert!(rt; window_of(b"2024-03", 0) == Some(None));
+    assert!(rt; window_of(b"2024-03", 25) == Some(None));
+    let whole = window_of(b"2099-12", 1).flatten().ok_or("no window")?;
+    assert!(rt; whole.end().number() == 68_374_080);
+    let window = window_of(b"2024-03", 1).flatten().ok_or("no window")?;
+    assert!(rt; is_march(&window));
     let held: [(&[u8], bool); 4] = [
         (b"2024-02-29 23:59", false),
         (b"2024-03-01 00:00", true),
@@ -106,11 +135,8 @@ fn windows_end_in_2099(rt: HostRuntime) -> Result<(), Fail> {
         (b"2024-04-01 00:00", false),
     ];
     for (text, is_held) in held {
-        let minute = Minute::read(text).ok_or("not read")?;
-        assert_eq!(rt; window.holds(minute), is_held);
+        assert!(rt; Minute::read(text).map(|minute| window.holds(minute)) == Some(is_held));
     }
-    let whole = Window::new(last, 1).ok_or("no window")?;
-    assert_eq!(rt; whole.end().number(), 68_374_080);
     Ok(())
 }
 
@@ -119,11 +145,11 @@ fn codes_and_numbers(rt: HostRuntime) -> Result<(), Fail> {
     let good: [&[u8]; 4] = [b"A", b"HOM", b"0Z9", b"ABC123"];
     for text in good {
         let code = Code::read(text).ok_or("not read")?;
-        assert_eq!(rt; code.text(), text);
+        assert!(rt; code.text() == text);
     }
     let wrong: [&[u8]; 6] = [b"", b"ABC1234", b"hom", b"A-B", b"[", b"/"];
     for text in wrong {
-        assert_eq!(rt; Code::read(text), None);
+        assert!(rt; Code::read(text).is_none());
     }
     let numbers = [
         (0, false),
@@ -132,15 +158,9 @@ fn codes_and_numbers(rt: HostRuntime) -> Result<(), Fail> {
         (10_000_000, false),
     ];
     for (number, is_number) in numbers {
-        assert_eq!(rt;
-            PersonNo::new(number).map(|p| p.number()),
-            is_number.then_some(number)
-        );
-        assert_eq!(rt;
-            VacNo::new(number).map(|v| v.number()),
-            is_number.then_some(number)
-        );
+        assert!(rt; PersonNo::new(number).map(|p| p.number()) == is_number.then_some(number));
+        assert!(rt; VacNo::new(number).map(|v| v.number()) == is_number.then_some(number));
     }
-    assert_eq!(rt; NoMemory::from(AllocError), NoMemory);
+    assert!(rt; NoMemory::from(AllocError) == NoMemory);
     Ok(())
 }

@@ -65,6 +65,3 @@ pub use person::Person;
 pub use reply::Reply;
 pub use stated::Stated;
 pub use vac_state::VacState;
-
-#[cfg(test)]
-mod tests;

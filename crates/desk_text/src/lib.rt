@@ -77,28 +77,3 @@ pub use table_of_records::{
 };
 pub use tally::{Tally, a_tally_adds_up};
 pub use wrong_line::write_wrong;
-
-#[cfg(test)]
-mod command_tests;
-#[cfg(test)]
-mod day_tests;
-#[cfg(test)]
-mod edition_tests;
-#[cfg(test)]
-mod more_tests;
-#[cfg(test)]
-mod read_line_tests;
-#[cfg(test)]
-mod read_reply_tests;
-#[cfg(test)]
-mod refused_line_tests;
-#[cfg(test)]
-mod refused_tests;
-#[cfg(test)]
-mod relief_tests;
-#[cfg(test)]
-mod reply_tests;
-#[cfg(test)]
-mod tests;
-#[cfg(test)]
-mod wrong_field_tests;

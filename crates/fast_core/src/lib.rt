@@ -23,6 +23,3 @@ mod step;
 mod told;
 
 pub use fast_core::FastCore;
-
-#[cfg(test)]
-mod tests;

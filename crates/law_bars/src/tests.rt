@@ -73,10 +73,7 @@ fn long_tour() -> Option<[Event; 3]> {
 
 #[test]
 fn sections_of_rest(rt: HostRuntime) -> Result<(), Fail> {
-    assert_eq!(rt;
-        bar(&[], march(4, 22_00), march(4, 22_00), 720, 999),
-        Some(None)
-    );
+    assert!(rt; bar(&[], march(4, 22_00), march(4, 22_00), 720, 999) == Some(None));
     let events = long_tour().ok_or("no events")?;
     let table = [
         (march(4, 22_00), march(5, 7_29), rest(march(5, 7_30))),
@@ -87,7 +84,7 @@ fn sections_of_rest(rt: HostRuntime) -> Result<(), Fail> {
         (march(5, 9_00), march(5, 9_00), Some(None)),
     ];
     for (call, report, wanted) in table {
-        assert_eq!(rt; bar(&events, call, report, 600, 0), wanted);
+        assert!(rt; bar(&events, call, report, 600, 0) == wanted);
     }
     Ok(())
 }
@@ -110,26 +107,17 @@ fn long_limbo() -> Option<[Event; 3]> {
 #[test]
 fn sections_of_a_month(rt: HostRuntime) -> Result<(), Fail> {
     let service = long_service().ok_or("no events")?;
-    assert_eq!(rt;
-        bar(&service, march(13, 12_00), march(14, 8_00), 600, 0),
-        Some(None)
+    assert!(rt; bar(&service, march(13, 12_00), march(14, 8_00), 600, 0) == Some(None));
+    assert!(rt;
+        bar(&service, march(13, 12_00), march(14, 8_00), 601, 0) == hours(b"2024-03", 16_561)
     );
-    assert_eq!(rt;
-        bar(&service, march(13, 12_00), march(14, 8_00), 601, 0),
-        hours(b"2024-03", 16_561)
-    );
-    assert_eq!(rt;
-        bar(&service, march(13, 12_00), march(14, 8_00), 600, 1),
-        hours(b"2024-03", 16_561)
+    assert!(rt;
+        bar(&service, march(13, 12_00), march(14, 8_00), 600, 1) == hours(b"2024-03", 16_561)
     );
     let waited = long_limbo().ok_or("no events")?;
-    assert_eq!(rt;
-        bar(&waited, march(4, 12_00), march(5, 8_00), 600, 120),
-        Some(None)
-    );
-    assert_eq!(rt;
-        bar(&waited, march(4, 12_00), march(5, 8_00), 600, 121),
-        limbo(b"2024-03", 1_801)
+    assert!(rt; bar(&waited, march(4, 12_00), march(5, 8_00), 600, 120) == Some(None));
+    assert!(rt;
+        bar(&waited, march(4, 12_00), march(5, 8_00), 600, 121) == limbo(b"2024-03", 1_801)
     );
     Ok(())
 }
@@ -139,23 +127,16 @@ fn sections_of_a_month(rt: HostRuntime) -> Result<(), Fail> {
 fn the_first_of_two_sections(rt: HostRuntime) -> Result<(), Fail> {
     let service = long_service().ok_or("no events")?;
     let ends = march(12, 12_00);
-    assert_eq!(rt;
-        bar(&service, march(12, 2_00), march(12, 11_59), 720, 0),
-        rest(ends)
-    );
-    assert_eq!(rt;
-        bar(&service, march(12, 11_59), march(14, 8_00), 720, 0),
-        undisturbed(ends)
-    );
+    assert!(rt; bar(&service, march(12, 2_00), march(12, 11_59), 720, 0) == rest(ends));
+    assert!(rt; bar(&service, march(12, 11_59), march(14, 8_00), 720, 0) == undisturbed(ends));
     let waited = long_limbo().ok_or("no events")?;
     let [duty, relieve, end] = waited;
     let span = march(5, 0_00).and_then(|from| Span::new(from, march(15, 6_00)?));
     let place = Code::read(b"HOM").ok_or("no place")?;
     let other = Event::Other(span.ok_or("no span")?, place);
     let both = [duty, relieve, end, other];
-    assert_eq!(rt;
-        bar(&both, march(16, 0_00), march(16, 8_00), 600, 121),
-        hours(b"2024-03", 18_001)
+    assert!(rt;
+        bar(&both, march(16, 0_00), march(16, 8_00), 600, 121) == hours(b"2024-03", 18_001)
     );
     Ok(())
 }
@@ -187,20 +168,11 @@ fn sections_of_days(rt: HostRuntime) -> Result<(), Fail> {
         run: 7,
         need: 4_320,
     }));
-    assert_eq!(rt;
-        bar(&days, march(12, 12_00), march(13, 15_59), 600, 0),
-        seven
-    );
-    assert_eq!(rt;
-        bar(&days, march(12, 12_00), march(13, 16_00), 600, 0),
-        Some(None)
-    );
+    assert!(rt; bar(&days, march(12, 12_00), march(13, 15_59), 600, 0) == seven);
+    assert!(rt; bar(&days, march(12, 12_00), march(13, 16_00), 600, 0) == Some(None));
     // the rest comes before the days
     let ends = march(11, 2_00);
-    assert_eq!(rt;
-        bar(&days, march(10, 17_00), march(11, 1_59), 600, 0),
-        rest(ends)
-    );
+    assert!(rt; bar(&days, march(10, 17_00), march(11, 1_59), 600, 0) == rest(ends));
     let home = seven_tours(b"HOM").ok_or("no events")?;
     let [d1, f1, d2, f2, d3, f3, d4, f4, d5, f5, d6, f6, _, _] = home;
     let six = [d1, f1, d2, f2, d3, f3, d4, f4, d5, f5, d6, f6];
@@ -208,17 +180,8 @@ fn sections_of_days(rt: HostRuntime) -> Result<(), Fail> {
         run: 6,
         need: 2_880,
     }));
-    assert_eq!(rt;
-        bar(&six, march(10, 12_00), march(10, 13_00), 600, 0),
-        barred
-    );
-    assert_eq!(rt;
-        bar(&six, march(10, 12_00), march(11, 15_59), 600, 0),
-        barred
-    );
-    assert_eq!(rt;
-        bar(&six, march(10, 12_00), march(11, 16_00), 600, 0),
-        Some(None)
-    );
+    assert!(rt; bar(&six, march(10, 12_00), march(10, 13_00), 600, 0) == barred);
+    assert!(rt; bar(&six, march(10, 12_00), march(11, 15_59), 600, 0) == barred);
+    assert!(rt; bar(&six, march(10, 12_00), march(11, 16_00), 600, 0) == Some(None));
     Ok(())
 }

@@ -87,7 +87,7 @@ fn interims_before_a_resume(rt: HostRuntime) {
         (Kind::D, 10_00, 10_00, Some((120, 0))),
     ];
     for (kind, resumed, released, wanted) in table {
-        assert_eq!(rt; hours_with_interim(kind, resumed, released), wanted);
+        assert!(rt; hours_with_interim(kind, resumed, released) == wanted);
     }
 }
 
@@ -95,7 +95,7 @@ fn interims_before_a_resume(rt: HostRuntime) {
 fn interims_before_a_final_release(rt: HostRuntime) {
     for kind in [Kind::D, Kind::P, Kind::O] {
         for released in [10_00, 10_01, 23_00] {
-            assert_eq!(rt; hours_released_in_interim(kind, released), Some((120, 0)));
+            assert!(rt; hours_released_in_interim(kind, released) == Some((120, 0)));
         }
     }
 }
@@ -114,7 +114,7 @@ fn tours_and_service_over_the_ends_of_days_and_months(rt: HostRuntime) {
         (b"2024-01-31 00:00", b"2024-03-02 00:00", b"2024-02", 41_760),
     ];
     for (begun, released, month, wanted) in tours {
-        assert_eq!(rt; hours_of_tour(begun, released, month), Some((wanted, 0)));
+        assert!(rt; hours_of_tour(begun, released, month) == Some((wanted, 0)));
     }
     let services = [
         (b"2024-03-31 23:00", b"2024-04-01 02:00", b"2024-03", 60),
@@ -122,7 +122,7 @@ fn tours_and_service_over_the_ends_of_days_and_months(rt: HostRuntime) {
         (b"2024-03-31 23:00", b"2024-04-01 00:00", b"2024-04", 0),
     ];
     for (from, to, month, wanted) in services {
-        assert_eq!(rt; hours_of_service(from, to, month), Some((wanted, 0)));
+        assert!(rt; hours_of_service(from, to, month) == Some((wanted, 0)));
     }
 }
 
@@ -137,7 +137,7 @@ fn limbo_before_and_behind_the_720th_minute(rt: HostRuntime) {
     ];
     for (relieved, day, released, wanted) in table {
         let found = hours_with_limbo(march(1, 0_00), march(1, relieved), march(day, released));
-        assert_eq!(rt; found, Some([(0, 0), wanted]));
+        assert!(rt; found == Some([(0, 0), wanted]));
     }
 }
 
@@ -149,7 +149,7 @@ fn limbo_over_the_end_of_a_month(rt: HostRuntime) {
     ];
     for (begun, released, wanted) in table {
         let found = hours_with_limbo(march(0, begun), march(0, 22_00), march(1, released));
-        assert_eq!(rt; found, Some(wanted));
+        assert!(rt; found == Some(wanted));
     }
 }
 
@@ -193,9 +193,9 @@ fn hours_of_two_tours() -> Option<(u32, u32)> {
 
 #[test]
 fn sums_of_tours(rt: HostRuntime) {
-    assert_eq!(rt; hours_of_rides(), Some((780, 60)));
-    assert_eq!(rt; hours_with_limbo_after_an_interim(), Some((780, 60)));
-    assert_eq!(rt; hours_of_two_tours(), Some((660 + 750, 30)));
+    assert!(rt; hours_of_rides() == Some((780, 60)));
+    assert!(rt; hours_with_limbo_after_an_interim() == Some((780, 60)));
+    assert!(rt; hours_of_two_tours() == Some((660 + 750, 30)));
 }
 
 // The interim that has not ended is counted nowhere.
@@ -217,7 +217,7 @@ fn hours_with_an_open_wait() -> Option<(u32, u32)> {
 
 #[test]
 fn what_has_not_ended_is_not_counted(rt: HostRuntime) {
-    assert_eq!(rt; hours(&[], b"2024-03"), Some((0, 0)));
-    assert_eq!(rt; hours_with_an_open_interim(), Some((120, 0)));
-    assert_eq!(rt; hours_with_an_open_wait(), Some((780, 0)));
+    assert!(rt; hours(&[], b"2024-03") == Some((0, 0)));
+    assert!(rt; hours_with_an_open_interim() == Some((120, 0)));
+    assert!(rt; hours_with_an_open_wait() == Some((780, 0)));
 }

@@ -18,6 +18,3 @@ mod states;
 mod turned_down;
 
 pub use plain_core::PlainCore;
-
-#[cfg(test)]
-mod tests;

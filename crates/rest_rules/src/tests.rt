@@ -60,7 +60,7 @@ fn long_tour_and_service(from: Option<Minute>, to: Option<Minute>) -> Option<[Ev
 #[test]
 fn ten_hours_and_the_excess(rt: HostRuntime) -> Result<(), Fail> {
     let events = long_tour().ok_or("no events")?;
-    assert_eq!(rt; rest(&events), told(march(4, 21_30), 90, march(5, 9_00)));
+    assert!(rt; rest(&events) == told(march(4, 21_30), 90, march(5, 9_00)));
     let table = [
         (march(4, 8_00), 0, false),
         (march(5, 7_29), 0, false),
@@ -72,7 +72,7 @@ fn ten_hours_and_the_excess(rt: HostRuntime) -> Result<(), Fail> {
         (march(31, 0_00), u32::MAX, false),
     ];
     for (at, more, wanted) in table {
-        assert_eq!(rt; has_rested(&events, at, more), Some(wanted));
+        assert!(rt; has_rested(&events, at, more) == Some(wanted));
     }
     Ok(())
 }
@@ -81,16 +81,16 @@ fn ten_hours_and_the_excess(rt: HostRuntime) -> Result<(), Fail> {
 #[test]
 fn the_excess_before_other_service(rt: HostRuntime) -> Result<(), Fail> {
     let taken = long_tour_and_service(march(5, 9_00), march(5, 10_00)).ok_or("no events")?;
-    assert_eq!(rt; rest(&taken), told(march(5, 10_00), 90, march(5, 20_00)));
-    assert_eq!(rt; has_rested(&taken, march(5, 19_59), 90), Some(false));
-    assert_eq!(rt; has_rested(&taken, march(5, 20_00), 90), Some(true));
+    assert!(rt; rest(&taken) == told(march(5, 10_00), 90, march(5, 20_00)));
+    assert!(rt; has_rested(&taken, march(5, 19_59), 90) == Some(false));
+    assert!(rt; has_rested(&taken, march(5, 20_00), 90) == Some(true));
     let owed = long_tour_and_service(march(5, 8_59), march(5, 10_00)).ok_or("no events")?;
-    assert_eq!(rt; rest(&owed), told(march(5, 10_00), 90, march(5, 21_30)));
-    assert_eq!(rt; has_rested(&owed, march(5, 20_00), 0), Some(true));
-    assert_eq!(rt; has_rested(&owed, march(5, 21_29), 90), Some(false));
-    assert_eq!(rt; has_rested(&owed, march(5, 21_30), 90), Some(true));
+    assert!(rt; rest(&owed) == told(march(5, 10_00), 90, march(5, 21_30)));
+    assert!(rt; has_rested(&owed, march(5, 20_00), 0) == Some(true));
+    assert!(rt; has_rested(&owed, march(5, 21_29), 90) == Some(false));
+    assert!(rt; has_rested(&owed, march(5, 21_30), 90) == Some(true));
     let week = long_tour_and_service(march(11, 10_00), march(11, 12_00)).ok_or("no events")?;
-    assert_eq!(rt; rest(&week), told(march(11, 12_00), 90, march(11, 22_00)));
+    assert!(rt; rest(&week) == told(march(11, 12_00), 90, march(11, 22_00)));
     Ok(())
 }
 
@@ -116,14 +116,14 @@ fn released_in_an_interim() -> Option<[Event; 3]> {
 #[test]
 fn where_a_tour_ends(rt: HostRuntime) -> Result<(), Fail> {
     let closed = closed_by_nothing().ok_or("no events")?;
-    assert_eq!(rt; rest(&closed), told(march(4, 10_00), 0, march(4, 20_00)));
-    assert_eq!(rt; has_rested(&closed, march(4, 20_00), 0), Some(false));
-    assert_eq!(rt; has_rested(&closed, march(5, 0_59), 0), Some(false));
-    assert_eq!(rt; has_rested(&closed, march(5, 1_00), 0), Some(true));
+    assert!(rt; rest(&closed) == told(march(4, 10_00), 0, march(4, 20_00)));
+    assert!(rt; has_rested(&closed, march(4, 20_00), 0) == Some(false));
+    assert!(rt; has_rested(&closed, march(5, 0_59), 0) == Some(false));
+    assert!(rt; has_rested(&closed, march(5, 1_00), 0) == Some(true));
     let released = released_in_an_interim().ok_or("no events")?;
-    assert_eq!(rt; rest(&released), told(march(4, 14_00), 0, march(5, 0_00)));
-    assert_eq!(rt; has_rested(&released, march(4, 23_59), 0), Some(false));
-    assert_eq!(rt; has_rested(&released, march(5, 0_00), 0), Some(true));
+    assert!(rt; rest(&released) == told(march(4, 14_00), 0, march(5, 0_00)));
+    assert!(rt; has_rested(&released, march(4, 23_59), 0) == Some(false));
+    assert!(rt; has_rested(&released, march(5, 0_00), 0) == Some(true));
     Ok(())
 }
 
@@ -140,7 +140,7 @@ fn in_an_interim() -> Option<[Event; 4]> {
 #[test]
 fn minutes_of_an_interim_that_has_not_ended(rt: HostRuntime) -> Result<(), Fail> {
     let open = in_an_interim().ok_or("no events")?;
-    assert_eq!(rt; has_rested(&open, march(5, 23_00), 0), Some(false));
+    assert!(rt; has_rested(&open, march(5, 23_00), 0) == Some(false));
     let [duty, end, second, interim] = open;
     let closed = [
         duty,
@@ -149,7 +149,7 @@ fn minutes_of_an_interim_that_has_not_ended(rt: HostRuntime) -> Result<(), Fail>
         interim,
         released(march(5, 23_00)).ok_or("no event")?,
     ];
-    assert_eq!(rt; has_rested(&closed, march(5, 23_00), 0), Some(true));
+    assert!(rt; has_rested(&closed, march(5, 23_00), 0) == Some(true));
     // a long stretch before it counts, though nothing after it does
     let later = [
         duty,
@@ -157,8 +157,8 @@ fn minutes_of_an_interim_that_has_not_ended(rt: HostRuntime) -> Result<(), Fail>
         Event::Duty(march(6, 3_00).ok_or("no minute")?),
         self::interim(march(6, 5_00), Kind::O).ok_or("no event")?,
     ];
-    assert_eq!(rt; has_rested(&later, march(6, 14_59), 0), Some(false));
-    assert_eq!(rt; has_rested(&later, march(6, 15_00), 0), Some(true));
+    assert!(rt; has_rested(&later, march(6, 14_59), 0) == Some(false));
+    assert!(rt; has_rested(&later, march(6, 15_00), 0) == Some(true));
     Ok(())
 }
 
@@ -188,25 +188,25 @@ fn long_with_an_interim() -> Option<[Event; 5]> {
 #[test]
 fn the_excess_of_the_last_tour(rt: HostRuntime) -> Result<(), Fail> {
     let short = long_and_short().ok_or("no events")?;
-    assert_eq!(rt; rest(&short), told(march(6, 12_00), 0, march(6, 22_00)));
+    assert!(rt; rest(&short) == told(march(6, 12_00), 0, march(6, 22_00)));
     let long = long_with_an_interim().ok_or("no events")?;
-    assert_eq!(rt; rest(&long), told(march(4, 14_00), 120, march(5, 2_00)));
+    assert!(rt; rest(&long) == told(march(4, 14_00), 120, march(5, 2_00)));
     Ok(())
 }
 
 #[test]
 fn where_nothing_is_worked(rt: HostRuntime) -> Result<(), Fail> {
     let first = Minute::new(0);
-    assert_eq!(rt; rest(&[]), told(first, 0, first));
-    assert_eq!(rt; has_rested(&[], first, u32::MAX), Some(true));
+    assert!(rt; rest(&[]) == told(first, 0, first));
+    assert!(rt; has_rested(&[], first, u32::MAX) == Some(true));
     let duty = Event::Duty(march(4, 8_00).ok_or("no minute")?);
     let none = [duty, released(march(4, 8_00)).ok_or("no event")?];
-    assert_eq!(rt; rest(&none), told(first, 0, first));
-    assert_eq!(rt; has_rested(&none, march(4, 8_00), 90), Some(true));
+    assert!(rt; rest(&none) == told(first, 0, first));
+    assert!(rt; has_rested(&none, march(4, 8_00), 90) == Some(true));
     // all is off before the first service
     let only = [service(march(4, 8_00), march(4, 16_00)).ok_or("no event")?];
-    assert_eq!(rt; rest(&only), told(march(4, 16_00), 0, march(5, 2_00)));
-    assert_eq!(rt; has_rested(&only, march(5, 1_59), 90), Some(false));
-    assert_eq!(rt; has_rested(&only, march(5, 2_00), 90), Some(true));
+    assert!(rt; rest(&only) == told(march(4, 16_00), 0, march(5, 2_00)));
+    assert!(rt; has_rested(&only, march(5, 1_59), 90) == Some(false));
+    assert!(rt; has_rested(&only, march(5, 2_00), 90) == Some(true));
     Ok(())
 }

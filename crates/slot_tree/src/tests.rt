@@ -89,7 +89,7 @@ fn the_first_in_order_and_not_the_longest_rested(rt: HostRuntime) -> Result<(), 
         (4, 300, None),
     ];
     for (from, m, expected) in asked {
-        assert_eq!(rt; first(&slots, from, minute(m)?), expected);
+        assert!(rt; first(&slots, from, minute(m)?) == expected);
     }
     Ok(())
 }
@@ -98,17 +98,15 @@ fn the_first_in_order_and_not_the_longest_rested(rt: HostRuntime) -> Result<(), 
 fn what_is_empty_moves_behind(rt: HostRuntime) -> Result<(), Fail> {
     let mut slots = three_of_four(rt.alloc())?;
     clear(&mut slots, 0)?;
-    assert_eq!(rt;
-        (slots.free(), slots.nth(0), slots.nth(2), slots.nth(3)),
-        (1, None, Some(2), None)
+    assert!(rt;
+        (slots.free(), slots.nth(0), slots.nth(2), slots.nth(3)) == (1, None, Some(2), None)
     );
     slots.compact();
-    assert_eq!(rt;
-        (at(&slots, 0), at(&slots, 1), at(&slots, 2)),
-        (Some((8, 100)), Some((9, 200)), None)
+    assert!(rt;
+        (at(&slots, 0), at(&slots, 1), at(&slots, 2)) == (Some((8, 100)), Some((9, 200)), None)
     );
     clear(&mut slots, 1)?;
-    assert_eq!(rt; slots.free(), 3);
+    assert!(rt; slots.free() == 3);
     Ok(())
 }
 
@@ -185,10 +183,7 @@ fn searches_as_a_scan(rt: HostRuntime) -> Result<(), Fail> {
         stands_for(&slots, &list)?;
         let from = drawn(&mut seed, 33);
         let m = u64::from(drawn(&mut seed, 1_000));
-        assert_eq!(rt;
-            first(&slots, from, minute(m)?),
-            scanned(&slots, 32, from, m)
-        );
+        assert!(rt; first(&slots, from, minute(m)?) == scanned(&slots, 32, from, m));
     }
     Ok(())
 }
@@ -211,9 +206,9 @@ fn a_copy_has_the_same_slots(rt: HostRuntime) -> Result<(), Fail> {
     append(&mut slots, 4, 9)?;
     let copy = slots.copy(rt.alloc())?;
     clear(&mut slots, 0)?;
-    assert_eq!(rt; at(&copy, 0), Some((4, 9)));
-    assert_eq!(rt; at(&copy, 1), None);
-    assert_eq!(rt; copy.free(), 1);
-    assert_eq!(rt; slots.free(), 2);
+    assert!(rt; at(&copy, 0) == Some((4, 9)));
+    assert!(rt; at(&copy, 1).is_none());
+    assert!(rt; copy.free() == 1);
+    assert!(rt; slots.free() == 2);
     Ok(())
 }

@@ -1,7 +1,7 @@
 //! Audits of journals.
-use super::{OPENING, words_of};
-use crate::forms::perform;
-use desk_io::{MemorySink, MemorySource, Status, SureSource};
+use super::{OPENING, ends_on, ends_so, sink_of, source_of};
+use desk_io::{Status, SureSource};
+use std::alloc::Global;
 use std::test::Fail;
 
 pub const FIRST_OFFER_JOURNAL: &[u8] = b"\
@@ -27,10 +27,7 @@ right 2024-03-04 00:01|unknown board P1
 ";
 
 #[test]
-fn audits_of_journals(rt: HostRuntime) -> Result<(), Fail> {
-    let alloc = rt.alloc();
-    let audit = words_of(alloc, &["audit"])?;
-    let none: &[u8] = b"";
+fn audits_of_journals(rt: HostRuntime) {
     let cases: [(&[u8], Status, &[u8]); 6] = [
         (OPENING, Status::Fine, b"legal 0\n"),
         (FIRST_OFFER_JOURNAL, Status::Fine, b"legal 5\n"),
@@ -43,48 +40,56 @@ fn audits_of_journals(rt: HostRuntime) -> Result<(), Fail> {
         (
             b"2024-03-04 00:00,open,2024-03,1,15",
             Status::NoOpening,
-            none,
+            b"",
         ),
-        (b"", Status::NoOpening, none),
+        (b"", Status::NoOpening, b""),
     ];
     for (journal, status, text) in cases {
-        let mut source = MemorySource::new(journal.to_vec(alloc)?, 7, Vec::new(alloc));
-        let mut sink = MemorySink::new(alloc, 512, 16, Vec::new(alloc))?;
-        assert_eq!(rt; perform(alloc, &audit, &mut source, &mut sink), status);
-        assert_eq!(rt; sink.bytes(), text);
+        assert!(rt; ends_so(rt.alloc(), &["audit"], journal, status, text) == Some(true));
     }
-    Ok(())
+}
+
+// Whether the audit of this text, which a sure source gives, ends so and writes nothing.
+fn is_silent(alloc: Global, text: &[u8], status: Status) -> Option<bool> {
+    let source = SureSource::new(text.to_vec(alloc).ok()?);
+    ends_on(
+        alloc,
+        &["audit"],
+        source,
+        sink_of(alloc, 16, 16, 0)?,
+        status,
+        b"",
+    )
 }
 
 #[test]
 fn journals_of_too_many_lines(rt: HostRuntime) -> Result<(), Fail> {
-    let alloc = rt.alloc();
-    let audit = words_of(alloc, &["audit"])?;
-    let mut text = vec![in alloc; b'\n'; 515_001]?;
+    let mut text = vec![in rt.alloc(); b'\n'; 515_001]?;
     // So many are read, and the first is no opening; with another behind the last they are too many.
-    for status in [Status::NoOpening, Status::TooLong] {
-        let mut source = SureSource::new(text.as_slice().to_vec(alloc)?);
-        let mut sink = MemorySink::new(alloc, 16, 16, Vec::new(alloc))?;
-        assert_eq!(rt; perform(alloc, &audit, &mut source, &mut sink), status);
-        assert_eq!(rt; sink.bytes().len(), 0);
-        text.push(b'x')?;
-    }
+    assert!(rt; is_silent(rt.alloc(), &text, Status::NoOpening) == Some(true));
+    text.push(b'x')?;
+    assert!(rt; is_silent(rt.alloc(), &text, Status::TooLong) == Some(true));
     Ok(())
 }
 
+// Whether the audit of a journal ends so where the sink has no room for more than this text.
+fn has_room_for(alloc: Global, journal: &[u8], status: Status, front: &[u8]) -> Option<bool> {
+    let source = source_of(alloc, journal, 512, 0)?;
+    ends_on(
+        alloc,
+        &["audit"],
+        source,
+        sink_of(alloc, 4, 16, 0)?,
+        status,
+        front,
+    )
+}
+
 #[test]
-fn verdicts_that_are_not_taken(rt: HostRuntime) -> Result<(), Fail> {
+fn verdicts_that_are_not_taken(rt: HostRuntime) {
     let alloc = rt.alloc();
-    let audit = words_of(alloc, &["audit"])?;
-    let cases: [(&[u8], Status, &[u8]); 2] = [
-        (FIRST_OFFER_JOURNAL, Status::WriteFault, b"lega"),
-        (WRONG, Status::AuditWrong, b"wron"),
-    ];
-    for (journal, status, front) in cases {
-        let mut source = SureSource::new(journal.to_vec(alloc)?);
-        let mut sink = MemorySink::new(alloc, 4, 16, Vec::new(alloc))?;
-        assert_eq!(rt; perform(alloc, &audit, &mut source, &mut sink), status);
-        assert_eq!(rt; sink.bytes(), front);
-    }
-    Ok(())
+    assert!(rt;
+        has_room_for(alloc, FIRST_OFFER_JOURNAL, Status::WriteFault, b"lega") == Some(true)
+    );
+    assert!(rt; has_room_for(alloc, WRONG, Status::AuditWrong, b"wron") == Some(true));
 }

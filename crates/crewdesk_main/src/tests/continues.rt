@@ -1,8 +1,7 @@
 //! Journals that go on.
 use super::audits::FIRST_OFFER_JOURNAL;
-use super::{OPENING, words_of};
-use crate::forms::perform;
-use desk_io::{MemorySink, MemorySource, Status, SureSource};
+use super::{OPENING, ends_on, ends_so, sink_of, source_of};
+use desk_io::{Status, SureSource};
 use std::alloc::{AllocError, Global};
 use std::test::Fail;
 
@@ -74,10 +73,20 @@ fn cut_behind(alloc: Global, journal: &[u8], kept: u32) -> Result<Vec<u8>, Alloc
     Ok(text)
 }
 
+// Whether the program that goes on with the journal of the first offer and what stands behind it ends so, and writes this.
+fn goes_on(alloc: Global, behind: &[u8], status: Status, told: &[u8]) -> Option<bool> {
+    let text = joined(alloc, FIRST_OFFER_JOURNAL, behind).ok()?;
+    ends_so(alloc, &["continue"], &text, status, told)
+}
+
+// The same where that journal is written, and these entries behind it.
+fn goes_on_with(alloc: Global, behind: &[u8], entries: &[u8]) -> Option<bool> {
+    let wanted = joined(alloc, FIRST_OFFER_JOURNAL, entries).ok()?;
+    goes_on(alloc, behind, Status::Fine, &wanted)
+}
+
 #[test]
-fn commands_behind_a_journal(rt: HostRuntime) -> Result<(), Fail> {
-    let alloc = rt.alloc();
-    let words = words_of(alloc, &["continue"])?;
+fn commands_behind_a_journal(rt: HostRuntime) {
     let cases: [(&[u8], &[u8]); 5] = [
         (b"", b""),
         (b"+\n", b""),
@@ -86,39 +95,25 @@ fn commands_behind_a_journal(rt: HostRuntime) -> Result<(), Fail> {
         (b"+\n\xef\xbb\xbf2024-03-04 00:05,accept,12,101\n", ACCEPTED),
     ];
     for (behind, entries) in cases {
-        let text = joined(alloc, FIRST_OFFER_JOURNAL, behind)?;
-        let wanted = joined(alloc, FIRST_OFFER_JOURNAL, entries)?;
-        let mut source = MemorySource::new(text, 7, Vec::new(alloc));
-        let mut sink = MemorySink::new(alloc, 1024, 16, Vec::new(alloc))?;
-        assert_eq!(rt;
-            perform(alloc, &words, &mut source, &mut sink),
-            Status::Fine
-        );
-        assert_eq!(rt; sink.bytes(), wanted.as_slice());
+        assert!(rt; goes_on_with(rt.alloc(), behind, entries) == Some(true));
     }
-    Ok(())
+}
+
+// Whether that journal goes on to the whole where only its first lines are kept, and the commands of the others.
+fn is_whole_behind(alloc: Global, kept: u32) -> Option<bool> {
+    let text = cut_behind(alloc, HELD_JOURNAL, kept).ok()?;
+    ends_so(alloc, &["continue"], &text, Status::Fine, HELD_JOURNAL)
 }
 
 #[test]
-fn a_journal_cut_behind_each_line_goes_on_to_the_whole(rt: HostRuntime) -> Result<(), Fail> {
-    let alloc = rt.alloc();
-    let words = words_of(alloc, &["continue"])?;
+fn a_journal_cut_behind_each_line_goes_on_to_the_whole(rt: HostRuntime) {
     for kept in 1..17 {
-        let mut source = SureSource::new(cut_behind(alloc, HELD_JOURNAL, kept)?);
-        let mut sink = MemorySink::new(alloc, 2048, 2048, Vec::new(alloc))?;
-        assert_eq!(rt;
-            perform(alloc, &words, &mut source, &mut sink),
-            Status::Fine
-        );
-        assert_eq!(rt; sink.bytes(), HELD_JOURNAL);
+        assert!(rt; is_whole_behind(rt.alloc(), kept) == Some(true));
     }
-    Ok(())
 }
 
 #[test]
-fn what_is_wrong_behind_a_journal(rt: HostRuntime) -> Result<(), Fail> {
-    let alloc = rt.alloc();
-    let words = words_of(alloc, &["continue"])?;
+fn what_is_wrong_behind_a_journal(rt: HostRuntime) {
     // A field of a command; and pluses that are no line of their own, so that the journal's seventh line is wrong.
     let cases: [(&[u8], &[u8]); 7] = [
         (b"+\n2024-03-04 00:05,acept,12,101\n", b"unreadable 1 2\n"),
@@ -136,105 +131,105 @@ fn what_is_wrong_behind_a_journal(rt: HostRuntime) -> Result<(), Fail> {
         ),
     ];
     for (behind, told) in cases {
-        let mut source = SureSource::new(joined(alloc, FIRST_OFFER_JOURNAL, behind)?);
-        let mut sink = MemorySink::new(alloc, 512, 16, Vec::new(alloc))?;
-        assert_eq!(rt;
-            perform(alloc, &words, &mut source, &mut sink),
-            Status::Unreadable
-        );
-        assert_eq!(rt; sink.bytes(), told);
+        assert!(rt; goes_on(rt.alloc(), behind, Status::Unreadable, told) == Some(true));
     }
-    Ok(())
 }
 
 #[test]
-fn journals_that_do_not_go_on(rt: HostRuntime) -> Result<(), Fail> {
-    let alloc = rt.alloc();
-    let words = words_of(alloc, &["continue"])?;
-    let none: &[u8] = b"";
+fn journals_that_do_not_go_on(rt: HostRuntime) {
     let cases: [(&[u8], Status, &[u8]); 4] = [
         (WRONG_OFFER, Status::AuditWrong, TOLD_WRONG_OFFER),
-        (b"", Status::NoOpening, none),
+        (b"", Status::NoOpening, b""),
         (
             b"+\n2024-03-04 00:05,accept,12,101\n",
             Status::NoOpening,
-            none,
+            b"",
         ),
         (
             b"\xef\xbb\xbf2024-03-04 00:00,open,2024-03,1,15\n+\n",
             Status::NoOpening,
-            none,
+            b"",
         ),
     ];
     for (text, status, told) in cases {
-        let mut source = SureSource::new(text.to_vec(alloc)?);
-        let mut sink = MemorySink::new(alloc, 512, 16, Vec::new(alloc))?;
-        assert_eq!(rt; perform(alloc, &words, &mut source, &mut sink), status);
-        assert_eq!(rt; sink.bytes(), told);
+        assert!(rt; ends_so(rt.alloc(), &["continue"], text, status, told) == Some(true));
     }
+}
+
+// Whether the program goes on so with a text that a sure source gives, and writes this.
+fn ends_with(alloc: Global, text: &[u8], status: Status, told: &[u8]) -> Option<bool> {
+    let source = SureSource::new(text.to_vec(alloc).ok()?);
+    ends_on(
+        alloc,
+        &["continue"],
+        source,
+        sink_of(alloc, 16, 16, 0)?,
+        status,
+        told,
+    )
+}
+
+#[test]
+fn too_many_lines_behind_a_journal(rt: HostRuntime) -> Result<(), Fail> {
+    let alloc = rt.alloc();
+    // So many lines are read, and the first is no opening; lines behind the plus are not among them.
+    let mut lines = vec![in alloc; b'\n'; 515_001]?;
+    let most = joined(alloc, &lines, b"+\n\n\n")?;
+    assert!(rt; ends_with(alloc, &most, Status::NoOpening, b"") == Some(true));
+    lines.push(b'\n')?;
+    let more = joined(alloc, &lines, b"+\n")?;
+    assert!(rt; ends_with(alloc, &more, Status::TooLong, b"") == Some(true));
     Ok(())
 }
 
 #[test]
-fn too_many_lines_and_too_many_commands(rt: HostRuntime) -> Result<(), Fail> {
+fn too_many_commands_behind_a_journal(rt: HostRuntime) -> Result<(), Fail> {
     let alloc = rt.alloc();
-    let words = words_of(alloc, &["continue"])?;
-    // So many lines are read, and the first is no opening; lines behind the plus are not among them.
-    let mut lines = vec![in alloc; b'\n'; 515_001]?;
-    let most = joined(alloc, &lines, b"+\n\n\n")?;
-    lines.push(b'\n')?;
-    let more = joined(alloc, &lines, b"+\n")?;
     // So many commands have room behind an opening, and the first is none.
     let mut commands = joined(alloc, OPENING, b"+\n")?;
     for _ in 0..515_000 {
         commands.extend_from_slice(b"x\n")?;
     }
-    let over = joined(alloc, &commands, b"x\n")?;
-    let none: &[u8] = b"";
-    let cases: [(&Vec<u8>, Status, &[u8]); 4] = [
-        (&most, Status::NoOpening, none),
-        (&more, Status::TooLong, none),
-        (&commands, Status::Unreadable, b"unreadable 1 1\n"),
-        (&over, Status::TooLong, none),
-    ];
-    for (text, status, told) in cases {
-        let mut source = SureSource::new(text.as_slice().to_vec(alloc)?);
-        let mut sink = MemorySink::new(alloc, 16, 16, Vec::new(alloc))?;
-        assert_eq!(rt; perform(alloc, &words, &mut source, &mut sink), status);
-        assert_eq!(rt; sink.bytes(), told);
-    }
+    assert!(rt; ends_with(alloc, &commands, Status::Unreadable, b"unreadable 1 1\n") == Some(true));
+    commands.extend_from_slice(b"x\n")?;
+    assert!(rt; ends_with(alloc, &commands, Status::TooLong, b"") == Some(true));
     Ok(())
 }
 
+const ONE_COMMAND: &[u8] = b"\
+2024-03-04 00:00,open,2024-03,1,15
++
+2024-03-04 00:01,vac,1
+";
+
+// Whether a source that fails at this call is told of, and nothing written.
+fn fails_to_read(alloc: Global, call: u64) -> Option<bool> {
+    let source = source_of(alloc, ONE_COMMAND, 16, call)?;
+    let sink = sink_of(alloc, 512, 512, 0)?;
+    ends_on(alloc, &["continue"], source, sink, Status::ReadFault, b"")
+}
+
+// Whether a sink that fails at this call is told of, and holds this text.
+fn fails_to_write(alloc: Global, call: u64, front: &[u8]) -> Option<bool> {
+    let source = source_of(alloc, ONE_COMMAND, 512, 0)?;
+    let sink = sink_of(alloc, 512, 512, call)?;
+    ends_on(
+        alloc,
+        &["continue"],
+        source,
+        sink,
+        Status::WriteFault,
+        front,
+    )
+}
+
 #[test]
-fn sources_and_sinks_that_fail(rt: HostRuntime) -> Result<(), Fail> {
-    let alloc = rt.alloc();
-    let words = words_of(alloc, &["continue"])?;
-    let text = joined(alloc, OPENING, b"+\n2024-03-04 00:01,vac,1\n")?;
+fn sources_and_sinks_that_fail(rt: HostRuntime) {
     // Four pieces of the 60 bytes, and the end.
     for call in 1..6 {
-        let mut source = MemorySource::new(
-            text.as_slice().to_vec(alloc)?,
-            16,
-            vec![in alloc; call]?,
-        );
-        let mut sink = MemorySink::new(alloc, 512, 512, Vec::new(alloc))?;
-        assert_eq!(rt;
-            perform(alloc, &words, &mut source, &mut sink),
-            Status::ReadFault
-        );
-        assert_eq!(rt; sink.bytes().len(), 0);
+        assert!(rt; fails_to_read(rt.alloc(), call) == Some(true));
     }
     // The journal that was read is put first, and then the lines behind it.
-    let fronts: [(u64, &[u8]); 2] = [(1, b""), (2, OPENING)];
-    for (call, front) in fronts {
-        let mut source = SureSource::new(text.as_slice().to_vec(alloc)?);
-        let mut sink = MemorySink::new(alloc, 512, 512, vec![in alloc; call]?)?;
-        assert_eq!(rt;
-            perform(alloc, &words, &mut source, &mut sink),
-            Status::WriteFault
-        );
-        assert_eq!(rt; sink.bytes(), front);
-    }
-    Ok(())
+    assert!(rt; fails_to_write(rt.alloc(), 1, b"") == Some(true));
+    assert!(rt; fails_to_write(rt.alloc(), 2, OPENING) == Some(true));
 }

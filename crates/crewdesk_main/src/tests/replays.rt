@@ -1,8 +1,6 @@
 //! Day files with commands, and those that are too long.
-use super::{OPENING, words_of};
-use crate::forms::perform;
-use crate::run::run;
-use desk_io::{MemorySink, MemorySource, Status, SureSource};
+use super::{OPENING, ended, ends_so, sink_of};
+use desk_io::{Status, SureSource};
 use std::alloc::{AllocError, Global};
 use std::test::Fail;
 
@@ -52,72 +50,73 @@ pub fn refused_day(alloc: Global, count: usize) -> Result<Vec<u8>, AllocError> {
 const REFUSED: &[u8] = b"0|2025-01-01 00:00,next,12|2024-03-04 00:00|outside window\n";
 
 #[test]
-fn offers_and_what_they_write(rt: HostRuntime) -> Result<(), Fail> {
-    let alloc = rt.alloc();
-    let replay = words_of(alloc, &["replay"])?;
+fn offers_and_what_they_write(rt: HostRuntime) {
     let cases = [
         (FIRST_OFFER, FIRST_OFFER_JOURNAL),
         (NOBODY_LISTED, NOBODY_LISTED_JOURNAL),
     ];
     for (day, journal) in cases {
-        let mut source = MemorySource::new(day.to_vec(alloc)?, 7, Vec::new(alloc));
-        let mut sink = MemorySink::new(alloc, 512, 16, Vec::new(alloc))?;
-        assert_eq!(rt; run(alloc, &replay, &mut source, &mut sink), Status::Fine);
-        assert_eq!(rt; sink.bytes(), journal);
+        assert!(rt; ends_so(rt.alloc(), &["replay"], day, Status::Fine, journal) == Some(true));
     }
-    Ok(())
+}
+
+// How the replay of a day file that a sure source gives ends, and whether this is then written.
+fn replays(alloc: Global, day: Vec<u8>, text: &[u8]) -> Option<(Status, bool)> {
+    let sink = sink_of(alloc, 512, 512, 0)?;
+    let ended = ended(alloc, &["replay"], SureSource::new(day), sink)?;
+    Some((ended.status, ended.sink.bytes() == text))
+}
+
+// How that of the opening behind so many line feeds ends.
+fn replays_behind(alloc: Global, feeds: usize, text: &[u8]) -> Option<(Status, bool)> {
+    let mut day = vec![in alloc; b'\n'; feeds].ok()?;
+    day.extend_from_slice(OPENING).ok()?;
+    replays(alloc, day, text)
 }
 
 #[test]
-fn a_day_file_of_one_byte_too_many(rt: HostRuntime) -> Result<(), Fail> {
+fn a_day_file_of_one_byte_too_many(rt: HostRuntime) {
+    let feeds = 16_777_216 - OPENING.len();
     let alloc = rt.alloc();
-    let replay = words_of(alloc, &["replay"])?;
-    for (bytes, status) in [(16_777_216, Status::Fine), (16_777_217, Status::TooLong)] {
-        let mut day = vec![in alloc; b'\n'; bytes - OPENING.len()]?;
-        day.extend_from_slice(OPENING)?;
-        let mut source = SureSource::new(day);
-        let mut sink = MemorySink::new(alloc, 64, 64, Vec::new(alloc))?;
-        assert_eq!(rt; run(alloc, &replay, &mut source, &mut sink), status);
-        assert_eq!(rt; sink.bytes().is_empty(), status == Status::TooLong);
+    assert!(rt; replays_behind(alloc, feeds, OPENING) == Some((Status::Fine, true)));
+    assert!(rt; replays_behind(alloc, feeds + 1, b"") == Some((Status::TooLong, true)));
+}
+
+// How that of the opening and so many records of one byte behind it ends.
+fn replays_records(alloc: Global, records: usize, text: &[u8]) -> Option<(Status, bool)> {
+    let mut day = OPENING.to_vec(alloc).ok()?;
+    for _ in 0..records {
+        day.extend_from_slice(b"x\n").ok()?;
     }
-    Ok(())
+    replays(alloc, day, text)
 }
 
 #[test]
-fn a_day_of_one_record_too_many(rt: HostRuntime) -> Result<(), Fail> {
+fn a_day_of_one_record_too_many(rt: HostRuntime) {
     let alloc = rt.alloc();
-    let replay = words_of(alloc, &["replay"])?;
-    let cases: [(usize, Status, &[u8]); 2] = [
-        (200_000, Status::Unreadable, b"unreadable 2 1\n"),
-        (200_001, Status::TooLong, b""),
-    ];
-    for (records, status, text) in cases {
-        let mut day = FIRST_OFFER[..35].to_vec(alloc)?;
-        for _ in 0..records {
-            day.extend_from_slice(b"x\n")?;
-        }
-        let mut source = SureSource::new(day);
-        let mut sink = MemorySink::new(alloc, 512, 512, Vec::new(alloc))?;
-        assert_eq!(rt; perform(alloc, &replay, &mut source, &mut sink), status);
-        assert_eq!(rt; sink.bytes(), text);
-    }
-    Ok(())
+    let most = replays_records(alloc, 200_000, b"unreadable 2 1\n");
+    assert!(rt; most == Some((Status::Unreadable, true)));
+    assert!(rt; replays_records(alloc, 200_001, b"") == Some((Status::TooLong, true)));
+}
+
+// How the replay of so many refused commands ends, how many bytes and how many lines are written, and whether the last of
+// them is a refused command's.
+fn refuses(alloc: Global, commands: usize) -> Option<(Status, usize, usize, bool)> {
+    let source = SureSource::new(refused_day(alloc, commands).ok()?);
+    let sink = sink_of(alloc, 12_000_000, 65_536, 0)?;
+    let ended = ended(alloc, &["replay"], source, sink)?;
+    let journal = ended.sink.bytes();
+    let lines = journal.iter().filter(|byte| **byte == b'\n').count();
+    Some((
+        ended.status,
+        journal.len(),
+        lines,
+        journal.ends_with(REFUSED),
+    ))
 }
 
 #[test]
-fn a_day_of_as_many_refused_commands_as_there_may_be(rt: HostRuntime) -> Result<(), Fail> {
-    let alloc = rt.alloc();
-    let replay = words_of(alloc, &["replay"])?;
-    let commands = 200_000;
-    let mut source = SureSource::new(refused_day(alloc, commands)?);
-    let mut sink = MemorySink::new(alloc, 12_000_000, 65_536, Vec::new(alloc))?;
-    assert_eq!(rt; run(alloc, &replay, &mut source, &mut sink), Status::Fine);
-    let journal = sink.bytes();
-    assert_eq!(rt; journal.len(), OPENING.len() + commands * REFUSED.len());
-    assert_eq!(rt;
-        journal.iter().filter(|byte| **byte == b'\n').count(),
-        commands + 1
-    );
-    assert_eq!(rt; journal.ends_with(REFUSED), true);
-    Ok(())
+fn a_day_of_as_many_refused_commands_as_there_may_be(rt: HostRuntime) {
+    let bytes = OPENING.len() + 200_000 * REFUSED.len();
+    assert!(rt; refuses(rt.alloc(), 200_000) == Some((Status::Fine, bytes, 200_001, true)));
 }

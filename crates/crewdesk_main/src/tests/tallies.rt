@@ -1,9 +1,8 @@
 //! Tallies of day files.
 use super::replays::FIRST_OFFER;
-use super::{OPENING, words_of};
-use crate::forms::perform;
-use desk_io::{MemorySink, MemorySource, Status};
-use std::test::Fail;
+use super::{OPENING, ends_on, ends_so, sink_of, source_of};
+use desk_io::Status;
+use std::alloc::Global;
 
 const FIRST_OFFER_TALLY: &[u8] = b"\
 commands 5
@@ -67,15 +66,12 @@ moment 2024-03-04 00:04
 ";
 
 #[test]
-fn tallies_of_days(rt: HostRuntime) -> Result<(), Fail> {
-    let alloc = rt.alloc();
-    let tally = words_of(alloc, &["tally"])?;
-    let none: &[u8] = b"";
+fn tallies_of_days(rt: HostRuntime) {
     let cases: [(&[u8], Status, &[u8]); 5] = [
         (OPENING, Status::Fine, OPENING_TALLY),
         (FIRST_OFFER, Status::Fine, FIRST_OFFER_TALLY),
         (EACH_SORT, Status::Fine, EACH_SORT_TALLY),
-        (b"", Status::NoOpening, none),
+        (b"", Status::NoOpening, b""),
         (
             b"2024-03-04 00:00,open,2024-03,1,15\n2024-03-04 00:01,next\n",
             Status::Unreadable,
@@ -83,24 +79,25 @@ fn tallies_of_days(rt: HostRuntime) -> Result<(), Fail> {
         ),
     ];
     for (day, status, text) in cases {
-        let mut source = MemorySource::new(day.to_vec(alloc)?, 7, Vec::new(alloc));
-        let mut sink = MemorySink::new(alloc, 512, 16, Vec::new(alloc))?;
-        assert_eq!(rt; perform(alloc, &tally, &mut source, &mut sink), status);
-        assert_eq!(rt; sink.bytes(), text);
+        assert!(rt; ends_so(rt.alloc(), &["tally"], day, status, text) == Some(true));
     }
-    Ok(())
+}
+
+// Whether no more of a tally is taken than its first 30 bytes.
+fn takes_a_front(alloc: Global) -> Option<bool> {
+    let source = source_of(alloc, FIRST_OFFER, 7, 0)?;
+    let sink = sink_of(alloc, 30, 16, 0)?;
+    ends_on(
+        alloc,
+        &["tally"],
+        source,
+        sink,
+        Status::WriteFault,
+        &FIRST_OFFER_TALLY[..30],
+    )
 }
 
 #[test]
-fn a_tally_that_is_not_taken(rt: HostRuntime) -> Result<(), Fail> {
-    let alloc = rt.alloc();
-    let tally = words_of(alloc, &["tally"])?;
-    let mut source = MemorySource::new(FIRST_OFFER.to_vec(alloc)?, 7, Vec::new(alloc));
-    let mut sink = MemorySink::new(alloc, 30, 16, Vec::new(alloc))?;
-    assert_eq!(rt;
-        perform(alloc, &tally, &mut source, &mut sink),
-        Status::WriteFault
-    );
-    assert!(rt; FIRST_OFFER_TALLY.starts_with(sink.bytes()));
-    Ok(())
+fn a_tally_that_is_not_taken(rt: HostRuntime) {
+    assert!(rt; takes_a_front(rt.alloc()) == Some(true));
 }

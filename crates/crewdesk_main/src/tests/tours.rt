@@ -1,8 +1,7 @@
 //! Records of the tours of journals.
-use super::{OPENING, words_of};
-use crate::forms::perform;
-use desk_io::{MemorySink, MemorySource, Status, SureSource};
-use std::test::Fail;
+use super::{OPENING, ends_on, ends_so, sink_of, source_of};
+use desk_io::Status;
+use std::alloc::Global;
 
 // Twelve hours on duty, and an hour and a half in limbo; the day is told before the person is listed. The last line is no answer of
 // a desk that was told so, which nobody asks here.
@@ -20,9 +19,7 @@ const LONG_RECORD: &[u8] = b"\
 ";
 
 #[test]
-fn records_of_tours(rt: HostRuntime) -> Result<(), Fail> {
-    let alloc = rt.alloc();
-    let none: &[u8] = b"";
+fn records_of_tours(rt: HostRuntime) {
     let person: &[&str] = &["record", "101"];
     let nobody: &[&str] = &["record", "7"];
     let excess: &[&str] = &["excess"];
@@ -31,7 +28,7 @@ fn records_of_tours(rt: HostRuntime) -> Result<(), Fail> {
         (excess, LONG_TOUR, Status::Fine, LONG_RECORD),
         (nobody, LONG_TOUR, Status::Fine, b"[]\n"),
         (excess, OPENING, Status::Fine, b"[]\n"),
-        (excess, b"", Status::NoOpening, none),
+        (excess, b"", Status::NoOpening, b""),
         (
             person,
             b"2024-03-04 00:00,open,2024-03,1,15\n0|2024-03-04 00:01,vac,1|2024-03-04 00:01|done",
@@ -46,25 +43,18 @@ fn records_of_tours(rt: HostRuntime) -> Result<(), Fail> {
         ),
     ];
     for (form, journal, status, text) in cases {
-        let words = words_of(alloc, form)?;
-        let mut source = MemorySource::new(journal.to_vec(alloc)?, 7, Vec::new(alloc));
-        let mut sink = MemorySink::new(alloc, 512, 16, Vec::new(alloc))?;
-        assert_eq!(rt; perform(alloc, &words, &mut source, &mut sink), status);
-        assert_eq!(rt; sink.bytes(), text);
+        assert!(rt; ends_so(rt.alloc(), form, journal, status, text) == Some(true));
     }
-    Ok(())
+}
+
+// Whether no more of the records is taken than this.
+fn takes_only(alloc: Global, front: &[u8]) -> Option<bool> {
+    let source = source_of(alloc, LONG_TOUR, 512, 0)?;
+    let sink = sink_of(alloc, front.len(), 16, 0)?;
+    ends_on(alloc, &["excess"], source, sink, Status::WriteFault, front)
 }
 
 #[test]
-fn records_that_are_not_taken(rt: HostRuntime) -> Result<(), Fail> {
-    let alloc = rt.alloc();
-    let words = words_of(alloc, &["excess"])?;
-    let mut source = SureSource::new(LONG_TOUR.to_vec(alloc)?);
-    let mut sink = MemorySink::new(alloc, 11, 16, Vec::new(alloc))?;
-    assert_eq!(rt;
-        perform(alloc, &words, &mut source, &mut sink),
-        Status::WriteFault
-    );
-    assert_eq!(rt; sink.bytes(), b"[{\"capped\":".as_slice());
-    Ok(())
+fn records_that_are_not_taken(rt: HostRuntime) {
+    assert!(rt; takes_only(rt.alloc(), b"[{\"capped\":") == Some(true));
 }

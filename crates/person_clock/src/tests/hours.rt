@@ -32,7 +32,7 @@ fn interims(rt: HostRuntime) {
         (Kind::D, 10_00, 10_00, Some((120, 0))),
     ];
     for (kind, resumed, released, wanted) in table {
-        assert_eq!(rt; hours_with_interim(kind, resumed, released), wanted);
+        assert!(rt; hours_with_interim(kind, resumed, released) == wanted);
     }
     for kind in [Kind::D, Kind::P, Kind::O] {
         for released in [10_00, 10_01, 23_00] {
@@ -42,7 +42,7 @@ fn interims(rt: HostRuntime) {
                 (4, released, Does::Final(b"HOM")),
             ];
             let found = told(b"2024-03", 1, &steps).and_then(|clock| hours(&clock, b"2024-03"));
-            assert_eq!(rt; found, Some((120, 0)));
+            assert!(rt; found == Some((120, 0)));
         }
     }
 }
@@ -79,7 +79,7 @@ fn the_ends_of_days_and_months(rt: HostRuntime) {
         (b"2024-01-31 00:00", b"2024-03-02 00:00", b"2024-02", 41_760),
     ];
     for (begun, released, month, wanted) in tours {
-        assert_eq!(rt; hours_of_tour(begun, released, month), Some((wanted, 0)));
+        assert!(rt; hours_of_tour(begun, released, month) == Some((wanted, 0)));
     }
     let services = [
         (b"2024-03-31 23:00", b"2024-04-01 02:00", b"2024-03", 60),
@@ -87,7 +87,7 @@ fn the_ends_of_days_and_months(rt: HostRuntime) {
         (b"2024-03-31 23:00", b"2024-04-01 00:00", b"2024-04", 0),
     ];
     for (from, to, month, wanted) in services {
-        assert_eq!(rt; hours_of_service(from, to, month), Some((wanted, 0)));
+        assert!(rt; hours_of_service(from, to, month) == Some((wanted, 0)));
     }
 }
 
@@ -128,7 +128,7 @@ fn limbo_about_the_720th_minute(rt: HostRuntime) {
         ((0, 20_00), (0, 22_00), 10_00, [(240, 0), (600, 120)]),
     ];
     for (begun, relieved, released, wanted) in table {
-        assert_eq!(rt; hours_with_limbo(begun, relieved, released), Some(wanted));
+        assert!(rt; hours_with_limbo(begun, relieved, released) == Some(wanted));
     }
 }
 
@@ -180,7 +180,7 @@ const TOURS: [(&[Step], (u32, u32)); 5] = [
 #[test]
 fn tours_and_what_has_not_ended(rt: HostRuntime) {
     for (steps, wanted) in TOURS {
-        assert_eq!(rt; both_months(steps), Some([(0, 0), wanted]));
+        assert!(rt; both_months(steps) == Some([(0, 0), wanted]));
     }
 }
 
@@ -225,7 +225,7 @@ fn plans_at_276_hours(rt: HostRuntime) {
         (31, 14_00, 700, 0, Wanted::Free),
         (31, 13_59, 700, 0, over),
     ];
-    assert_eq!(rt; wrong_plan(&SERVICE, &table), None);
+    assert!(rt; wrong_plan(&SERVICE, &table).is_none());
 }
 
 #[test]
@@ -243,7 +243,7 @@ fn plans_at_30_hours_of_limbo(rt: HostRuntime) {
         (31, 12_00, 720, 10, Wanted::Free),
         (31, 11_59, 720, 10, over),
     ];
-    assert_eq!(rt; wrong_plan(&WAITED, &table), None);
+    assert!(rt; wrong_plan(&WAITED, &table).is_none());
     // a month with too much limbo bars each plan that has a minute in it
     let table = [
         (5, 8_00, 1, 0, over),
@@ -252,7 +252,7 @@ fn plans_at_30_hours_of_limbo(rt: HostRuntime) {
         (31, 23_59, 1, 0, over),
         (31, 24_00, 600, 120, Wanted::Free),
     ];
-    assert_eq!(rt; wrong_plan(&WAITED_LONGER, &table), None);
+    assert!(rt; wrong_plan(&WAITED_LONGER, &table).is_none());
 }
 
 fn stage_after(does: Does) -> Option<Stage> {
@@ -268,8 +268,8 @@ fn stages_that_are_told(rt: HostRuntime) {
         (Does::Resume, None),
     ];
     for (does, wanted) in table {
-        assert_eq!(rt; stage_after(does), wanted);
+        assert!(rt; stage_after(does) == wanted);
     }
     let last = told(b"2024-03", 1, &WAITED).and_then(|clock| clock.last());
-    assert_eq!(rt; last, march(2, 18_00));
+    assert!(rt; last == march(2, 18_00));
 }

@@ -38,7 +38,7 @@ fn wrong_after(days: &[Step], steps: &[Step], asked: &[Asked]) -> Option<(u8, u1
 #[test]
 fn sections_of_rest(rt: HostRuntime) {
     let none = [((4, 22_00), (4, 22_00), 720, 999, Wanted::Free)];
-    assert_eq!(rt; wrong_after(&[], &[], &none), None);
+    assert!(rt; wrong_after(&[], &[], &none).is_none());
     let late = Wanted::MoreRest(5, 9_00);
     let early = Wanted::Undisturbed(5, 9_00);
     let table = [
@@ -49,7 +49,7 @@ fn sections_of_rest(rt: HostRuntime) {
         ((5, 8_59), (6, 9_00), 600, 0, early),
         ((5, 9_00), (5, 9_00), 600, 0, Wanted::Free),
     ];
-    assert_eq!(rt; wrong_after(&[], &LONG, &table), None);
+    assert!(rt; wrong_after(&[], &LONG, &table).is_none());
 }
 
 #[test]
@@ -69,17 +69,17 @@ fn sections_of_a_month(rt: HostRuntime) {
             Wanted::Undisturbed(12, 12_00),
         ),
     ];
-    assert_eq!(rt; wrong_after(&[], &SERVICE, &table), None);
+    assert!(rt; wrong_after(&[], &SERVICE, &table).is_none());
     let over = Wanted::LimboHours(b"2024-03", 1_801);
     let table = [
         ((4, 12_00), (5, 8_00), 600, 120, Wanted::Free),
         ((4, 12_00), (5, 8_00), 600, 121, over),
     ];
-    assert_eq!(rt; wrong_after(&[], &WAITED[..3], &table), None);
+    assert!(rt; wrong_after(&[], &WAITED[..3], &table).is_none());
     // and the hours before the limbo
     let over = Wanted::MonthHours(b"2024-03", 18_001);
     let table = [((16, 0_00), (16, 8_00), 600, 121, over)];
-    assert_eq!(rt; wrong_after(&[], &WAITED, &table), None);
+    assert!(rt; wrong_after(&[], &WAITED, &table).is_none());
 }
 
 #[test]
@@ -90,12 +90,12 @@ fn sections_of_days(rt: HostRuntime) {
         // the rest comes before the days
         ((10, 17_00), (11, 1_59), 600, 0, Wanted::Rest(11, 2_00)),
     ];
-    assert_eq!(rt; wrong_after(&FIVE_DAYS, &AWAY, &table), None);
+    assert!(rt; wrong_after(&FIVE_DAYS, &AWAY, &table).is_none());
     let home = [(9, 8_00, Does::Duty), (9, 16_00, Does::Final(b"HOM"))];
     let table = [
         ((10, 12_00), (10, 13_00), 600, 0, Wanted::SixDays),
         ((10, 12_00), (11, 15_59), 600, 0, Wanted::SixDays),
         ((10, 12_00), (11, 16_00), 600, 0, Wanted::Free),
     ];
-    assert_eq!(rt; wrong_after(&FIVE_DAYS, &home, &table), None);
+    assert!(rt; wrong_after(&FIVE_DAYS, &home, &table).is_none());
 }

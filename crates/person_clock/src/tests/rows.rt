@@ -5,27 +5,32 @@ use desk_base::{Code, Minute};
 use duty_events::{Kind, Stage};
 use std::test::Fail;
 
-// Twelve hours on duty and 90 minutes in limbo.
-#[test]
-fn rest_and_excess(rt: HostRuntime) -> Result<(), Fail> {
+fn a_long_tour_is_right() -> Option<bool> {
     let steps = [
         (4, 8_00, Does::Duty),
         (4, 20_00, Does::Relieve),
         (4, 21_30, Does::Final(b"HOM")),
     ];
-    let clock = told(b"2024-03", 1, &steps).ok_or("no clock")?;
+    let clock = told(b"2024-03", 1, &steps)?;
     let asked = [
         ((4, 22_02), (5, 7_00), 600, 0, Wanted::Rest(5, 7_30)),
         ((4, 22_02), (5, 8_30), 600, 0, Wanted::MoreRest(5, 9_00)),
         ((5, 8_59), (5, 10_30), 600, 0, Wanted::Undisturbed(5, 9_00)),
         ((5, 9_00), (5, 10_30), 600, 0, Wanted::Free),
     ];
-    assert_eq!(rt; wrong(&clock, &asked), None);
-    assert_eq!(rt; Some(clock.rest_end()), march(5, 9_00));
-    assert_eq!(rt; clock.stage(), Stage::Off);
-    assert_eq!(rt; clock.last(), march(4, 21_30));
-    assert_eq!(rt; hours(&clock, b"2024-03"), Some((810, 90)));
-    Ok(())
+    Some(
+        wrong(&clock, &asked).is_none()
+            && Some(clock.rest_end()) == march(5, 9_00)
+            && clock.stage() == Stage::Off
+            && clock.last() == march(4, 21_30)
+            && hours(&clock, b"2024-03") == Some((810, 90)),
+    )
+}
+
+// Twelve hours on duty and 90 minutes in limbo.
+#[test]
+fn rest_and_excess(rt: HostRuntime) {
+    assert!(rt; a_long_tour_is_right() == Some(true));
 }
 
 // Resumed after 239 minutes an interim at a terminal is on duty, after 240 it is off, and after ten hours it can't be.
@@ -43,7 +48,7 @@ fn interim_of_240_minutes(rt: HostRuntime) {
             (4, 16_00, Does::Final(b"HOM")),
         ];
         let found = told(b"2024-03", 1, &steps).and_then(|clock| hours(&clock, b"2024-03"));
-        assert_eq!(rt; found, used);
+        assert!(rt; found == used);
     }
     // and the two hours before it count while it runs
     let steps = [
@@ -51,30 +56,37 @@ fn interim_of_240_minutes(rt: HostRuntime) {
         (4, 10_00, Does::Interim(Kind::D, b"HOM")),
     ];
     let found = told(b"2024-03", 1, &steps).and_then(|clock| hours(&clock, b"2024-03"));
-    assert_eq!(rt; found, Some((120, 0)));
+    assert!(rt; found == Some((120, 0)));
 }
 
-// Ten hours off are a rest, from where the interim began during which the final release came.
-#[test]
-fn final_during_an_interim(rt: HostRuntime) -> Result<(), Fail> {
+fn a_final_during_an_interim_is_right() -> Option<bool> {
     let steps = [
         (4, 8_00, Does::Duty),
         (4, 14_00, Does::Interim(Kind::D, b"ALT")),
     ];
-    let mut clock = told(b"2024-03", 1, &steps).ok_or("no clock")?;
-    assert_eq!(rt; Some(clock.place()), Code::read(b"HOM"));
+    let mut clock = told(b"2024-03", 1, &steps)?;
+    let was_home = Some(clock.place()) == Code::read(b"HOM");
     let elsewhere = [(4, 20_00, Does::Final(b"HOM"))];
-    assert_eq!(rt; tell(&mut clock, &elsewhere), None);
+    let is_refused = tell(&mut clock, &elsewhere).is_none();
     let released = [(4, 20_00, Does::Final(b"ALT"))];
-    assert_eq!(rt; tell(&mut clock, &released), Some(()));
-    assert_eq!(rt; Some(clock.place()), Code::read(b"ALT"));
-    assert_eq!(rt; hours(&clock, b"2024-03"), Some((360, 0)));
+    tell(&mut clock, &released)?;
     let asked = [
         ((4, 20_01), (5, 0_00), 600, 0, Wanted::Undisturbed(5, 0_00)),
         ((5, 0_00), (5, 0_00), 600, 0, Wanted::Free),
     ];
-    assert_eq!(rt; wrong(&clock, &asked), None);
-    Ok(())
+    Some(
+        was_home
+            && is_refused
+            && Some(clock.place()) == Code::read(b"ALT")
+            && hours(&clock, b"2024-03") == Some((360, 0))
+            && wrong(&clock, &asked).is_none(),
+    )
+}
+
+// Ten hours off are a rest, from where the interim began during which the final release came.
+#[test]
+fn final_during_an_interim(rt: HostRuntime) {
+    assert!(rt; a_final_during_an_interim_is_right() == Some(true));
 }
 
 // The last worked minute comes before the end of the tour: rest begins at that end, and its bars keep ten hours from work.
@@ -92,47 +104,59 @@ fn tour_end_after_last_worked_minute(rt: HostRuntime) -> Result<(), Fail> {
         ((4, 22_00), (5, 1_00), 600, 0, Wanted::Undisturbed(4, 20_00)),
         ((5, 1_00), (5, 1_00), 600, 0, Wanted::Free),
     ];
-    assert_eq!(rt; wrong(&clock, &asked), None);
+    assert!(rt; wrong(&clock, &asked).is_none());
     Ok(())
 }
 
-#[test]
-fn tour_across_a_month_end(rt: HostRuntime) -> Result<(), Fail> {
+fn a_tour_across_a_month_end_is_right() -> Option<bool> {
     let steps = [(0, 22_00, Does::Duty), (1, 4_00, Does::Final(b"HOM"))];
-    let mut clock = told(b"2024-02", 2, &steps).ok_or("no clock")?;
-    assert_eq!(rt; hours(&clock, b"2024-02"), Some((120, 0)));
-    assert_eq!(rt; hours(&clock, b"2024-03"), Some((240, 0)));
-    assert_eq!(rt; hours(&clock, b"2024-04"), None);
+    let mut clock = told(b"2024-02", 2, &steps)?;
+    let told = hours(&clock, b"2024-02") == Some((120, 0))
+        && hours(&clock, b"2024-03") == Some((240, 0))
+        && hours(&clock, b"2024-04").is_none();
     // nothing comes behind the window
-    assert_eq!(rt; tell(&mut clock, &[(32, 0_00, Does::Duty)]), None);
-    Ok(())
+    Some(told && tell(&mut clock, &[(32, 0_00, Does::Duty)]).is_none())
 }
 
 #[test]
-fn month_hours_and_limbo_at_the_limit(rt: HostRuntime) -> Result<(), Fail> {
+fn tour_across_a_month_end(rt: HostRuntime) {
+    assert!(rt; a_tour_across_a_month_end_is_right() == Some(true));
+}
+
+fn service_is_right() -> Option<bool> {
     let service = [(1, 0_00, Does::Other(12, 2_00, b"HOM"))];
-    let clock = told(b"2024-03", 1, &service).ok_or("no clock")?;
+    let clock = told(b"2024-03", 1, &service)?;
     let over = Wanted::MonthHours(b"2024-03", 16_561);
     let asked = [
         ((13, 12_00), (14, 8_00), 600, 0, Wanted::Free),
         ((13, 12_00), (14, 8_00), 601, 0, over),
     ];
-    assert_eq!(rt; wrong(&clock, &asked), None);
+    Some(wrong(&clock, &asked).is_none())
+}
+
+fn a_long_wait_is_right() -> Option<bool> {
     let waited = [
         (1, 0_00, Does::Duty),
         (1, 12_00, Does::Relieve),
         (2, 18_00, Does::Final(b"HOM")),
     ];
-    let clock = told(b"2024-03", 1, &waited).ok_or("no clock")?;
+    let clock = told(b"2024-03", 1, &waited)?;
     let over = Wanted::LimboHours(b"2024-03", 1_801);
     let asked = [
         ((4, 12_00), (5, 8_00), 600, 120, Wanted::Free),
         ((4, 12_00), (5, 8_00), 600, 121, over),
     ];
-    assert_eq!(rt; wrong(&clock, &asked), None);
-    assert_eq!(rt; hours(&clock, b"2024-03"), Some((2_520, 1_800)));
-    assert_eq!(rt; Some(clock.rest_end()), march(4, 10_00));
-    Ok(())
+    Some(
+        wrong(&clock, &asked).is_none()
+            && hours(&clock, b"2024-03") == Some((2_520, 1_800))
+            && Some(clock.rest_end()) == march(4, 10_00),
+    )
+}
+
+#[test]
+fn month_hours_and_limbo_at_the_limit(rt: HostRuntime) {
+    assert!(rt; service_is_right() == Some(true));
+    assert!(rt; a_long_wait_is_right() == Some(true));
 }
 
 // After five days, a sixth tour that ends at the place.
@@ -143,26 +167,32 @@ fn six_days(sixth: &'static [u8]) -> Option<PersonClock> {
     )
 }
 
-#[test]
-fn six_days_at_home_and_a_seventh_from_away(rt: HostRuntime) -> Result<(), Fail> {
-    let home = six_days(b"HOM").ok_or("no clock")?;
+fn six_days_at_home_are_right() -> Option<bool> {
+    let home = six_days(b"HOM")?;
     let asked = [
         ((10, 12_00), (11, 15_59), 600, 0, Wanted::SixDays),
         ((10, 12_00), (11, 16_00), 600, 0, Wanted::Free),
     ];
-    assert_eq!(rt; wrong(&home, &asked), None);
-    let mut away = six_days(b"ALT").ok_or("no clock")?;
-    assert_eq!(rt; Some(away.place()), Code::read(b"ALT"));
+    Some(wrong(&home, &asked).is_none())
+}
+
+fn a_seventh_day_from_away_is_right() -> Option<bool> {
+    let mut away = six_days(b"ALT")?;
     let asked = [((10, 3_00), (10, 8_00), 600, 0, Wanted::Free)];
-    assert_eq!(rt; wrong(&away, &asked), None);
+    let is_free = Some(away.place()) == Code::read(b"ALT") && wrong(&away, &asked).is_none();
     let seventh = [(10, 8_00, Does::Duty), (10, 16_00, Does::Final(b"HOM"))];
-    assert_eq!(rt; tell(&mut away, &seventh), Some(()));
+    tell(&mut away, &seventh)?;
     let asked = [
         ((12, 12_00), (13, 15_59), 600, 0, Wanted::SevenDays),
         ((12, 12_00), (13, 16_00), 600, 0, Wanted::Free),
     ];
-    assert_eq!(rt; wrong(&away, &asked), None);
-    Ok(())
+    Some(is_free && wrong(&away, &asked).is_none())
+}
+
+#[test]
+fn six_days_at_home_and_a_seventh_from_away(rt: HostRuntime) {
+    assert!(rt; six_days_at_home_are_right() == Some(true));
+    assert!(rt; a_seventh_day_from_away_is_right() == Some(true));
 }
 
 // A clock that is used again has nothing of the person before; and a copy goes on by itself.
@@ -171,14 +201,14 @@ fn a_clock_again(rt: HostRuntime) -> Result<(), Fail> {
     let mut clock = six_days(b"ALT").ok_or("no clock")?;
     let kept = clock.copy()?;
     clock.restart(Code::read(b"NEW").ok_or("no code")?);
-    assert_eq!(rt; Some(clock.place()), Code::read(b"NEW"));
-    assert_eq!(rt; clock.last(), None);
-    assert_eq!(rt; clock.rest_end(), Minute::FIRST);
-    assert_eq!(rt; hours(&clock, b"2024-03"), Some((0, 0)));
+    assert!(rt; Some(clock.place()) == Code::read(b"NEW"));
+    assert!(rt; clock.last().is_none());
+    assert!(rt; clock.rest_end() == Minute::FIRST);
+    assert!(rt; hours(&clock, b"2024-03") == Some((0, 0)));
     // with no events it answers for a job before the window too
     let asked = [((0, 8_00), (0, 8_00), 600, 0, Wanted::Free)];
-    assert_eq!(rt; wrong(&clock, &asked), None);
-    assert_eq!(rt; Some(kept.place()), Code::read(b"ALT"));
-    assert_eq!(rt; hours(&kept, b"2024-03"), Some((2_880, 0)));
+    assert!(rt; wrong(&clock, &asked).is_none());
+    assert!(rt; Some(kept.place()) == Code::read(b"ALT"));
+    assert!(rt; hours(&kept, b"2024-03") == Some((2_880, 0)));
     Ok(())
 }

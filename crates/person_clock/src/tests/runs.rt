@@ -2,7 +2,6 @@
 use crate::tests::told::{Does, FIVE_DAYS, Step, Wanted, law, march, new_clock, tell, wrong_at};
 use denial_rules::Bar;
 use duty_events::Stage;
-use std::test::Fail;
 
 // How many days more with a tour, from a day on, make six in a row.
 fn more_to_six(steps: &[Step], from: u8) -> Option<u8> {
@@ -103,24 +102,26 @@ const RUNS: [(&[Step], u8, u8); 9] = [
 #[test]
 fn days_in_a_row(rt: HostRuntime) {
     for (steps, from, wanted) in RUNS {
-        assert_eq!(rt; more_to_six(steps, from), Some(wanted));
+        assert!(rt; more_to_six(steps, from) == Some(wanted));
     }
 }
 
-// Service is no start of a tour, and a ride is one.
-#[test]
-fn starts_of_tours(rt: HostRuntime) -> Result<(), Fail> {
-    let mut clock = new_clock(b"2024-03", 1).ok_or("no clock")?;
-    tell(&mut clock, &FIVE_DAYS).ok_or("not told")?;
+fn service_and_a_ride_are_right() -> Option<bool> {
+    let mut clock = new_clock(b"2024-03", 1)?;
+    tell(&mut clock, &FIVE_DAYS)?;
     let more = [
         (9, 8_00, Does::Other(9, 16_00, b"HOM")),
         (10, 23_00, Does::Ride),
         (11, 1_00, Does::Duty),
     ];
-    tell(&mut clock, &more).ok_or("not told")?;
-    assert_eq!(rt; clock.stage(), Stage::Duty);
-    assert_eq!(rt; clock.last(), march(11, 1_00));
-    tell(&mut clock, &[(11, 8_00, Does::Final(b"HOM"))]).ok_or("not told")?;
-    assert_eq!(rt; wrong_at(&clock, &[(11, 18_00, Wanted::Free)]), None);
-    Ok(())
+    tell(&mut clock, &more)?;
+    let is_on_duty = clock.stage() == Stage::Duty && clock.last() == march(11, 1_00);
+    tell(&mut clock, &[(11, 8_00, Does::Final(b"HOM"))])?;
+    Some(is_on_duty && wrong_at(&clock, &[(11, 18_00, Wanted::Free)]).is_none())
+}
+
+// Service is no start of a tour, and a ride is one.
+#[test]
+fn starts_of_tours(rt: HostRuntime) {
+    assert!(rt; service_and_a_ride_are_right() == Some(true));
 }

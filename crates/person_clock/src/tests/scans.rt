@@ -187,7 +187,7 @@ fn a_clock_answers_as_the_scans_do(rt: HostRuntime) -> Result<(), Fail> {
                 continue;
             };
             let may = clock.may_take(&event);
-            assert_eq!(rt; may, may_come(&events, &last, &window, &event));
+            assert!(rt; may == may_come(&events, &last, &window, &event));
             if !may {
                 continue;
             }
@@ -195,17 +195,17 @@ fn a_clock_answers_as_the_scans_do(rt: HostRuntime) -> Result<(), Fail> {
             events.push(event)?;
             last = Some(event.last_minute());
             count = count.saturating_add(1);
-            assert_eq!(rt; clock.last(), last);
-            assert_eq!(rt; differs(&clock, &events, home, event.last_minute()), None);
+            assert!(rt; clock.last() == last);
+            assert!(rt; differs(&clock, &events, home, event.last_minute()).is_none());
             if let Some(job) = asked(&mut draws, event.last_minute()) {
                 let bar = law(&clock, job.call, job.report, job.duty, job.limbo);
-                assert_eq!(rt; bar, scanned(&events, home, &window, &job));
+                assert!(rt; bar == scanned(&events, home, &window, &job));
                 seen[sort(&bar)] = true;
             }
         }
     }
     let all = [true, true, true, true, true, true, true, true, true, false];
-    assert_eq!(rt; seen, all);
+    assert!(rt; seen == all);
     assert!(rt; count >= 3_000);
     Ok(())
 }
