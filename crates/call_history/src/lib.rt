@@ -6,6 +6,3 @@ mod full;
 
 pub use book::Book;
 pub use full::Full;
-
-#[cfg(test)]
-mod tests;

@@ -12,6 +12,3 @@ pub use desk::Desk;
 pub use receipt::Receipt;
 pub use seat_spent::SeatSpent;
 pub use seats_missing::SeatsMissing;
-
-#[cfg(test)]
-mod tests;

@@ -1,5 +1,5 @@
 //! A book of a few entries, and one that is full.
-use crate::{Book, Full};
+use call_history::{Book, Full};
 use desk_base::{Code, Minute, Month, Window};
 use desk_model::{Booked, Cmd, Edition, Opening, Reply, Stated};
 use plain_core::PlainCore;

@@ -3,10 +3,10 @@ ghost use Rattle.std.specs.Prelude.{IfSome};
 ghost use Rattle.std.specs.List.{All};
 ghost use Rattle.turn_gate.specs.Seats.{IsSeatOf};
 
-use crate::{Called, Desk, SeatSpent};
 use call_history::{Book, Full};
 use desk_base::{Code, Minute, Month, Window};
 use desk_model::{Booked, Cmd, Edition, Opening, Reply, Stated};
+use desk_shared::{Called, Desk, SeatSpent};
 use plain_core::PlainCore;
 use std::alloc::Global;
 use std::sync::Wait;
