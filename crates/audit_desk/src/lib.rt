@@ -17,6 +17,3 @@ pub use outcome::Outcome;
 pub use resumed::Resumed;
 pub use verdict::Verdict;
 pub use verdict_text::write_verdict;
-
-#[cfg(test)]
-mod tests;

@@ -1,5 +1,5 @@
 //! What an audit finds in one journal, in that journal cut anywhere, and in others that are wrong.
-use crate::{BYTE_LIMIT, Outcome, Verdict, audit, resume, write_verdict};
+use audit_desk::{BYTE_LIMIT, Outcome, Verdict, audit, resume, write_verdict};
 use desk_base::{Code, Minute, PersonNo, VacNo};
 use desk_model::{Cmd, DeskCore, Reply, Stated};
 use std::alloc::Global;
