@@ -37,12 +37,6 @@ pub statement-next : (h : History) (right : EntryValue) (s : Statement) → righ
 unfolding next
 statement-next h right s is = sym (ap statement_of is)
 
--- an entry with the outcome of the one that comes next is the one that comes next
-pub entry-same : (h : History) (e right : EntryValue) → right ≡ next h e.caller e.stated → outcome_of e ≡ outcome_of right → e ≡ right
-unfolding next
-entry-same h e right is same =
-    rw (is) (rw (ap (λ o. o.moment) (same ∙ ap outcome_of is), ap (λ o. o.reply) (same ∙ ap outcome_of is)) refl)
-
 -- texts that a comparison finds the same, or not
 pub same-text : (a b : List ℕ) → false ≡ not (pointwise nat_eq a b) → a ≡ b
 same-text a b e = (slice_eq-Decides Decides-eqb _ _ _ refl).0 (go (pointwise nat_eq a b) e)
