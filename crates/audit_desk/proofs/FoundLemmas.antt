@@ -1,5 +1,5 @@
 -- What is found, as lines are read one after another.
-use Rattle.std.proofs.Common.{◌≡◌, ◌≢◌, ◌∙◌, ℕ, ◌==◌, Bool, true, false, not, nat_eq, Some, List, [], ◌∷◌, ◌++◌, length, refl, sym, ap, subst, arith, append_assoc, append-nil}
+use Rattle.std.proofs.Common.{◌≡◌, ◌≢◌, ◌∙◌, ℕ, ◌==◌, Bool, true, false, not, nat_eq, List, [], ◌∷◌, ◌++◌, length, refl, sym, ap, subst, arith, append_assoc, append-nil}
 use Rattle.std.proofs.lemmas.Bool.{false≢true}
 use Rattle.std.proofs.lemmas.Bool.Decides.{Decides-eqb}
 use Rattle.std.proofs.lemmas.Slice.Eq.{slice_eq-Decides}
@@ -13,7 +13,7 @@ use Rattle.desk_model.specs.Journal.{opening_line, entry_line, entry_lines, jour
 use Rattle.desk_text.specs.Line.{IsLine}
 use Rattle.desk_text.specs.SpelledEntry.{IsEntryLine, statement_of}
 use Rattle.desk_text.specs.declared.statement.Statement.{Statement}
-use Rattle.audit_desk.specs.Found.{HasUnreadable, line_behind, outcome_of}
+use Rattle.audit_desk.specs.Found.{HasUnreadable, line_behind}
 
 -- an entry more is a line more
 pub journal-next : (h : History) (e : EntryValue) → journal (with_entry h e) ≡ journal h ++ entry_line e

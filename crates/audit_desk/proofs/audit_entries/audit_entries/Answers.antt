@@ -1,6 +1,6 @@
 use Rattle.std.proofs.Common.{◌≡◌, ◌∙◌, ◌++◌, ◌∷◌, [], sym, ap, arith, length-append}
 use Rattle.desk_model.specs.History.{with_entry}
-use Rattle.desk_model.specs.Journal.{journal, entry_line}
+use Rattle.desk_model.specs.Journal.{journal}
 use Rattle.desk_text.specs.SpelledEntry.{IsEntryLine, BeginsEntry, statement_of}
 use Rattle.desk_text.specs.Line.{outcome_line}
 use Rattle.desk_text.proofs.SpelledEntryLemmas.{IsEntryLine-begins, entry_line-outcome}
@@ -27,7 +27,7 @@ returns-then-ne-clause-found g c = λ h stands none.
     let so = c.loop-left.invariant.read h stands none in
     let line : IsEntryLine c.first_line.result.0.now c.in-Some-read_entry.entry = rw (c.in-Some-read_entry.is) at c.read_entry.ensures.some in
     let read : (c.in-Some.statement ≡ statement_of c.in-Some-read_entry.entry) × (c.in-Some.outcome.now ≡ outcome_line c.in-Some-read_entry.entry.moment c.in-Some-read_entry.entry.reply) =
-        rw (c.in-Some.is) at (c.read_statement.ensures.only _ _ (IsEntryLine-begins _ c.in-Some-read_entry.entry line)) in
+    rw (c.in-Some.is) at (c.read_statement.ensures.only _ _ (IsEntryLine-begins _ c.in-Some-read_entry.entry line)) in
     let answer = next-statement so.history c.in-Some-read_entry.entry c.step-right.result c.in-Some.statement read.0 (c.step-right.ensures.answer _ so.stands) in
     record {
       history = so.history;
@@ -59,7 +59,7 @@ loop-left-preserved g c =
           record {
             history = with_entry so.history c.step-right.result;
             stands = c.step-right.ensures.stands _ so.stands;
-            read = journal-goes_on so.history c.step-right.result _ c.loop-left.left.now c.first_line.result.0.now c.first_line.result.1.now so.read c.first_line.ensures.parts 
+            read = journal-goes_on so.history c.step-right.result _ c.loop-left.left.now c.first_line.result.0.now c.first_line.result.1.now so.read c.first_line.ensures.parts
                 (entry_line-outcome _ _ c.in-Some.statement c.step-right.result begins
                 (statement-next so.history c.step-right.result c.in-Some.statement (c.step-right.ensures.answer _ so.stands))
                 (same-text _ _ c.if-ne.ensures ∙ c.as_slice.ensures.value ∙ c.fill_with_outcome.ensures));
