@@ -1,5 +1,5 @@
 -- What is found, as lines are read one after another.
-use Rattle.std.proofs.Common.{◌≡◌, ◌≢◌, ◌∙◌, ℕ, ◌==◌, Bool, true, false, not, nat_eq, Some, List, [], ◌∷◌, ◌++◌, length, refl, sym, ap, subst, arith, append_assoc, append-nil}
+use Rattle.std.proofs.Common.{◌≡◌, ◌≢◌, ◌∙◌, ℕ, ◌==◌, Bool, true, false, not, nat_eq, List, [], ◌∷◌, ◌++◌, length, refl, sym, ap, subst, arith, append_assoc, append-nil}
 use Rattle.std.proofs.lemmas.Bool.{false≢true}
 use Rattle.std.proofs.lemmas.Bool.Decides.{Decides-eqb}
 use Rattle.std.proofs.lemmas.Slice.Eq.{slice_eq-Decides}
@@ -13,7 +13,7 @@ use Rattle.desk_model.specs.Journal.{opening_line, entry_line, entry_lines, jour
 use Rattle.desk_text.specs.Line.{IsLine}
 use Rattle.desk_text.specs.SpelledEntry.{IsEntryLine, statement_of}
 use Rattle.desk_text.specs.declared.statement.Statement.{Statement}
-use Rattle.audit_desk.specs.Found.{HasUnreadable, line_behind, outcome_of}
+use Rattle.audit_desk.specs.Found.{HasUnreadable, line_behind}
 
 -- an entry more is a line more
 pub journal-next : (h : History) (e : EntryValue) → journal (with_entry h e) ≡ journal h ++ entry_line e
@@ -36,12 +36,6 @@ next-statement h e right s same is = subst (λ t. right ≡ next h t.caller t.st
 pub statement-next : (h : History) (right : EntryValue) (s : Statement) → right ≡ next h s.caller s.stated → s ≡ statement_of right
 unfolding next
 statement-next h right s is = sym (ap statement_of is)
-
--- an entry with the outcome of the one that comes next is the one that comes next
-pub entry-same : (h : History) (e right : EntryValue) → right ≡ next h e.caller e.stated → outcome_of e ≡ outcome_of right → e ≡ right
-unfolding next
-entry-same h e right is same =
-    rw (is) (rw (ap (λ o. o.moment) (same ∙ ap outcome_of is), ap (λ o. o.reply) (same ∙ ap outcome_of is)) refl)
 
 -- texts that a comparison finds the same, or not
 pub same-text : (a b : List ℕ) → false ≡ not (pointwise nat_eq a b) → a ≡ b

@@ -45,7 +45,6 @@ module _ (result : Status) (left left' : Option (List ℕ)) (text : History → 
     (long : result ≡ TooLong → TookMore left left' BYTE_LIMIT ⊎ WasRead BYTE_LIMIT left left' HasTooManyLines)
     (opening : result ≡ NoOpening → WasRead BYTE_LIMIT left left' (λ bytes. HasFewLines bytes × HasNoOpening bytes))
     (unread : result ≡ Unreadable → TellsLine left left' Line) (form : result ≢ Usage) (wrong : result ≢ AuditWrong) where
-
   -- more bytes than the limit were not read
   all-within : (P : List ℕ → Type 0) → TellsMore BYTE_LIMIT left → ¬ WasRead BYTE_LIMIT left left' P
   all-within P more read = omega (arith, more.more, (was-told BYTE_LIMIT left left' more.bytes P more.told read).0)

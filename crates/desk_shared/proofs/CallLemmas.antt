@@ -1,7 +1,5 @@
 -- A call, from the turn that it takes to the one that it gives back.
-use Rattle.std.proofs.Common.{◌≡◌, ◌∙◌, ◌==◌, ℕ, List, [], ◌∷◌, ◌++◌, if◌then◌else◌, sym, ap, subst}
-use Rattle.std.proofs.lemmas.Bool.{eq-eqb}
-use Rattle.std.proofs.lemmas.List.Elements.{filter-append}
+use Rattle.std.proofs.Common.{◌≡◌, ◌∙◌, ℕ, List, [], ◌∷◌, ◌++◌, sym, ap, subst}
 use mathlib.Core.List.{IsPrefix}
 use Rattle.desk_model.specs.Entry.{EntryValue}
 use Rattle.desk_model.specs.History.{history_of}
@@ -12,7 +10,6 @@ use Rattle.turn_gate.specs.declared.told.Told.{Told}
 use Rattle.turn_gate.specs.Seats.{SeatValue, TurnValue}
 use Rattle.turn_gate.specs.Told.{own}
 use Rattle.turn_gate.specs.Turns.{Took, MayGive, Gave}
-use Rattle.turn_gate.proofs.Notes.{prefix_longer}
 use Rattle.desk_shared.specs.Calls.{Calls}
 
 -- an entry that comes next is of who states it
@@ -33,17 +30,14 @@ MayGive-next seat turn book later caller s e took who is more room wall = record
   wall = wall ∙ took.of_gate.wall ∙ ap (λ k. k.book.wall) (sym took.start);
 }
 
--- the entries of a caller, with one of theirs behind
-own-next : (es : List EntryValue) (e : EntryValue) (number : ℕ) → e.caller ≡ number → own (es ++ e ∷ []) number ≡ own es number ++ e ∷ []
-own-next es e number is =
-    filter-append (λ x. x.caller == number) es (e ∷ []) ∙ ap (λ t. own es number ++ (if t then e ∷ [] else [])) (eq-eqb e.caller number is)
-
 -- a seat that took a turn, and gave it back with the entry of its call, made that call
-pub Calls-gave : (seat later : SeatValue) (turn : TurnValue) (book given : Told) (caller place : ℕ) (s : StatedValue) (e : EntryValue) → Took seat turn book → Gave turn given later
+pub Calls-gave : ((entries : List EntryValue) (e : EntryValue) (number : ℕ) → e.caller ≡ number → own (entries ++ e ∷ []) number ≡ own entries number ++ e ∷ [])
+    → ((known entries : List EntryValue) (e : EntryValue) → IsPrefix known entries → IsPrefix known (entries ++ e ∷ []))
+    → (seat later : SeatValue) (turn : TurnValue) (book given : Told) (caller place : ℕ) (s : StatedValue) (e : EntryValue) → Took seat turn book → Gave turn given later
     → caller ≡ turn.number → place ≡ turn.place → e ≡ next (history_of book.opening book.entries) caller s
     → history_of given.opening given.entries ≡ history_of book.opening (book.entries ++ e ∷ []) → ∥ IsLegal (history_of given.opening given.entries) ∥₁
     → Calls seat.start.book.opening seat later s (record { place = place; entry = e })
-Calls-gave seat later turn book given caller place s e took gave who at is more legal =
+Calls-gave mine begins seat later turn book given caller place s e took gave who at is more legal =
     let opening : given.opening ≡ seat.start.book.opening = ap (λ h. h.opening) more ∙ took.of_gate.opening in
     let entries : given.entries ≡ book.entries ++ e ∷ [] = ap (λ h. h.entries) more in
     let known : later.known ≡ book.entries ++ e ∷ [] = gave.known ∙ entries in
@@ -53,8 +47,8 @@ Calls-gave seat later turn book given caller place s e took gave who at is more 
       place = at ∙ sym took.place;
       entry = is ∙ ap (λ o. next (history_of o book.entries) caller s) took.of_gate.opening ∙ ap (λ n. next (history_of seat.start.book.opening book.entries) n s) number;
       known = known;
-      begins = subst (λ l. IsPrefix seat.known l) (sym known) (prefix_longer seat.known book.entries (e ∷ []) took.knows.known);
-      own_calls = ap (λ l. own l seat.number) known ∙ own-next book.entries e seat.number (next-caller book.opening book.entries caller s e is ∙ number)
+      begins = subst (λ l. IsPrefix seat.known l) (sym known) (begins seat.known book.entries e took.knows.known);
+      own_calls = ap (λ l. own l seat.number) known ∙ mine book.entries e seat.number (next-caller book.opening book.entries caller s e is ∙ number)
           ∙ ap (λ l. l ++ e ∷ []) took.knows.own;
       legal = subst (λ l. ∥ IsLegal (history_of seat.start.book.opening l) ∥₁) (sym gave.known) (subst (λ o. ∥ IsLegal (history_of o given.entries) ∥₁) opening legal);
       number = gave.number ∙ took.number;

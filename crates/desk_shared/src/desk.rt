@@ -12,7 +12,7 @@ use desk_model::{Booked, DeskCore, LAST_CALLER, Stated};
 use std::alloc::Global;
 use std::marker::Model;
 use std::sync::Wait;
-use turn_gate::{Gate, Seat};
+use turn_gate::{Gate, Seat, what_one_entry_more_makes_known};
 
 /// A desk that callers share. Each has a seat, and the calls of all seats are one history.
 #[derive(Drop)]
@@ -70,6 +70,7 @@ impl<C: DeskCore> Desk<C> {
             (λ spent. (result.seat ≡ seat) × (seat.calls ≡ self.now.start.quota)) }
         ensures seat { IsSeatOf self.now result.seat }
     {
+        what_one_entry_more_makes_known();
         match self.gate.take(rt, seat) {
             Ok((turn, mut book)) => {
                 let place = turn.place();

@@ -53,7 +53,7 @@ pub parts_by-found : (mark at : ℕ) (bytes : List ℕ) → IsFirstByte (is_byte
     → parts_by mark bytes ≡ take at bytes ∷ parts_by mark (drop (at + 1) bytes)
 parts_by-found mark at bytes found =
     let here : position_or_len (λ b. b == mark) bytes ≡ at = position_or_len_is (λ b. b == mark) bytes at 0 (omega (arith, found.0.high))
-        (λ k before. false_from_ne_true _ (found.0.before k (omega arith) before)) (λ within. found.1) in
+    (λ k before. false_from_ne_true _ (found.0.before k (omega arith) before)) (λ within. found.1) in
     slice_split_first (λ b. b == mark) bytes 0 (omega (arith, here, found.0.high))
     ∙ ap (λ n. take n bytes ∷ parts_by mark (drop (n + 1) bytes)) here
 

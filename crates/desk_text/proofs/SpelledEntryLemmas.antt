@@ -3,7 +3,7 @@ use Rattle.std.specs.Result.{result_ok}
 use Rattle.std.proofs.Common.{◌≡◌, ◌∙◌, ℕ, suc, Result, Ok, Err, IfOk, IfSome, ◌<◌, ◌≤◌, ◌==◌, Bool, true, false, not, List, [], ◌∷◌, ◌++◌, length, get_or, take, decimal, refl, sym, ap, arith, append_assoc}
 use Rattle.std.specs.List.{All, join_with_byte}
 use Rattle.std.proofs.lemmas.Bool.Decides.{nat_tests}
-use Rattle.std.proofs.lemmas.List.{take_all, append_cancel_left, append_cancel_right}
+use Rattle.std.proofs.lemmas.List.{take_all, append_cancel_right}
 use Rattle.std.proofs.lemmas.List.Splits.{join_with_byte-slice_split}
 use Rattle.std.proofs.lemmas.List.Sums.{AllPass-from_list_all}
 use Rattle.desk_base.specs.Minute.{minute_text}
@@ -12,7 +12,7 @@ use Rattle.desk_base.proofs.PartsLemmas.{AreUnmarked, parts_by-join}
 use Rattle.duty_events.specs.declared.event.Event.{Event}
 use Rattle.desk_model.specs.declared.command.Cmd.{Cmd}
 use Rattle.desk_model.specs.Entry.{EntryValue}
-use Rattle.desk_model.specs.Fits.{Fits}
+use Rattle.desk_model.specs.Fits.{IsStated, Fits}
 use Rattle.desk_model.specs.Journal.{entry_line}
 use Rattle.desk_model.specs.ReplyTexts.{reply_text}
 use Rattle.desk_model.specs.StatedTexts.{event_fields, command_fields, stated_fields}
@@ -86,14 +86,20 @@ unbarred xs is k d within = other (get_or xs k d) (AllPass-from_list_all no_bar 
 inner_no_bar : (xs : List ℕ) → IsInner xs → Passes no_bar xs
 inner_no_bar xs is = weaker no_bar xs (λ b h. grind (arith, nat_tests, h)) is
 
+pub number-unbarred : (caller : ℕ) → caller ≤ LAST_CALLER → All (λ b. (b == 124) ≡ false) (decimal caller)
+number-unbarred caller within = unbarred _ (inner_no_bar _ (number caller (omega (arith, within))))
+
 pub caller-unbarred : (e : EntryValue) → Fits e → All (λ b. (b == 124) ≡ false) (decimal e.caller)
-caller-unbarred e is = unbarred _ (inner_no_bar _ (number e.caller (omega (arith, is.caller))))
+caller-unbarred e is = number-unbarred e.caller is.caller
 
 pub joined-unbarred : (fields : List (List ℕ)) → All IsInner fields → All (λ b. (b == 124) ≡ false) (join_with_byte 44 fields)
 joined-unbarred fields all = unbarred _ (join 44 refl fields (λ k d within. inner_no_bar _ (all k d within)))
 
+pub statement-unbarred : (s : StatedValue) → IsStated s → All (λ b. (b == 124) ≡ false) (join_with_byte 44 (stated_fields s))
+statement-unbarred s is = joined-unbarred (stated_fields s) (stated_inner s is)
+
 pub stated-unbarred : (e : EntryValue) → Fits e → All (λ b. (b == 124) ≡ false) (join_with_byte 44 (stated_fields e.stated))
-stated-unbarred e is = joined-unbarred (stated_fields e.stated) (stated_inner e.stated is.stated)
+stated-unbarred e is = statement-unbarred e.stated is.stated
 
 pub moment-unbarred : (e : EntryValue) → Fits e → All (λ b. (b == 124) ≡ false) (minute_text e.moment)
 moment-unbarred e is = unbarred _ (inner_no_bar _ (minute_in e.moment is.moment))
@@ -134,19 +140,11 @@ entry_line-parts-outcome : (e : EntryValue) → entry_line e ≡ decimal e.calle
 unfolding entry_line
 entry_line-parts-outcome e = simp append_assoc
 
--- a line that begins so is that of an entry by the same caller, of the same command, exactly where its outcome is the entry's
-pub BeginsEntry-outcome : (line outcome : List ℕ) (s : Statement) (e : EntryValue) → BeginsEntry line outcome s → s ≡ statement_of e → line ≡ entry_line e → outcome ≡ outcome_line e.moment e.reply
-BeginsEntry-outcome line outcome s e begins same is =
-    let front : List ℕ = decimal e.caller ++ 124 ∷ (join_with_byte 44 (stated_fields e.stated) ++ 124 ∷ []) in
-    append_cancel_left front outcome (outcome_line e.moment e.reply) (
-        sym (front-of e.caller e.stated outcome)
-        ∙ ap (λ t. decimal t.caller ++ 124 ∷ (join_with_byte 44 (stated_fields t.stated) ++ 124 ∷ outcome)) (sym same) ∙ sym begins.line_is ∙ is
-        ∙ entry_line-parts-outcome e ∙ front-of e.caller e.stated (outcome_line e.moment e.reply))
-  where
-    front-of : (caller : ℕ) (t : StatedValue) (x : List ℕ)
-        → decimal caller ++ 124 ∷ (join_with_byte 44 (stated_fields t) ++ 124 ∷ x) ≡ (decimal caller ++ 124 ∷ (join_with_byte 44 (stated_fields t) ++ 124 ∷ [])) ++ x
-    front-of caller t x = simp append_assoc
+-- a line that is an entry's begins with who stated what, and its outcome is behind it
+pub IsEntryLine-begins : (line : List ℕ) (e : EntryValue) → IsEntryLine line e → BeginsEntry line (outcome_line e.moment e.reply) (statement_of e)
+IsEntryLine-begins line e is = record { caller_in = is.valid.caller; valid = is.valid.stated; line_is = is.line_is ∙ entry_line-parts-outcome e }
 
+-- such a line is that of an entry by the same caller, of the same command, with this outcome
 pub entry_line-outcome : (line outcome : List ℕ) (s : Statement) (e : EntryValue) → BeginsEntry line outcome s → s ≡ statement_of e → outcome ≡ outcome_line e.moment e.reply → line ≡ entry_line e
 entry_line-outcome line outcome s e begins same is =
     begins.line_is ∙ ap (λ t. decimal t.caller ++ 124 ∷ (join_with_byte 44 (stated_fields t.stated) ++ 124 ∷ outcome)) same

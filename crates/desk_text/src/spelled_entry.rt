@@ -1,9 +1,10 @@
 //! Entries, and what was stated by whom, read from lines of a journal.
-ghost use Rattle.std.specs.Prelude.{◌≡◌, ◌≤◌, ℕ, decimal, IfSome, IsSomeAnd};
+ghost use Rattle.std.specs.Prelude.{◌≡◌, ◌≤◌, ℕ, List, decimal, IfSome, IsSomeAnd};
 ghost use Rattle.desk_model.specs.declared.limits.TheConstants.{LAST_CALLER};
 ghost use Rattle.desk_model.specs.Entry.{EntryValue};
 ghost use Rattle.desk_model.specs.Statement.{StatedValue};
-ghost use Rattle.desk_text.specs.SpelledEntry.{IsEntryLine, SpellsStated, SpellsEntry, BeginsEntry, statement_of};
+ghost use Rattle.desk_text.specs.SpelledEntry.{IsEntryLine, SpellsStated, SpellsEntry, BeginsEntry};
+ghost use Rattle.desk_text.specs.declared.statement.Statement.{Statement as StatementValue};
 
 use crate::command_record::read_record;
 use crate::cut::{before, cut};
@@ -43,8 +44,8 @@ pub fn read_next_entry(
 /// only spares work.
 pub fn read_statement<'a>(last: &mut LastMinute, line: &'a [u8]) -> Option<(Statement, &'a [u8])>
     ensures some { IfSome result (λ read. BeginsEntry line.now read.1.now read.0) }
-    ensures only { (e : EntryValue) → IsEntryLine line.now e
-        → IsSomeAnd result (λ read. read.0 ≡ statement_of e) }
+    ensures only { (s : StatementValue) (outcome : List ℕ) → BeginsEntry line.now outcome s
+        → IsSomeAnd result (λ read. (read.0 ≡ s) × (read.1.now ≡ outcome)) }
 {
     let (caller, rest) = cut(line, b'|')?;
     let (stated, outcome) = cut(rest, b'|')?;

@@ -1,10 +1,11 @@
 use Rattle.std.proofs.Common.{◌≡◌, ◌∙◌, ◌++◌, ◌∷◌, [], sym, ap, arith, length-append}
 use Rattle.desk_model.specs.History.{with_entry}
-use Rattle.desk_model.specs.Journal.{journal, entry_line}
+use Rattle.desk_model.specs.Journal.{journal}
 use Rattle.desk_text.specs.SpelledEntry.{IsEntryLine, BeginsEntry, statement_of}
-use Rattle.desk_text.proofs.SpelledEntryLemmas.{BeginsEntry-outcome, entry_line-outcome}
+use Rattle.desk_text.specs.Line.{outcome_line}
+use Rattle.desk_text.proofs.SpelledEntryLemmas.{IsEntryLine-begins, entry_line-outcome}
 use Rattle.audit_desk.specs.Found.{outcome_of}
-use Rattle.audit_desk.proofs.FoundLemmas.{journal-goes_on, next-statement, statement-next, entry-same, same-text, other-text, some-left, HasUnreadable-line}
+use Rattle.audit_desk.proofs.FoundLemmas.{journal-goes_on, next-statement, statement-next, same-text, other-text, some-left, HasUnreadable-line}
 use Rattle.audit_desk.proofs.audit_entries.audit_entries.Goals as goal
 
 pub returns-in_default-clause-found : goal.returns-in_default-clause-found
@@ -12,7 +13,7 @@ returns-in_default-clause-found g c = λ h stands none.
     let so = c.loop-left.invariant.read h stands none in
     HasUnreadable-line _ c.loop-left.left.now c.first_line.result.0.now c.first_line.result.1.now so.history _ (g.met.C.DeskCore.legal _ _ so.stands) so.read
     (some-left c.loop-left.left.now c.loop-left-test.ensures) c.each_line_ends_once.ensures.entry c.first_line.ensures.line
-    (λ e is. rw (c.in_default.is) at (c.read_statement.ensures.only e is)) (omega (arith, so.count_is))
+    (λ e is. rw (c.in_default.is) at (c.read_statement.ensures.only _ _ (IsEntryLine-begins _ e is))) (omega (arith, so.count_is))
 
 pub returns-in_default-read_entry-clause-found : goal.returns-in_default-read_entry-clause-found
 returns-in_default-read_entry-clause-found g c = λ h stands none.
@@ -25,9 +26,9 @@ pub returns-then-ne-clause-found : goal.returns-then-ne-clause-found
 returns-then-ne-clause-found g c = λ h stands none.
     let so = c.loop-left.invariant.read h stands none in
     let line : IsEntryLine c.first_line.result.0.now c.in-Some-read_entry.entry = rw (c.in-Some-read_entry.is) at c.read_entry.ensures.some in
-    let stated : c.in-Some.statement ≡ statement_of c.in-Some-read_entry.entry = rw (c.in-Some.is) at (c.read_statement.ensures.only c.in-Some-read_entry.entry line) in
-    let begins : BeginsEntry c.first_line.result.0.now c.in-Some.outcome.now c.in-Some.statement = rw (c.in-Some.is) at c.read_statement.ensures.some in
-    let answer = next-statement so.history c.in-Some-read_entry.entry c.step-right.result c.in-Some.statement stated (c.step-right.ensures.answer _ so.stands) in
+    let read : (c.in-Some.statement ≡ statement_of c.in-Some-read_entry.entry) × (c.in-Some.outcome.now ≡ outcome_line c.in-Some-read_entry.entry.moment c.in-Some-read_entry.entry.reply) =
+    rw (c.in-Some.is) at (c.read_statement.ensures.only _ _ (IsEntryLine-begins _ c.in-Some-read_entry.entry line)) in
+    let answer = next-statement so.history c.in-Some-read_entry.entry c.step-right.result c.in-Some.statement read.0 (c.step-right.ensures.answer _ so.stands) in
     record {
       history = so.history;
       entry = c.in-Some-read_entry.entry;
@@ -41,8 +42,7 @@ returns-then-ne-clause-found g c = λ h stands none.
       written_is = c.outcome_of.ensures;
       right_is = c.outcome_of-then-ne.ensures ∙ ap outcome_of answer;
       differ = λ same. other-text _ _ c.if-ne.ensures (
-          BeginsEntry-outcome _ _ c.in-Some.statement c.step-right.result begins (statement-next so.history c.step-right.result c.in-Some.statement (c.step-right.ensures.answer _ so.stands))
-          (line.line_is ∙ ap entry_line (entry-same so.history c.in-Some-read_entry.entry c.step-right.result answer (sym c.outcome_of.ensures ∙ same ∙ c.outcome_of-then-ne.ensures)))
+          read.1 ∙ ap (λ o. outcome_line o.moment o.reply) (sym c.outcome_of.ensures ∙ same ∙ c.outcome_of-then-ne.ensures)
           ∙ sym (c.as_slice.ensures.value ∙ c.fill_with_outcome.ensures));
     }
 
@@ -59,7 +59,7 @@ loop-left-preserved g c =
           record {
             history = with_entry so.history c.step-right.result;
             stands = c.step-right.ensures.stands _ so.stands;
-            read = journal-goes_on so.history c.step-right.result _ c.loop-left.left.now c.first_line.result.0.now c.first_line.result.1.now so.read c.first_line.ensures.parts 
+            read = journal-goes_on so.history c.step-right.result _ c.loop-left.left.now c.first_line.result.0.now c.first_line.result.1.now so.read c.first_line.ensures.parts
                 (entry_line-outcome _ _ c.in-Some.statement c.step-right.result begins
                 (statement-next so.history c.step-right.result c.in-Some.statement (c.step-right.ensures.answer _ so.stands))
                 (same-text _ _ c.if-ne.ensures ∙ c.as_slice.ensures.value ∙ c.fill_with_outcome.ensures));

@@ -1,4 +1,4 @@
-use Rattle.std.proofs.Common.{◌≡◌, ◌∙◌, ◌+◌, Some, None, get_or, take, drop, [], ap, sym}
+use Rattle.std.proofs.Common.{◌∙◌, ◌+◌, Some, get_or, drop, [], ap, sym}
 use Rattle.std.proofs.lemmas.List.{take_rest}
 use Rattle.memchr.specs.Find.{IsFirstByte, is_byte}
 use Rattle.desk_text.proofs.CutLemmas.{parts-one, parts-text, text-parts, some-parts, parts_by-found, parts_by-absent}
