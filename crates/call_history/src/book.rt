@@ -58,11 +58,13 @@ impl<C: DeskCore> Book<C> {
         &self.entries
     }
 
-    /// What a book keeps is a legal history, and it has room for fewer than 2^32 entries in all. It does nothing: its clauses are the
+    /// What a book keeps is a legal history, it has room for fewer than 2^32 entries in all, and no wall of windows shows
+    /// them. It does nothing: its clauses are the
     /// law.
     pub fn is_legal(&self)
         ensures legal { ∥ IsLegal (⟦<Book<C> as Booked>⟧.history self.now) ∥₁ }
         ensures few { ⟦<Book<C> as Booked>⟧.room self.now < 2 ^ 32 }
+        ensures mark { ⟦<Book<C> as Booked>⟧.mark self.now ≡ no_wall }
     {}
 
     /// How many more entries the book has room for.

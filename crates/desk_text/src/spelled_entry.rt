@@ -24,7 +24,8 @@ pub fn read_entry(line: &[u8]) -> Option<Entry>
     read_next_entry(&mut LastMinute::new(), &mut LastMinute::new(), line)
 }
 
-/// The same of a line behind others. The last minutes are those that the lines before it named: they only spare work.
+/// The entry of a line of the journal that stands behind others, as `read_entry` reads it. The last minutes are those that the lines
+/// before it named: they only spare work.
 pub fn read_next_entry(
     stated_last: &mut LastMinute,
     moment_last: &mut LastMinute,

@@ -43,7 +43,8 @@ impl<B: Booked> Model for Gate<B> {
 }
 
 impl<B: Booked> Gate<B> {
-    /// A gate for a book, with 1 to 63 seats and so many calls of each; or, where memory was wanting, the book.
+    /// A gate for a book, with 1 to 63 seats and so many calls of each, with which the book has fewer than 2^32 entries; or, where
+    /// memory was wanting, the book.
     pub fn new(alloc: Global, book: B, seats: u8, quota: u32) -> Result<(Gate<B>, Vec<Seat<B>>), B>
         requires some { 1 ≤ seats }
         requires most { seats ≤ LAST_CALLER }
