@@ -1,7 +1,7 @@
 ghost use Rattle.std.specs.Prelude.{◌≡◌, ◌≢◌, ◌↔◌, ◌⊎◌, ◌≤◌, [], false, None, IsTrue, IsNone, IfSome};
 ghost use Rattle.std.specs.Bool.{OnTrue, OnFalse};
 ghost use Rattle.desk_io.specs.Faults.{Rose};
-ghost use Rattle.caller_lines.specs.FileLine.{IsSomeBytes};
+ghost use Rattle.caller_lines.specs.FileLine.{IsSomeBytes, Wrote};
 ghost use Rattle.caller_lines.specs.Given.{answer_of};
 ghost use Rattle.caller_lines.specs.Told.{with_last, told_count, WasPut};
 
@@ -74,6 +74,7 @@ impl<R: Read + Drop, W: Write + Drop> CallerLine for FileLine<R, W> {
         ensures no_fault { result ≢ Heard.Failed → self.new.faults ≡ self.old.faults }
 
         ensures no_file { IsNone self.old.reader ⊎ IsNone self.old.writer → result ≡ Heard.Failed }
+        ensures writer { self.new.writer ≡ self.old.writer }
     {
         let heard = self.read_line(into);
         if heard == Heard::Failed {
@@ -88,6 +89,11 @@ impl<R: Read + Drop, W: Write + Drop> CallerLine for FileLine<R, W> {
         ensures no_fault { OnTrue result (self.new.faults ≡ self.old.faults) }
 
         ensures no_file { IsNone self.old.reader ⊎ IsNone self.old.writer → result ≡ false }
+
+        // A writer that tells its bytes has the text behind them.
+        ensures bytes { OnTrue result (Wrote W.contents self.old.writer self.new.writer text.now) }
+        ensures held { self.new.held ≡ self.old.held }
+        ensures reader { self.new.reader ≡ self.old.reader }
     {
         let put = self.write_text(text);
         if !put {
@@ -109,6 +115,7 @@ impl<R: Read, W: Write> FileLine<R, W> {
     // Reads the next line, a piece at a time.
     fn read_line(&mut self, into: &mut LineBuf) -> Heard
         ensures no_file { IsNone self.old.reader ⊎ IsNone self.old.writer → result ≡ Heard.Failed }
+        ensures writer { self.new.writer ≡ self.old.writer }
         ensures faults { self.new.faults ≡ self.old.faults }
     {
         into.clear();
@@ -130,6 +137,7 @@ impl<R: Read, W: Write> FileLine<R, W> {
     // Gathers what is held, up to a line feed, and reads a piece first where none is held.
     fn gather(&mut self, into: &mut LineBuf) -> Gathered
         ensures some { IsSomeBytes result }
+        ensures writer { self.new.writer ≡ self.old.writer }
         ensures faults { self.new.faults ≡ self.old.faults }
     {
         if self.from == self.to && !self.fill() {
@@ -156,6 +164,7 @@ impl<R: Read, W: Write> FileLine<R, W> {
 
     // Reads a piece where none is held, and says whether the reader did it without an error.
     fn fill(&mut self) -> bool
+        ensures writer { self.new.writer ≡ self.old.writer }
         ensures faults { self.new.faults ≡ self.old.faults }
     {
         self.from = 0;
@@ -175,6 +184,9 @@ impl<R: Read, W: Write> FileLine<R, W> {
     // Writes a text where both files are there, and says whether it was written.
     fn write_text(&mut self, text: &[u8]) -> bool
         ensures no_file { IsNone self.old.reader ⊎ IsNone self.old.writer → result ≡ false }
+        ensures bytes { OnTrue result (Wrote W.contents self.old.writer self.new.writer text.now) }
+        ensures held { self.new.held ≡ self.old.held }
+        ensures reader { self.new.reader ≡ self.old.reader }
         ensures faults { self.new.faults ≡ self.old.faults }
     {
         match (&self.reader, &mut self.writer) {
