@@ -1,0 +1,25 @@
+use Rattle.std.specs.Prelude.{ℕ, ◌<◌, ◌≤◌, List, ⊤, None, Some}
+use Rattle.std.specs.declared.option.Option.{Option}
+use Rattle.std.specs.Io.KnownBytes.{Appends}
+use Rattle.caller_lines.specs.declared.file_line.Gathered.{Gathered}
+use Rattle.caller_lines.specs.declared.file_line.Gathered.TheVariants.{Fed, Part, End, Failed}
+
+-- a reader and a writer, the bytes that were read and not given yet, and how many faults there were
+pub record Ends (R W : Type 0) : Type 0 where
+  pub reader : Option R
+  pub writer : Option W
+  pub held : List ℕ
+  pub faults : ℕ
+
+-- a part of a line that goes on has some bytes, and fits a piece
+abbrev pub IsSomeBytes : Gathered → Type 0
+IsSomeBytes (Fed count) = count ≤ 4096
+IsSomeBytes (Part count) = (0 < count) × (count ≤ 4096)
+IsSomeBytes End = ⊤
+IsSomeBytes Failed = ⊤
+
+-- a writer took the whole of a text behind what it had, where it tells that
+abbrev pub Wrote : {W : Type 0} → (W → Option (List ℕ)) → Option W → Option W → List ℕ → Type 0
+Wrote contents None now text = ⊥
+Wrote contents (Some before) None text = ⊥
+Wrote contents (Some before) (Some now) text = Appends (contents before) (contents now) text

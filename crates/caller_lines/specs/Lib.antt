@@ -1,0 +1,5 @@
+pub mod Given
+pub mod Told
+pub mod FileLine
+pub mod MemoryLine
+pub mod Hears

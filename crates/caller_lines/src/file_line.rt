@@ -1,0 +1,229 @@
+ghost use Rattle.std.specs.Prelude.{◌≡◌, ◌≢◌, ◌↔◌, ◌⊎◌, ◌≤◌, [], false, None, IsTrue, IsNone, IfSome};
+ghost use Rattle.std.specs.Bool.{OnTrue, OnFalse};
+ghost use Rattle.desk_io.specs.Faults.{Rose};
+ghost use Rattle.caller_lines.specs.FileLine.{IsSomeBytes, Wrote};
+ghost use Rattle.caller_lines.specs.Given.{answer_of};
+ghost use Rattle.caller_lines.specs.Told.{with_last, told_count, WasPut};
+
+use crate::{CallerLine, Heard, LineBuf};
+use memchr::memchr;
+use std::io::{Read, Write};
+use std::marker::Model;
+
+// How many bytes are read at once, at most.
+const PIECE: usize = 4_096;
+
+// How many bytes a line may have that is skipped; one of more is a fault.
+const LONGEST: usize = 16_777_216;
+
+/// A line over a reader and a writer, which tells nothing of content. It reads a piece at a time, and writes each text
+/// at once. Bytes at the end without a line feed are a line; a line of more than 16,777,216 bytes is a fault, as is
+/// each error of the reader or the writer; and without either of them each call is a fault.
+#[derive(Drop)]
+pub struct FileLine<R, W> {
+    reader: Option<R>,
+    writer: Option<W>,
+    piece: [u8; PIECE],
+    from: usize,
+    to: usize,
+    faults: u64,
+}
+
+impl<R, W> Model for FileLine<R, W> {
+    ghost use Rattle.std.specs.Prelude.{◌≤◌, slice_range};
+    ghost use Rattle.caller_lines.specs.FileLine.{Ends};
+
+    ghost Value = { Ends R W };
+
+    ghost view = { λ s. record {
+      reader = s.reader;
+      writer = s.writer;
+      held = slice_range s.piece s.from s.to;
+      faults = s.faults;
+    } };
+
+    ghost invariant = { λ s. (s.from ≤ s.to) × (s.to ≤ 4096) };
+}
+
+impl<R: Read, W: Write> FileLine<R, W> {
+    /// A line of what the reader gives, which writes what is put on it. None is a file that could not be opened.
+    pub fn new(reader: Option<R>, writer: Option<W>) -> FileLine<R, W>
+        ensures { result ≡ record { reader = reader; writer = writer; held = []; faults = 0 } }
+    {
+        FileLine {
+            reader,
+            writer,
+            piece: [0; PIECE],
+            from: 0,
+            to: 0,
+            faults: 0,
+        }
+    }
+}
+
+impl<R: Read + Drop, W: Write + Drop> CallerLine for FileLine<R, W> {
+    ghost faults = { λ s. s.faults };
+
+    ghost given = { λ _. None };
+
+    ghost put_texts = { λ _. None };
+
+    fn next(&mut self, into: &mut LineBuf) -> Heard
+        ensures later { self.old.faults ≤ self.new.faults }
+        ensures cause { result ≡ Heard.Failed → Rose self.old.faults self.new.faults }
+        ensures no_fault { result ≢ Heard.Failed → self.new.faults ≡ self.old.faults }
+
+        ensures no_file { IsNone self.old.reader ⊎ IsNone self.old.writer → result ≡ Heard.Failed }
+        ensures writer { self.new.writer ≡ self.old.writer }
+    {
+        let heard = self.read_line(into);
+        if heard == Heard::Failed {
+            self.faults = self.faults.saturating_add(1);
+        }
+        heard
+    }
+
+    fn put(&mut self, text: &[u8]) -> bool
+        ensures later { self.old.faults ≤ self.new.faults }
+        ensures cause { OnFalse result (Rose self.old.faults self.new.faults) }
+        ensures no_fault { OnTrue result (self.new.faults ≡ self.old.faults) }
+
+        ensures no_file { IsNone self.old.reader ⊎ IsNone self.old.writer → result ≡ false }
+
+        // A writer that tells its bytes has the text behind them.
+        ensures bytes { OnTrue result (Wrote W.contents self.old.writer self.new.writer text.now) }
+        ensures held { self.new.held ≡ self.old.held }
+        ensures reader { self.new.reader ≡ self.old.reader }
+    {
+        let put = self.write_text(text);
+        if !put {
+            self.faults = self.faults.saturating_add(1);
+        }
+        put
+    }
+
+    fn put_count(&self) -> u32 {
+        0
+    }
+
+    fn was_put(&self, _number: u32, _text: &[u8]) -> bool {
+        false
+    }
+}
+
+impl<R: Read, W: Write> FileLine<R, W> {
+    // Reads the next line, a piece at a time.
+    fn read_line(&mut self, into: &mut LineBuf) -> Heard
+        ensures no_file { IsNone self.old.reader ⊎ IsNone self.old.writer → result ≡ Heard.Failed }
+        ensures writer { self.new.writer ≡ self.old.writer }
+        ensures faults { self.new.faults ≡ self.old.faults }
+    {
+        into.clear();
+        if self.reader.is_none() || self.writer.is_none() {
+            return Heard::Failed;
+        }
+        let mut len = 0;
+        while len <= LONGEST {
+            match self.gather(into) {
+                Gathered::Fed(count) => return at_feed(len + count),
+                Gathered::Part(count) => len += count,
+                Gathered::End => return at_end(len),
+                Gathered::Failed => return Heard::Failed,
+            }
+        }
+        Heard::Failed
+    }
+
+    // Gathers what is held, up to a line feed, and reads a piece first where none is held.
+    fn gather(&mut self, into: &mut LineBuf) -> Gathered
+        ensures some { IsSomeBytes result }
+        ensures writer { self.new.writer ≡ self.old.writer }
+        ensures faults { self.new.faults ≡ self.old.faults }
+    {
+        if self.from == self.to && !self.fill() {
+            return Gathered::Failed;
+        }
+        let piece = &self.piece[self.from..self.to];
+        if piece.is_empty() {
+            return Gathered::End;
+        }
+        match memchr(b'\n', piece) {
+            None => {
+                let count = piece.len();
+                add(into, piece);
+                self.from = self.to;
+                Gathered::Part(count)
+            }
+            Some(count) => {
+                add(into, &piece[..count]);
+                self.from += count + 1;
+                Gathered::Fed(count)
+            }
+        }
+    }
+
+    // Reads a piece where none is held, and says whether the reader did it without an error.
+    fn fill(&mut self) -> bool
+        ensures writer { self.new.writer ≡ self.old.writer }
+        ensures faults { self.new.faults ≡ self.old.faults }
+    {
+        self.from = 0;
+        self.to = 0;
+        let Some(reader) = &mut self.reader else {
+            return false;
+        };
+        match reader.read(&mut self.piece) {
+            Ok(count) => {
+                self.to = count;
+                true
+            }
+            Err(_) => false,
+        }
+    }
+
+    // Writes a text where both files are there, and says whether it was written.
+    fn write_text(&mut self, text: &[u8]) -> bool
+        ensures no_file { IsNone self.old.reader ⊎ IsNone self.old.writer → result ≡ false }
+        ensures bytes { OnTrue result (Wrote W.contents self.old.writer self.new.writer text.now) }
+        ensures held { self.new.held ≡ self.old.held }
+        ensures reader { self.new.reader ≡ self.old.reader }
+        ensures faults { self.new.faults ≡ self.old.faults }
+    {
+        match (&self.reader, &mut self.writer) {
+            (Some(_), Some(writer)) => writer.write_all(text).is_ok(),
+            _ => false,
+        }
+    }
+}
+
+// What was gathered of a line.
+#[derive(Clone, Copy, Debug)]
+enum Gathered {
+    // So many bytes and a line feed behind them.
+    Fed(usize),
+    // So many bytes, more than none, of a line that goes on.
+    Part(usize),
+    // No byte is left.
+    End,
+    // The reader had a fault.
+    Failed,
+}
+
+// Adds a part of a line, if it fits; a line of which a part doesn't fit is too long.
+fn add(into: &mut LineBuf, part: &[u8]) {
+    let _ = into.try_extend_from_slice(part);
+}
+
+// A line of so many bytes, with a line feed or at the end.
+fn at_feed(len: usize) -> Heard {
+    if len > 512 {
+        Heard::TooLong
+    } else {
+        Heard::Line
+    }
+}
+
+// What is told at the end, where there were so many bytes behind the last line feed.
+fn at_end(len: usize) -> Heard {
+    if len == 0 { Heard::End } else { at_feed(len) }
+}
