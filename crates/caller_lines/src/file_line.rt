@@ -216,10 +216,12 @@ fn add(into: &mut LineBuf, part: &[u8]) {
 
 // A line of so many bytes, with a line feed or at the end.
 fn at_feed(len: usize) -> Heard {
-    if len > 512 {
+    if len <= 512 {
+        Heard::Line
+    } else if len <= LONGEST {
         Heard::TooLong
     } else {
-        Heard::Line
+        Heard::Failed
     }
 }
 
