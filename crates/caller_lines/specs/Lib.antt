@@ -3,3 +3,4 @@ pub mod Told
 pub mod FileLine
 pub mod MemoryLine
 pub mod Hears
+pub mod Takes

@@ -1,7 +1,9 @@
-ghost use Rattle.std.specs.Prelude.{◌≡◌, ◌≢◌, ◌↔◌, ◌⊎◌, ◌≤◌, [], false, None, IsTrue, IsNone, IfSome};
+ghost use Rattle.std.specs.Prelude.{◌≡◌, ◌≢◌, ◌↔◌, ◌⊎◌, ◌≤◌, ◌<◌, ◌+◌, ◌++◌, length, [], false, None, IsTrue, IsNone, IfSome};
 ghost use Rattle.std.specs.Bool.{OnTrue, OnFalse};
 ghost use Rattle.desk_io.specs.Faults.{Rose};
 ghost use Rattle.caller_lines.specs.FileLine.{IsSomeBytes, Wrote};
+ghost use Rattle.std.specs.Io.KnownBytes.{Consumes, IsAtEnd};
+ghost use Rattle.caller_lines.specs.Takes.{left_of, Takes, Gathers, Cuts};
 ghost use Rattle.caller_lines.specs.Given.{answer_of};
 ghost use Rattle.caller_lines.specs.Told.{with_last, told_count, WasPut};
 
@@ -75,6 +77,10 @@ impl<R: Read + Drop, W: Write + Drop> CallerLine for FileLine<R, W> {
 
         ensures no_file { IsNone self.old.reader ⊎ IsNone self.old.writer → result ≡ Heard.Failed }
         ensures writer { self.new.writer ≡ self.old.writer }
+
+        // Of a reader that tells its bytes, what is given is what it had next.
+        ensures takes { Takes (left_of R.remaining self.old) (left_of R.remaining self.new)
+            (answer_of result into.new.items) }
     {
         let heard = self.read_line(into);
         if heard == Heard::Failed {
@@ -115,6 +121,8 @@ impl<R: Read, W: Write> FileLine<R, W> {
     // Reads the next line, a piece at a time.
     fn read_line(&mut self, into: &mut LineBuf) -> Heard
         ensures no_file { IsNone self.old.reader ⊎ IsNone self.old.writer → result ≡ Heard.Failed }
+        ensures takes { Takes (left_of R.remaining self.old) (left_of R.remaining self.new)
+            (answer_of result into.new.items) }
         ensures writer { self.new.writer ≡ self.old.writer }
         ensures faults { self.new.faults ≡ self.old.faults }
     {
@@ -125,9 +133,13 @@ impl<R: Read, W: Write> FileLine<R, W> {
         let mut len = 0;
         while len <= LONGEST {
             match self.gather(into) {
-                Gathered::Fed(count) => return at_feed(len + count),
+                Gathered::Fed(count) if len + count > LONGEST => return Heard::Failed,
+                Gathered::Fed(count) if len + count > 512 => return Heard::TooLong,
+                Gathered::Fed(_) => return Heard::Line,
                 Gathered::Part(count) => len += count,
-                Gathered::End => return at_end(len),
+                Gathered::End if len > 512 => return Heard::TooLong,
+                Gathered::End if len > 0 => return Heard::Line,
+                Gathered::End => return Heard::End,
                 Gathered::Failed => return Heard::Failed,
             }
         }
@@ -137,25 +149,39 @@ impl<R: Read, W: Write> FileLine<R, W> {
     // Gathers what is held, up to a line feed, and reads a piece first where none is held.
     fn gather(&mut self, into: &mut LineBuf) -> Gathered
         ensures some { IsSomeBytes result }
+        ensures gathers { Gathers (left_of R.remaining self.old) (left_of R.remaining self.new)
+            into.old.items into.new.items result }
         ensures writer { self.new.writer ≡ self.old.writer }
         ensures faults { self.new.faults ≡ self.old.faults }
     {
-        if self.from == self.to && !self.fill() {
+        if !self.fill() {
             return Gathered::Failed;
         }
-        let piece = &self.piece[self.from..self.to];
-        if piece.is_empty() {
+        if self.from == self.to {
             return Gathered::End;
         }
-        match memchr(b'\n', piece) {
+        self.cut_held(into)
+    }
+
+    // Cuts off what is held, up to its first line feed.
+    fn cut_held(&mut self, into: &mut LineBuf) -> Gathered
+        requires { 0 < length self.old.held }
+        ensures some { IsSomeBytes result }
+        ensures cuts { Cuts self.old.held self.new.held into.old.items into.new.items result }
+        ensures reader { self.new.reader ≡ self.old.reader }
+        ensures writer { self.new.writer ≡ self.old.writer }
+        ensures faults { self.new.faults ≡ self.old.faults }
+    {
+        let held = &self.piece[self.from..self.to];
+        match memchr(b'\n', held) {
             None => {
-                let count = piece.len();
-                add(into, piece);
+                let count = held.len();
+                add(into, held);
                 self.from = self.to;
                 Gathered::Part(count)
             }
             Some(count) => {
-                add(into, &piece[..count]);
+                add(into, &held[..count]);
                 self.from += count + 1;
                 Gathered::Fed(count)
             }
@@ -164,9 +190,15 @@ impl<R: Read, W: Write> FileLine<R, W> {
 
     // Reads a piece where none is held, and says whether the reader did it without an error.
     fn fill(&mut self) -> bool
+        ensures kept { OnTrue result
+            (Consumes (left_of R.remaining self.old) (left_of R.remaining self.new) []) }
+        ensures end { OnTrue result (self.new.held ≡ [] → IsAtEnd (left_of R.remaining self.new)) }
         ensures writer { self.new.writer ≡ self.old.writer }
         ensures faults { self.new.faults ≡ self.old.faults }
     {
+        if self.from < self.to {
+            return true;
+        }
         self.from = 0;
         self.to = 0;
         let Some(reader) = &mut self.reader else {
@@ -210,22 +242,9 @@ enum Gathered {
 }
 
 // Adds a part of a line, if it fits; a line of which a part doesn't fit is too long.
-fn add(into: &mut LineBuf, part: &[u8]) {
+fn add(into: &mut LineBuf, part: &[u8])
+    ensures { length into.old.items + length part.now ≤ 512
+        → into.new.items ≡ into.old.items ++ part.now }
+{
     let _ = into.try_extend_from_slice(part);
-}
-
-// A line of so many bytes, with a line feed or at the end.
-fn at_feed(len: usize) -> Heard {
-    if len <= 512 {
-        Heard::Line
-    } else if len <= LONGEST {
-        Heard::TooLong
-    } else {
-        Heard::Failed
-    }
-}
-
-// What is told at the end, where there were so many bytes behind the last line feed.
-fn at_end(len: usize) -> Heard {
-    if len == 0 { Heard::End } else { at_feed(len) }
 }

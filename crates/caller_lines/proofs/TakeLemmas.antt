@@ -1,0 +1,130 @@
+-- What is taken of a reader's bytes, part by part.
+use Rattle.std.proofs.Common.{◌≡◌, ◌≢◌, ℕ, ◌+◌, ◌<◌, ◌≤◌, List, [], ◌∷◌, ◌++◌, length, Option, None, Some, inl, inr, sym, ap, subst, ◌∙◌, refl, arith, append_assoc, length-append}
+use Rattle.std.proofs.lemmas.List.{append-nil}
+use Rattle.std.proofs.lemmas.List.Elements.{All-append, All-nil}
+use Rattle.std.specs.Fmt.{option_append}
+use Rattle.std.specs.Io.KnownBytes.{Consumes, IsAtEnd}
+use Rattle.std.proofs.KnownBytes.{Consumes-trans}
+use Rattle.caller_lines.specs.Takes.{TookLine, TookLonger, CutPart, GotPart, Gathering}
+
+-- what is cut from what is held is taken from all that is left
+pub CutPart-got : (held rest before after feed : List ℕ) (count : ℕ) (r : Option (List ℕ))
+    → CutPart held rest before after feed count
+    → GotPart (option_append (Some held) r) (option_append (Some rest) r) before after feed count
+CutPart-got held rest before after feed count r p = record {
+  part = p.part;
+  taken = go r;
+  counted = p.counted;
+  unfed = p.unfed;
+  kept = p.kept;
+}
+  where
+    go : (r : Option (List ℕ)) → Consumes (option_append (Some held) r) (option_append (Some rest) r) (p.part ++ feed)
+    go None = tt
+    go (Some xs) = ap (λ t. t ++ xs) p.cut ∙ append_assoc p.part (feed ++ rest) xs
+        ∙ ap (λ t. p.part ++ t) (append_assoc feed rest xs) ∙ sym (append_assoc p.part feed (rest ++ xs))
+
+-- what was read is held then
+pub Consumes-held : (a b : Option (List ℕ)) (bytes : List ℕ) → Consumes a b bytes
+    → Consumes (option_append (Some []) a) (option_append (Some bytes) b) []
+Consumes-held None b bytes h = tt
+Consumes-held (Some xs) None bytes h = absurd h
+Consumes-held (Some xs) (Some ys) bytes h = h
+
+-- nothing is read, and a part is taken
+pub GotPart-behind : (a b c : Option (List ℕ)) (before after feed : List ℕ) (count : ℕ) → Consumes a b []
+    → GotPart b c before after feed count → GotPart a c before after feed count
+GotPart-behind a b c before after feed count read p = record {
+  part = p.part;
+  taken = Consumes-trans a b c [] (p.part ++ feed) read p.taken;
+  counted = p.counted;
+  unfed = p.unfed;
+  kept = p.kept;
+}
+
+-- the end is where nothing is left behind nothing
+pub IsAtEnd-behind : (a b : Option (List ℕ)) → Consumes a b [] → IsAtEnd b → IsAtEnd a
+IsAtEnd-behind None b h e = tt
+IsAtEnd-behind (Some xs) None h e = absurd h
+IsAtEnd-behind (Some xs) (Some ys) h e = h ∙ e
+
+-- at first no part is there
+pub Gathering-none : (a : Option (List ℕ)) → Gathering a a [] 0
+Gathering-none a = record {
+  bytes = [];
+  taken = go a;
+  counted = refl;
+  unfed = All-nil (λ byte. byte ≢ 10);
+  kept = λ _. refl;
+}
+  where
+    go : (a : Option (List ℕ)) → Consumes a a []
+    go None = tt
+    go (Some xs) = refl
+
+-- a part more
+pub Gathering-more : (a b c : Option (List ℕ)) (before after : List ℕ) (len count : ℕ)
+    → Gathering a b before len → GotPart b c before after [] count → Gathering a c after (len + count)
+Gathering-more a b c before after len count g p = record {
+  bytes = g.bytes ++ p.part;
+  taken = subst (λ t. Consumes a c (g.bytes ++ t)) (append-nil p.part) (Consumes-trans a b c g.bytes (p.part ++ []) g.taken p.taken);
+  counted = omega (arith, length-append g.bytes p.part, g.counted, p.counted);
+  unfed = All-append (λ byte. byte ≢ 10) g.bytes p.part g.unfed p.unfed;
+  kept = whole;
+}
+  where
+    whole : len + count ≤ 512 → after ≡ g.bytes ++ p.part
+    whole few =
+        let is : before ≡ g.bytes = g.kept (omega (arith, few)) in
+        p.kept (omega (arith, few, ap length is, g.counted)) ∙ ap (λ t. t ++ p.part) is
+
+-- a line feed behind the parts ends the line
+pub Gathering-fed : (a b c : Option (List ℕ)) (before after : List ℕ) (len count : ℕ)
+    → (g : Gathering a b before len) → (p : GotPart b c before after (10 ∷ []) count) → TookLine a c (g.bytes ++ p.part)
+Gathering-fed a b c before after len count g p = record {
+  text = g.bytes ++ (p.part ++ 10 ∷ []);
+  taken = Consumes-trans a b c g.bytes (p.part ++ 10 ∷ []) g.taken p.taken;
+  unfed = All-append (λ byte. byte ≢ 10) g.bytes p.part g.unfed p.unfed;
+  ended = inl (sym (append_assoc g.bytes p.part (10 ∷ [])));
+}
+
+-- a line whose bytes all fitted is told with them, and another as too long
+pub Gathering-short : (a b c : Option (List ℕ)) (before after : List ℕ) (len count : ℕ)
+    → Gathering a b before len → GotPart b c before after (10 ∷ []) count → len + count ≤ 512 → TookLine a c after
+Gathering-short a b c before after len count g p few =
+    let is : before ≡ g.bytes = g.kept (omega (arith, few)) in
+    let whole : after ≡ g.bytes ++ p.part = p.kept (omega (arith, few, ap length is, g.counted)) ∙ ap (λ t. t ++ p.part) is in
+    subst (λ t. TookLine a c t) (sym whole) (Gathering-fed a b c before after len count g p)
+
+pub Gathering-long : (a b c : Option (List ℕ)) (before after : List ℕ) (len count : ℕ)
+    → Gathering a b before len → GotPart b c before after (10 ∷ []) count → 512 < len + count → len + count ≤ 16777216 → TookLonger a c
+Gathering-long a b c before after len count g p many most = record {
+  line = g.bytes ++ p.part;
+  longer = omega (arith, length-append g.bytes p.part, g.counted, p.counted, many);
+  most = omega (arith, length-append g.bytes p.part, g.counted, p.counted, most);
+  took = Gathering-fed a b c before after len count g p;
+}
+
+-- the end behind the parts ends the line, if there are any
+pub Gathering-ended : (a b c : Option (List ℕ)) (into : List ℕ) (len : ℕ) → (g : Gathering a b into len) → Consumes b c []
+    → IsAtEnd c → 0 < len → TookLine a c g.bytes
+Gathering-ended a b c into len g none end some = record {
+  text = g.bytes;
+  taken = subst (λ t. Consumes a c t) (append-nil g.bytes) (Consumes-trans a b c g.bytes [] g.taken none);
+  unfed = g.unfed;
+  ended = inr (refl, omega (arith, some, g.counted), end);
+}
+
+pub Gathering-ended_short : (a b c : Option (List ℕ)) (before after : List ℕ) (len : ℕ) → Gathering a b before len → Consumes b c []
+    → IsAtEnd c → 0 < len → len ≤ 512 → after ≡ before → TookLine a c after
+Gathering-ended_short a b c before after len g none end some few same =
+    subst (λ t. TookLine a c t) (sym (same ∙ g.kept few)) (Gathering-ended a b c before len g none end some)
+
+pub Gathering-ended_long : (a b c : Option (List ℕ)) (before : List ℕ) (len : ℕ) → Gathering a b before len → Consumes b c []
+    → IsAtEnd c → 512 < len → len ≤ 16777216 → TookLonger a c
+Gathering-ended_long a b c before len g none end many most = record {
+  line = g.bytes;
+  longer = omega (arith, g.counted, many);
+  most = omega (arith, g.counted, most);
+  took = Gathering-ended a b c before len g none end (omega (arith, many));
+}
