@@ -1,6 +1,7 @@
 //! A desk that looks up beside one that searches all that was stated, and tables that are full.
+use crate::commands::{enrol, list, set_up, take};
 use desk_base::{Code, Minute, Month, PersonNo, VacNo, Window};
-use desk_model::{Chain, Cmd, DeskCore, Edition, Job, Opening, Reply, Stated};
+use desk_model::{Chain, Cmd, Edition, Job, Opening, Reply};
 use fast_core::FastCore;
 use qualifications::{Craft, Quals};
 use std::test::Fail;
@@ -25,45 +26,6 @@ fn at(time: &[u8]) -> Option<Minute> {
 fn opening(edition: Edition) -> Option<Opening> {
     let window = Window::new(Month::read(b"2024-03")?, 3)?;
     Opening::new(at(b"00:00")?, window, 15, edition)
-}
-
-// The moment and the answer; `None` where no step is left.
-fn take<C: DeskCore>(
-    core: &mut C,
-    minute: Option<Minute>,
-    cmd: Option<Cmd>,
-) -> Option<(Minute, Reply)> {
-    let stated = Stated::new(minute?, cmd?)?;
-    if core.left() == 0 {
-        return None;
-    }
-    let entry = core.step(0, stated);
-    Some((entry.moment(), entry.reply()))
-}
-
-// An engineer of HOM is enrolled.
-fn enrol(person: u32) -> Option<Cmd> {
-    Some(Cmd::Enrol {
-        person: PersonNo::new(person)?,
-        craft: Craft::E,
-        home: Code::read(b"HOM")?,
-        quals: Quals::read(b"-")?,
-    })
-}
-
-fn board(board: &[u8], extra: bool, place: &[u8]) -> Option<Cmd> {
-    Some(Cmd::Board {
-        board: Code::read(board)?,
-        extra,
-        place: Code::read(place)?,
-    })
-}
-
-fn list(person: u32, board: &[u8]) -> Option<Cmd> {
-    Some(Cmd::List {
-        person: PersonNo::new(person)?,
-        board: Code::read(board)?,
-    })
 }
 
 // A job for an engineer at HOM at eight, of ten hours, from the pool P1.
@@ -94,7 +56,7 @@ fn no_room_for_entries(rt: HostRuntime) -> Result<(), Fail> {
     let next = VacNo::new(12).map(|vac| Cmd::Next { vac });
     let steps: [(&[u8], Option<Cmd>, Reply); 5] = [
         (b"00:01", enrol(101), Reply::Done),
-        (b"00:01", board(b"P1", false, b"HOM"), Reply::Done),
+        (b"00:01", set_up(b"P1", false, b"HOM"), Reply::Done),
         (b"00:02", list(101, b"P1"), Reply::Done),
         (b"00:03", vacancy(12), Reply::Done),
         (b"00:04", next, offered),

@@ -3,6 +3,8 @@
 #![tactic(auto)]
 
 #[cfg(test)]
+mod commands;
+#[cfg(test)]
 mod fast_tests;
 #[cfg(test)]
 mod model_tests;

@@ -1,7 +1,8 @@
 //! Days of a few persons and boards, worked by hand: what is stated, and what the desk answers.
+use crate::commands::{enrol, list, set_up, take};
 use denial_rules::Bar;
 use desk_base::{Code, Minute, Month, PersonNo, VacNo, Window};
-use desk_model::{Chain, Cmd, DeskCore, Edition, Job, Opening, Reply, Stated, VacState};
+use desk_model::{Chain, Cmd, DeskCore, Edition, Job, Opening, Reply, VacState};
 use plain_core::PlainCore;
 use qualifications::{Craft, Quals};
 use std::alloc::Global;
@@ -34,20 +35,6 @@ fn opening(edition: Edition) -> Option<Opening> {
 fn desk(alloc: Global, edition: Edition, steps: u64) -> Result<PlainCore, Fail> {
     let opening = opening(edition).ok_or("no opening")?;
     Ok(PlainCore::new(alloc, opening, steps)?)
-}
-
-// The moment and the answer; `None` where no step is left.
-fn take<C: DeskCore>(
-    core: &mut C,
-    minute: Option<Minute>,
-    cmd: Option<Cmd>,
-) -> Option<(Minute, Reply)> {
-    let stated = Stated::new(minute?, cmd?)?;
-    if core.left() == 0 {
-        return None;
-    }
-    let entry = core.step(0, stated);
-    Some((entry.moment(), entry.reply()))
 }
 
 // A desk of the first edition with three engineers of HOM on three boards, in the order of their numbers: the pool P1 and the
@@ -85,30 +72,6 @@ fn first_wrong<C: DeskCore>(core: &mut C, steps: &[Step]) -> Result<Option<(usiz
         }
     }
     Ok(None)
-}
-
-fn enrol(person: u32) -> Option<Cmd> {
-    Some(Cmd::Enrol {
-        person: PersonNo::new(person)?,
-        craft: Craft::E,
-        home: Code::read(b"HOM")?,
-        quals: Quals::read(b"-")?,
-    })
-}
-
-fn set_up(board: &[u8], extra: bool, place: &[u8]) -> Option<Cmd> {
-    Some(Cmd::Board {
-        board: Code::read(board)?,
-        extra,
-        place: Code::read(place)?,
-    })
-}
-
-fn list(person: u32, board: &[u8]) -> Option<Cmd> {
-    Some(Cmd::List {
-        person: PersonNo::new(person)?,
-        board: Code::read(board)?,
-    })
 }
 
 // A job for an engineer at HOM, of ten hours, that asks for these qualifications.

@@ -8,7 +8,7 @@ use crate::deal::deal;
 use crate::gather::gather;
 use crate::steps::{Draw, Look, Pass};
 use crate::terms::Terms;
-use crate::tickets::Board;
+use crate::tickets::TicketTable;
 use crate::waiters::Waiters;
 use crate::{Seat, Short, Spent, Turn};
 use atomic_table::{Refused, Table};
@@ -21,7 +21,7 @@ use std::sync::Wait;
 /// A gate at which the callers of its seats take turns with one book.
 #[derive(Drop)]
 pub struct Gate<B: Booked> {
-    table: Board<B>,
+    table: TicketTable<B>,
     seats: u8,
     waiters: Waiters,
 }

@@ -6,16 +6,16 @@ ghost use Rattle.turn_gate.specs.Seats.{gate_of, IsSeatOf, noted};
 
 use crate::Seat;
 use crate::steps::Gather;
-use crate::tickets::{Board, Place};
+use crate::tickets::{TableSeat, TicketTable};
 use desk_model::Booked;
 
 /// All notes of these seats together.
-pub(crate) fn gather<B: Booked>(board: &Board<B>, mut seats: Vec<Seat<B>>) -> Place<B>
-    requires words { board.now.shared.table_id.words ≡ 2 }
+pub(crate) fn gather<B: Booked>(tickets: &TicketTable<B>, mut seats: Vec<Seat<B>>) -> TableSeat<B>
+    requires words { tickets.now.shared.table_id.words ≡ 2 }
     requires more { 0 < length seats.items }
-    requires seats { All (IsSeatOf (gate_of board.now.shared.table_id
-        (start_from (told B.history B.room B.mark) board.now.shared.key))) seats.items }
-    ensures table { result.table_id ≡ board.now.shared.table_id }
+    requires seats { All (IsSeatOf (gate_of tickets.now.shared.table_id
+        (start_from (told B.history B.room B.mark) tickets.now.shared.key))) seats.items }
+    ensures table { result.table_id ≡ tickets.now.shared.table_id }
     ensures notes { result.me.0.notes ≡ map noted seats.items }
     ensures idle { result.me.0.phase ≡ Idle }
     ensures bare { result.me.1 ≡ [] }
@@ -23,7 +23,7 @@ pub(crate) fn gather<B: Booked>(board: &Board<B>, mut seats: Vec<Seat<B>>) -> Pl
     let (mut all, _, _) = seats.pop().unwrap().into_parts();
     while let Some(next) = seats.pop() {
         let (place, _, _) = next.into_parts();
-        board.shared.join_seat::<Gather>(&mut all, place);
+        tickets.shared.join_seat::<Gather>(&mut all, place);
     }
     all
 }

@@ -1,12 +1,12 @@
 ghost use Rattle.std.specs.Prelude.{◌≡◌, ◌+◌, []};
 ghost use Rattle.turn_gate.specs.Seats.{seated};
 
-use crate::tickets::Place;
+use crate::tickets::TableSeat;
 use std::marker::Model;
 
 /// A seat at a gate, by which a caller takes turns. It has a number, from 1.
 pub struct Seat<B> {
-    pub(crate) place: Place<B>,
+    pub(crate) place: TableSeat<B>,
     pub(crate) number: u8,
     pub(crate) left: u32,
 }
@@ -46,7 +46,7 @@ impl<B> Seat<B> {
     }
 
     // What it is made of.
-    pub(crate) fn into_parts(self) -> (Place<B>, u8, u32)
+    pub(crate) fn into_parts(self) -> (TableSeat<B>, u8, u32)
         ensures table { result.0.table_id ≡ self.table }
         ensures me { result.0.me ≡ (seated self.number self.known self.calls self.start, []) }
         ensures number { result.1 ≡ self.number }

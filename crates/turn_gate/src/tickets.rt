@@ -18,6 +18,7 @@ impl<B: Booked> TableRule<Option<B>, View, Terms<B>> for Tickets {
 }
 
 /// Its table: word 0 is the next ticket, word 1 the ticket that is served, and the slot has the book.
-pub(crate) type Board<B> = Table<Option<B>, View, Terms<B>, Tickets, Global>;
+pub(crate) type TicketTable<B> = Table<Option<B>, View, Terms<B>, Tickets, Global>;
 
-pub(crate) type Place<B> = Seat<Option<B>, View>;
+/// A seat of that table, with what its caller knows.
+pub(crate) type TableSeat<B> = Seat<Option<B>, View>;

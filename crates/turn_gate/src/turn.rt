@@ -1,11 +1,11 @@
 ghost use Rattle.std.specs.Prelude.{◌≡◌};
 
-use crate::tickets::Place;
+use crate::tickets::TableSeat;
 use std::marker::Model;
 
 /// A turn that a seat took: its caller has the book until it is given back.
 pub struct Turn<B> {
-    pub(crate) seat: Place<B>,
+    pub(crate) seat: TableSeat<B>,
     pub(crate) number: u8,
     pub(crate) left: u32,
     pub(crate) place: u32,

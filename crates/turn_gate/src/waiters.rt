@@ -1,7 +1,7 @@
 //! How callers wait: at the door until the gate is free, and with a ticket until it is served.
 ghost use Rattle.std.specs.Prelude.{◌≡◌};
 
-use crate::tickets::Board;
+use crate::tickets::TicketTable;
 use desk_model::Booked;
 use std::array;
 use std::hint::spin_loop;
@@ -31,10 +31,10 @@ pub(crate) struct Waiters {
 
 // Nobody has the turn or waits for it.
 #[inline]
-fn is_free<B: Booked>(board: &Board<B>) -> bool
-    requires { board.now.shared.table_id.words ≡ 2 }
+fn is_free<B: Booked>(tickets: &TicketTable<B>) -> bool
+    requires { tickets.now.shared.table_id.words ≡ 2 }
 {
-    board.shared.peek(0) == board.shared.peek(1)
+    tickets.shared.peek(0) == tickets.shared.peek(1)
 }
 
 impl Waiters {
@@ -51,28 +51,28 @@ impl Waiters {
 
     /// Waits for a while where others have tickets, so that one who comes again at once need not hand over each time.
     #[inline]
-    pub(crate) fn come<R: Wait, B: Booked>(&self, rt: &R, board: &Board<B>)
-        requires { board.now.shared.table_id.words ≡ 2 }
+    pub(crate) fn come<R: Wait, B: Booked>(&self, rt: &R, tickets: &TicketTable<B>)
+        requires { tickets.now.shared.table_id.words ≡ 2 }
     {
-        if !is_free(board) {
-            self.wait_at_the_door(rt, board);
+        if !is_free(tickets) {
+            self.wait_at_the_door(rt, tickets);
         }
     }
 
     // A sign that a caller sleeps is set before its last look, and again by each caller who slept, since others may sleep too.
     #[cold]
-    fn wait_at_the_door<R: Wait, B: Booked>(&self, rt: &R, board: &Board<B>)
-        requires { board.now.shared.table_id.words ≡ 2 }
+    fn wait_at_the_door<R: Wait, B: Booked>(&self, rt: &R, tickets: &TicketTable<B>)
+        requires { tickets.now.shared.table_id.words ≡ 2 }
     {
         for _ in 0..LOOKS_AT_THE_DOOR {
             spin_loop();
-            if is_free(board) {
+            if is_free(tickets) {
                 return;
             }
         }
         for _ in 0..LOST_WAKES {
             self.door.store(1, SeqCst);
-            if is_free(board) {
+            if is_free(tickets) {
                 return;
             }
             self.door.park(rt, 1);
@@ -85,11 +85,11 @@ impl Waiters {
     pub(crate) fn pause<R: Wait, B: Booked>(
         &self,
         rt: &R,
-        board: &Board<B>,
+        tickets: &TicketTable<B>,
         ticket: u64,
         looks: u32,
     )
-        requires { board.now.shared.table_id.words ≡ 2 }
+        requires { tickets.now.shared.table_id.words ≡ 2 }
     {
         if looks < LOOKS {
             spin_loop();
@@ -97,7 +97,7 @@ impl Waiters {
         }
         let bell = self.bell(ticket);
         bell.store(1, SeqCst);
-        if board.shared.peek(1) != ticket {
+        if tickets.shared.peek(1) != ticket {
             bell.park(rt, 1);
         }
         bell.store(0, SeqCst);
@@ -105,11 +105,11 @@ impl Waiters {
 
     /// After this ticket was served: wakes the caller with the next, or where there is none a caller at the door.
     #[inline]
-    pub(crate) fn go<B: Booked>(&self, board: &Board<B>, ticket: u64)
-        requires { board.now.shared.table_id.words ≡ 2 }
+    pub(crate) fn go<B: Booked>(&self, tickets: &TicketTable<B>, ticket: u64)
+        requires { tickets.now.shared.table_id.words ≡ 2 }
     {
         let next = ticket.wrapping_add(1);
-        if board.shared.peek(0) == next {
+        if tickets.shared.peek(0) == next {
             ring(&self.door);
         } else {
             ring(self.bell(next));

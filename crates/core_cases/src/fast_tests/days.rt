@@ -2,7 +2,8 @@
 use super::drawn::{Day, SET_UP, command};
 use super::draws::Draws;
 use super::kinds::{FIRST_KINDS, SECOND_KINDS, kind};
-use super::{at, opening, take};
+use super::{at, opening};
+use crate::commands::take;
 use desk_base::{Minute, VacNo};
 use desk_model::{Cmd, Edition, Reply};
 use fast_core::FastCore;

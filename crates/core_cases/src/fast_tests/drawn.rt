@@ -1,6 +1,7 @@
 //! The commands of a day: boards, persons and what they did before, lists, and then commands that are drawn.
+use super::at;
 use super::draws::Draws;
-use super::{at, board, enrol, list};
+use crate::commands::{enrol, list, set_up};
 use desk_base::{Code, Minute, Month, PersonNo, Span, VacNo};
 use desk_model::{Cmd, Job};
 use duty_events::Event;
@@ -63,11 +64,11 @@ fn past(number: u32) -> Option<Cmd> {
 // One of the boards from 0, all but the fourth at HOM.
 fn board_at(number: u32) -> Option<Cmd> {
     match number {
-        0 => board(b"P1", false, b"HOM"),
-        1 => board(b"P2", false, b"HOM"),
-        2 => board(b"X1", true, b"HOM"),
-        3 => board(b"X2", true, b"AWY"),
-        _ => board(b"X3", true, b"HOM"),
+        0 => set_up(b"P1", false, b"HOM"),
+        1 => set_up(b"P2", false, b"HOM"),
+        2 => set_up(b"X1", true, b"HOM"),
+        3 => set_up(b"X2", true, b"AWY"),
+        _ => set_up(b"X3", true, b"HOM"),
     }
 }
 
@@ -206,7 +207,7 @@ pub fn command(day: &Day, step: u32, state: u64) -> Option<Cmd> {
         5..=16 => enrol(step.saturating_sub(4)),
         17..=48 => past(step.saturating_sub(17)),
         49..=96 => list_at(step.saturating_sub(49)),
-        97 => board(b"P1", true, b"HOM"),
+        97 => set_up(b"P1", true, b"HOM"),
         _ if step % 6 == 0 => vacancy(&mut draws, day.now, newest(step)),
         _ if step % 6 == 1 => VacNo::new(newest(step)).map(|vac| Cmd::Next { vac }),
         _ if step % 6 == 2 => of_offer(&mut draws, day),

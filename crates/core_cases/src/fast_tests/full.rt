@@ -1,5 +1,6 @@
 //! Tables up to the last for which there is room, and one more.
-use super::{at, board, enrol, list, opening, take, vacancy};
+use super::{at, opening, vacancy};
+use crate::commands::{enrol, list, set_up, take};
 use desk_model::{Cmd, Edition, Reply};
 use fast_core::FastCore;
 use std::test::Fail;
@@ -23,13 +24,13 @@ fn tables_that_are_full(rt: HostRuntime) -> Result<(), Fail> {
         assert!(rt; answer(&mut core, enrol(person)) == Some(Reply::Done));
     }
     assert!(rt; answer(&mut core, enrol(1_001)) == Some(Reply::PersonsFull));
-    let pool = board(b"P1", false, b"HOM");
+    let pool = set_up(b"P1", false, b"HOM");
     assert!(rt; answer(&mut core, pool) == Some(Reply::Done));
     for number in 1..64 {
-        let made = board(&code(number), true, b"HOM");
+        let made = set_up(&code(number), true, b"HOM");
         assert!(rt; answer(&mut core, made) == Some(Reply::Done));
     }
-    let made = board(&code(64), true, b"HOM");
+    let made = set_up(&code(64), true, b"HOM");
     assert!(rt; answer(&mut core, made) == Some(Reply::BoardsFull));
     for person in 1..501 {
         assert!(rt; answer(&mut core, list(person, b"P1")) == Some(Reply::Done));

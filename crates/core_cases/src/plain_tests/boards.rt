@@ -1,8 +1,9 @@
 //! Marks, boards and qualifications.
 use super::{
-    Step, clear, crew, denied, done, first_wrong, list, look, of_both, of_person, of_vac, offered,
+    Step, clear, crew, denied, done, first_wrong, look, of_both, of_person, of_vac, offered,
     qualify, seen, unlist, vacancy,
 };
+use crate::commands::list;
 use denial_rules::Bar;
 use desk_base::Code;
 use desk_model::Reply;

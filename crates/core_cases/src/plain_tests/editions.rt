@@ -1,8 +1,8 @@
 //! What the second edition of the rules adds: relief vacancies, and the hold after a decline.
 use super::{
-    Step, at, clear, crew_in, denied, done, first_wrong, list, of_both, of_vac, offered, unlist,
-    vacancy,
+    Step, at, clear, crew_in, denied, done, first_wrong, of_both, of_vac, offered, unlist, vacancy,
 };
+use crate::commands::list;
 use denial_rules::Bar;
 use desk_base::{Code, VacNo};
 use desk_model::{Chain, Cmd, Edition, Job, Reply};

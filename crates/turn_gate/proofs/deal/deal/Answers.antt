@@ -10,7 +10,7 @@ split_seat-place-requires g c =
     let tell = told g.B.Booked.history g.B.Booked.room g.B.Booked.mark in
     let terms = c.args.terms.now in
     let k = start_of terms.seats terms.quota (tell terms.book.value) in
-    let key = c.args.board.now.shared.key in
+    let key = c.args.tickets.now.shared.key in
     let at = start_of key.seats key.quota (tell key.book.value) in
     let me = c.loop-i.invariant.me in
     let few : c.loop-i.i < terms.seats = search rules in (
@@ -31,7 +31,7 @@ loop-i-preserved g c =
     record {
       table = search rules;
       me = did.2 ∙ (ap (λ m. (kept m.0, m.1)) me ∙ ap (λ v. (v, [])) (left-kept k c.loop-i.i few));
-      made = c.push_reserved.ensures.items ∙ pushed k c.args.board.now.shared.table_id _ c.loop-i.i _ _ c.loop-i.invariant.made (search rules) new;
+      made = c.push_reserved.ensures.items ∙ pushed k c.args.tickets.now.shared.table_id _ c.loop-i.i _ _ c.loop-i.invariant.made (search rules) new;
       room = search rules;
     }
 

@@ -9,10 +9,10 @@ use Rattle.turn_gate.proofs.gather.gather.Goals as goal
 pub join_seat-requires : goal.join_seat-requires
 join_seat-requires g c =
     let tell = told g.B.Booked.history g.B.Booked.room g.B.Booked.mark in
-    let key = c.args.board.now.shared.key in
+    let key = c.args.tickets.now.shared.key in
     let k = start_of key.seats key.quota (tell key.book.value) in
     let inv = c.loop-next.invariant in
-    let left = All-pop (IsSeatOf (gate_of c.args.board.now.shared.table_id k)) _ _ (Some c.in-Some.next) c.in-Some.ensures.items inv.seats in
+    let left = All-pop (IsSeatOf (gate_of c.args.tickets.now.shared.table_id k)) _ _ (Some c.in-Some.next) c.in-Some.ensures.items inv.seats in
     let me = c.into_parts-place.ensures.me in (
       search rules,
       c.into_parts-place.ensures.table ∙ left.1.0,
@@ -24,10 +24,10 @@ join_seat-requires g c =
 pub loop-next-preserved : goal.loop-next-preserved
 loop-next-preserved g c =
     let tell = told g.B.Booked.history g.B.Booked.room g.B.Booked.mark in
-    let key = c.args.board.now.shared.key in
+    let key = c.args.tickets.now.shared.key in
     let k = start_of key.seats key.quota (tell key.book.value) in
     let inv = c.loop-next.invariant in
-    let left = All-pop (IsSeatOf (gate_of c.args.board.now.shared.table_id k)) _ _ (Some c.in-Some.next) c.in-Some.ensures.items inv.seats in
+    let left = All-pop (IsSeatOf (gate_of c.args.tickets.now.shared.table_id k)) _ _ (Some c.in-Some.next) c.in-Some.ensures.items inv.seats in
     let me = c.into_parts-place.ensures.me in
     let did = c.join_seat.ensures.2 in
     let front = map noted c.pop-in-loop-next.new.self.items in

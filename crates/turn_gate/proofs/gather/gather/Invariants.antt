@@ -7,13 +7,13 @@ use Rattle.turn_gate.proofs.gather.gather.Given as goal
 
 abbrev pub invariant-loop-next : goal.invariant-loop-next
 invariant-loop-next g l =
-    let key = l.board.shared.key in
+    let key = l.tickets.shared.key in
     let k = start_of key.seats key.quota (told g.B.Booked.history g.B.Booked.room g.B.Booked.mark key.book.value) in record {
-      table : l.all.table_id ≡ l.board.shared.table_id;
+      table : l.all.table_id ≡ l.tickets.shared.table_id;
       start : l.all.me.0.start ≡ k;
       idle : l.all.me.0.phase ≡ Idle;
       bare : l.all.me.1 ≡ [];
-      seats : All (IsSeatOf (gate_of l.board.shared.table_id k)) l.seats.items;
+      seats : All (IsSeatOf (gate_of l.tickets.shared.table_id k)) l.seats.items;
       notes : map noted l.seats.items ++ l.all.me.0.notes ≡ map noted l.fn.seats.items;
     }
 
