@@ -1,25 +1,19 @@
 -- What is found, as lines are read one after another.
-use Rattle.std.proofs.Common.{◌≡◌, ◌≢◌, ◌∙◌, ℕ, ◌==◌, Bool, true, false, not, nat_eq, List, [], ◌∷◌, ◌++◌, length, refl, sym, ap, subst, arith, append_assoc, append-nil}
+use Rattle.std.proofs.Common.{◌≡◌, ◌≢◌, ◌∙◌, ℕ, ◌==◌, Bool, true, false, not, nat_eq, List, [], ◌∷◌, ◌++◌, length, refl, sym, ap, subst, arith, append_assoc}
 use Rattle.std.proofs.lemmas.Bool.{false≢true}
 use Rattle.std.proofs.lemmas.Bool.Decides.{Decides-eqb}
 use Rattle.std.proofs.lemmas.Slice.Eq.{slice_eq-Decides}
 use Rattle.std.specs.Cmp.Lexicographic.{pointwise}
-use Rattle.std.proofs.lemmas.Grind.{flat_map-append}
 use Rattle.desk_model.specs.Entry.{EntryValue}
 use Rattle.desk_model.specs.History.{History, with_entry}
 use Rattle.desk_model.specs.Fits.{Fits}
 use Rattle.desk_model.specs.Legal.{IsLegal, next}
-use Rattle.desk_model.specs.Journal.{opening_line, entry_line, entry_lines, journal}
+use Rattle.desk_model.specs.Journal.{entry_line, journal}
 use Rattle.desk_text.specs.Line.{IsLine}
+use Rattle.desk_text.proofs.JournalLemmas.{journal-next}
 use Rattle.desk_text.specs.SpelledEntry.{IsEntryLine, statement_of}
 use Rattle.desk_text.specs.declared.statement.Statement.{Statement}
 use Rattle.audit_desk.specs.Found.{HasUnreadable, line_behind}
-
--- an entry more is a line more
-pub journal-next : (h : History) (e : EntryValue) → journal (with_entry h e) ≡ journal h ++ entry_line e
-journal-next h e =
-    ap (λ t. opening_line h.opening ++ t) (flat_map-append entry_line h.entries (e ∷ []) ∙ ap (λ t. entry_lines h.entries ++ t) (append-nil (entry_line e)))
-    ∙ sym (append_assoc (opening_line h.opening) (entry_lines h.entries) (entry_line e))
 
 -- what was read goes on with the line of the entry that comes next
 pub journal-goes_on : (h : History) (e : EntryValue) (text left line behind : List ℕ) → text ≡ journal h ++ left → left ≡ line ++ behind → line ≡ entry_line e

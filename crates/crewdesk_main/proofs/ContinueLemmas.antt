@@ -21,16 +21,16 @@ use Rattle.audit_desk.specs.declared.verdict.Verdict.{Verdict}
 use Rattle.audit_desk.specs.declared.verdict.Verdict.TheVariants as verdict
 use Rattle.audit_desk.specs.Found.{Finds}
 use Rattle.audit_desk.specs.Resumed.{Resumes}
-use Rattle.crewdesk_main.specs.Ends.{WasRead, Tells}
+use Rattle.day_replay.specs.Ends.{WasRead, Tells}
 use Rattle.crewdesk_main.specs.Lines.{HasTooManyLines, HasFewLines}
 use Rattle.crewdesk_main.specs.Audit.{IsAudited, ends_as}
 use Rattle.crewdesk_main.specs.Parts.{journal_of, more_of}
-use Rattle.crewdesk_main.specs.Replay.{by_the_day_file, goes_on}
+use Rattle.day_replay.specs.Replay.{by_the_day_file, goes_on}
 use Rattle.crewdesk_main.specs.GoesOn.{GoesOn, FindsWrongField, EndsByTheCommands}
 use Rattle.crewdesk_main.specs.Continue.{room_behind, IsContinued, HasCommandFault, IsTooLong, Continues, FindsVerdict, FindsWrongCommand, EndsByTheText}
-use Rattle.crewdesk_main.proofs.HistoryLemmas.{goes_on-none, day-MayState}
-use Rattle.crewdesk_main.proofs.InputLemmas.{WasRead-TookAll, TookAll-told}
-use Rattle.crewdesk_main.proofs.JournalLemmas.{AddsFront-journal}
+use Rattle.day_replay.proofs.HistoryLemmas.{goes_on-none, day-MayState}
+use Rattle.day_replay.proofs.InputLemmas.{WasRead-TookAll, TookAll-told}
+use Rattle.day_replay.proofs.JournalLemmas.{AddsFront-journal}
 
 -- a front of a journal is one of the journal that goes on with commands
 pub AddsFront-goes_on : (a b : Option (List ℕ)) (h : History) (commands : List StatedValue) (text : List ℕ) → text ≡ journal h → AddsFront a b text → AddsFront a b (journal (goes_on h commands))

@@ -1,12 +1,8 @@
 pub mod ContinueLemmas
-pub mod HistoryLemmas
-pub mod InputLemmas
-pub mod JournalLemmas
 pub mod LineLemmas
 pub mod LinesEndLemmas
 pub mod NumberLemmas
 pub mod OneJournalLemmas
 pub mod PartLemmas
 pub mod PlusLemmas
-pub mod ReplayLemmas
 pub mod TourLemmas

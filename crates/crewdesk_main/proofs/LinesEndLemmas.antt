@@ -7,7 +7,7 @@ use Rattle.desk_io.specs.declared.status.Status.TheVariants.{Fine, Usage, ReadFa
 use Rattle.desk_model.specs.History.{History}
 use Rattle.audit_desk.specs.declared.journal.TheConstants.{BYTE_LIMIT}
 use Rattle.audit_desk.specs.Found.{HasNoOpening}
-use Rattle.crewdesk_main.specs.Ends.{WasRead, TellsMore, EndsAs, Tells as Holds}
+use Rattle.day_replay.specs.Ends.{WasRead, TellsMore, EndsAs, Tells as Holds}
 use Rattle.crewdesk_main.specs.Lines.{HasTooManyLines, HasFewLines}
 use Rattle.crewdesk_main.specs.Records.{StartsWith, HasNoEntry, Tells, TellsLine, EndsByTheLines}
 use Rattle.crewdesk_main.proofs.OneJournalLemmas.{StartsWith-no_line, StartsWith-opening}

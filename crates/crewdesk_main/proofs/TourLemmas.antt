@@ -23,7 +23,7 @@ use Rattle.audit_desk.proofs.FoundLemmas.{journal-goes_on}
 use Rattle.crewdesk_main.specs.Audit.{ends_as}
 use Rattle.crewdesk_main.specs.Lines.{HasFewLines}
 use Rattle.crewdesk_main.specs.Records.{StartsWith, HasNoEntry, KeepsJournal, IsUnread, TellsLine}
-use Rattle.crewdesk_main.proofs.InputLemmas.{WasRead-TookAll}
+use Rattle.day_replay.proofs.InputLemmas.{WasRead-TookAll}
 
 -- the tours of so many entries are kept, which were read of a text, and this is left of it
 pub record HasRead (records : DutyRecords) (text left : List ℕ) (count : ℕ) : Type 0 where

@@ -11,7 +11,7 @@ use Rattle.audit_desk.specs.declared.verdict.Verdict.{Verdict}
 use Rattle.audit_desk.specs.declared.verdict.Verdict.TheVariants as verdict
 use Rattle.audit_desk.specs.Found.{Finds}
 use Rattle.audit_desk.specs.VerdictText.{verdict_text}
-use Rattle.crewdesk_main.specs.Ends.{WasRead, WritesOrFails, Tells, TellsMore, EndsAs}
+use Rattle.day_replay.specs.Ends.{WasRead, WritesOrFails, Tells, TellsMore, EndsAs}
 use Rattle.crewdesk_main.specs.Lines.{HasTooManyLines, HasFewLines}
 
 -- how an audit ends that finds this, where the sink has no fault

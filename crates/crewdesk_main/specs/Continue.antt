@@ -19,11 +19,11 @@ use Rattle.audit_desk.specs.declared.verdict.Verdict.{Verdict}
 use Rattle.audit_desk.specs.declared.verdict.Verdict.TheVariants as verdict
 use Rattle.audit_desk.specs.VerdictText.{verdict_text}
 use Rattle.crewdesk_main.specs.declared.limits.TheConstants.{ENTRY_LIMIT}
-use Rattle.crewdesk_main.specs.Ends.{WasRead, WritesOrFails, Tells, TellsMore, EndsAs}
+use Rattle.day_replay.specs.Ends.{WasRead, WritesOrFails, Tells, TellsMore, EndsAs}
 use Rattle.crewdesk_main.specs.Lines.{HasTooManyLines, HasFewLines}
 use Rattle.crewdesk_main.specs.Audit.{IsAudited, ends_as}
 use Rattle.crewdesk_main.specs.Parts.{journal_of, more_of}
-use Rattle.crewdesk_main.specs.Replay.{goes_on}
+use Rattle.day_replay.specs.Replay.{goes_on}
 
 -- how many commands a journal with so many entries may go on with
 abbrev pub room_behind : ℕ → ℕ

@@ -10,7 +10,7 @@ use Rattle.day_gen.specs.Day.{generated_day}
 use Rattle.crewdesk_main.specs.declared.form.Form.{Form}
 use Rattle.crewdesk_main.specs.declared.form.Form.TheVariants as form
 use Rattle.crewdesk_main.specs.Texts.{EndsPrint, help_text, version_text}
-use Rattle.crewdesk_main.specs.Replay.{EndsReplay, text_of}
+use Rattle.day_replay.specs.Replay.{EndsReplay, text_of}
 use Rattle.crewdesk_main.specs.Audit.{EndsAudit}
 use Rattle.crewdesk_main.specs.Continue.{EndsContinue}
 use Rattle.crewdesk_main.specs.Records.{EndsTelling, tours_text}

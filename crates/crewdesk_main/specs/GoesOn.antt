@@ -8,8 +8,8 @@ use Rattle.desk_model.specs.Journal.{journal}
 use Rattle.desk_text.specs.Line.{wrong_line}
 use Rattle.desk_text.specs.MoreCommands.{AreCommands, HasMoreFault}
 use Rattle.desk_text.specs.declared.more_fault.MoreFault.TheVariants as fault
-use Rattle.crewdesk_main.specs.Ends.{EndsAs}
-use Rattle.crewdesk_main.specs.Replay.{goes_on}
+use Rattle.day_replay.specs.Ends.{EndsAs}
+use Rattle.day_replay.specs.Replay.{goes_on}
 
 -- the bytes are commands, no more than there is room for; and where the desk stood for a history whose journal this is, this was
 -- done with the journal that goes on with them

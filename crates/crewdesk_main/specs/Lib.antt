@@ -1,12 +1,9 @@
 pub mod Words
 pub mod Texts
-pub mod Ends
 pub mod Lines
-pub mod Replay
 pub mod Audit
 pub mod Parts
 pub mod GoesOn
 pub mod Continue
 pub mod Records
 pub mod Forms
-pub mod Gathered

@@ -24,7 +24,7 @@ use Rattle.duty_record.specs.Kept.{Keeps}
 use Rattle.duty_record.specs.Tours.{tours, excess_list}
 use Rattle.crewdesk_main.specs.declared.tour_form.TourForm.{TourForm}
 use Rattle.crewdesk_main.specs.declared.tour_form.TourForm.TheVariants as form
-use Rattle.crewdesk_main.specs.Ends.{WasRead, WritesOrFails, TellsMore, EndsAs, Tells as Holds}
+use Rattle.day_replay.specs.Ends.{WasRead, WritesOrFails, TellsMore, EndsAs, Tells as Holds}
 use Rattle.crewdesk_main.specs.Lines.{HasTooManyLines, HasFewLines}
 
 -- the text begins with the journal of this history, legal or not, each of whose values is in its range, and this is behind it

@@ -7,7 +7,7 @@ use Rattle.desk_model.specs.declared.edition.Edition.{Edition}
 use Rattle.desk_model.specs.declared.edition.Edition.TheVariants as edition
 use Rattle.day_gen.specs.declared.numbers.TheConstants.{SET_UP}
 use Rattle.day_gen.specs.Generator.{most_commands}
-use Rattle.crewdesk_main.specs.declared.day_form.DayForm.TheVariants as day
+use Rattle.day_replay.specs.declared.day_form.DayForm.TheVariants as day
 use Rattle.crewdesk_main.specs.declared.tour_form.TourForm.TheVariants as tour
 use Rattle.crewdesk_main.specs.declared.form.Form.{Form}
 use Rattle.crewdesk_main.specs.declared.form.Form.TheVariants as form

@@ -6,7 +6,7 @@ ghost use Rattle.desk_io.specs.Giving.{AddsFront};
 ghost use Rattle.desk_io.specs.Input.{TookMore, TookFront};
 ghost use Rattle.audit_desk.specs.VerdictText.{verdict_text};
 ghost use Rattle.crewdesk_main.specs.Audit.{Audits, EndsByTheJournal, IsAudited, ends_as};
-ghost use Rattle.crewdesk_main.specs.Ends.{WasRead, WritesOrFails, writes};
+ghost use Rattle.day_replay.specs.Ends.{WasRead, WritesOrFails, writes};
 ghost use Rattle.crewdesk_main.specs.Lines.{HasTooManyLines};
 
 use crate::take_journal::take_journal;

@@ -6,7 +6,7 @@ ghost use Rattle.desk_io.specs.Giving.{AddsFront};
 ghost use Rattle.desk_io.specs.Input.{TookMore, TookFront};
 ghost use Rattle.crewdesk_main.specs.Audit.{IsAudited};
 ghost use Rattle.crewdesk_main.specs.Continue.{Continues, EndsByTheText, FindsVerdict, FindsWrongCommand, IsTooLong};
-ghost use Rattle.crewdesk_main.specs.Ends.{EndsAs, Tells, TellsMore, WasRead, WritesOrFails, writes};
+ghost use Rattle.day_replay.specs.Ends.{EndsAs, Tells, TellsMore, WasRead, WritesOrFails, writes};
 ghost use Rattle.crewdesk_main.specs.Parts.{journal_of};
 
 use crate::continue_text::continue_text;

@@ -5,7 +5,7 @@ ghost use Rattle.desk_io.specs.Faults.{Rose};
 ghost use Rattle.desk_io.specs.Giving.{AddsFront};
 ghost use Rattle.crewdesk_main.specs.Audit.{IsAudited};
 ghost use Rattle.crewdesk_main.specs.Continue.{Continues, EndsByTheText, FindsVerdict, FindsWrongCommand, IsTooLong};
-ghost use Rattle.crewdesk_main.specs.Ends.{WritesOrFails, writes};
+ghost use Rattle.day_replay.specs.Ends.{WritesOrFails, writes};
 ghost use Rattle.crewdesk_main.specs.Parts.{journal_of};
 
 use crate::audit_form::tell;

@@ -2,7 +2,7 @@
 ghost use Rattle.std.specs.Prelude.{◌≡◌, ◌≢◌, ◌≤◌, ◌↔◌, None, Some, false};
 ghost use Rattle.std.specs.Io.KnownBytes.{Keeps};
 ghost use Rattle.crewdesk_main.specs.declared.form.Form.{Form as FormValue};
-ghost use Rattle.crewdesk_main.specs.Ends.{writes};
+ghost use Rattle.day_replay.specs.Ends.{writes};
 ghost use Rattle.crewdesk_main.specs.Forms.{Ends};
 ghost use Rattle.crewdesk_main.specs.Words.{form_of, is_asked, reads};
 

@@ -8,13 +8,13 @@ ghost use Rattle.desk_model.specs.History.{History};
 ghost use Rattle.desk_model.specs.Journal.{journal};
 ghost use Rattle.desk_text.specs.MoreCommands.{HasMoreFault};
 ghost use Rattle.crewdesk_main.specs.Continue.{room_behind};
-ghost use Rattle.crewdesk_main.specs.Ends.{WritesOrFails, writes};
+ghost use Rattle.day_replay.specs.Ends.{WritesOrFails, writes};
 ghost use Rattle.crewdesk_main.specs.GoesOn.{EndsByTheCommands, FindsWrongField, GoesOn};
-ghost use Rattle.crewdesk_main.specs.Replay.{goes_on};
+ghost use Rattle.day_replay.specs.Replay.{goes_on};
 
-use crate::journal::write_entries;
+use day_replay::write_entries;
 use crate::limits::ENTRY_LIMIT;
-use crate::replay::tell_wrong;
+use day_replay::tell_wrong;
 use desk_io::{Sink, Status, put_all};
 use desk_model::{DeskCore, Stated};
 use desk_text::{MoreFault, read_more};

@@ -1,19 +1,11 @@
-//! How much a day file and a journal may hold.
+//! How much a journal may hold.
 ghost use Rattle.std.specs.Prelude.{◌≡◌};
-
-/// How many bytes a day file may have.
-pub const BYTE_LIMIT: usize = 16_777_216;
 
 /// How many lines a journal may have: its opening's, and those of as many entries as a desk may answer.
 pub const LINE_LIMIT: usize = 515_001;
 
 /// How many entries a journal that goes on may have in all.
 pub const ENTRY_LIMIT: u32 = 515_000;
-
-/// How many bytes a day file may have. It does nothing: its clause is the law.
-pub fn the_most_bytes_of_a_day_file()
-    ensures { BYTE_LIMIT ≡ 16_777_216 }
-{}
 
 /// How many lines a journal may have. It does nothing: its clause is the law.
 pub fn the_most_lines_of_a_journal()

@@ -2,7 +2,7 @@
 ghost use Rattle.std.specs.Prelude.{◌≡◌, ◌≢◌, ◌≤◌, ◌↔◌, Some, false, true};
 ghost use Rattle.std.specs.Io.KnownBytes.{Keeps};
 ghost use Rattle.crewdesk_main.specs.declared.form.Form.{Form as FormValue};
-ghost use Rattle.crewdesk_main.specs.Ends.{writes};
+ghost use Rattle.day_replay.specs.Ends.{writes};
 ghost use Rattle.crewdesk_main.specs.Forms.{Ends};
 ghost use Rattle.crewdesk_main.specs.Words.{form_of, is_asked, reads, runs};
 
@@ -10,7 +10,7 @@ use crate::audit_form::audit_journal;
 use crate::continue_form::continue_journal;
 use crate::form::Form;
 use crate::generate::tally_generated;
-use crate::replay::replay_day;
+use day_replay::replay_day;
 use crate::tours::tell_tours;
 use desk_io::{Sink, Source, Status};
 use std::alloc::Global;

@@ -2,7 +2,7 @@
 ghost use Rattle.std.specs.Prelude.{◌≡◌, ◌⊎◌, ◌≤◌, vec_len, IfOk, IsErrOf};
 ghost use Rattle.desk_io.specs.Faults.{Rose};
 ghost use Rattle.desk_io.specs.Input.{TookAll, TookMore, TookFront};
-ghost use Rattle.crewdesk_main.specs.Ends.{WasRead};
+ghost use Rattle.day_replay.specs.Ends.{WasRead};
 ghost use Rattle.crewdesk_main.specs.Lines.{HasFewLines, HasTooManyLines};
 
 use crate::count_lines::count_lines;

@@ -7,7 +7,7 @@ ghost use Rattle.desk_io.specs.Input.{TookMore, TookFront};
 ghost use Rattle.desk_model.specs.History.{History};
 ghost use Rattle.audit_desk.specs.Found.{HasNoOpening};
 ghost use Rattle.duty_record.specs.Kept.{Keeps};
-ghost use Rattle.crewdesk_main.specs.Ends.{WasRead, WritesOrFails, writes};
+ghost use Rattle.day_replay.specs.Ends.{WasRead, WritesOrFails, writes};
 ghost use Rattle.crewdesk_main.specs.Lines.{HasTooManyLines, HasFewLines};
 ghost use Rattle.crewdesk_main.specs.Records.{Tells, TellsLine, tours_text};
 

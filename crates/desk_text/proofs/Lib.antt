@@ -19,3 +19,4 @@ pub mod PartLemmas
 pub mod SpelledReplyLemmas
 pub mod SpelledEntryLemmas
 pub mod BeginningLemmas
+pub mod JournalLemmas

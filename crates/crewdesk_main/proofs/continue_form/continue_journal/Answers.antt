@@ -1,5 +1,5 @@
 use Rattle.std.proofs.Common.{inl, inr, arith}
-use Rattle.crewdesk_main.specs.Ends.{WritesOrFails}
+use Rattle.day_replay.specs.Ends.{WritesOrFails}
 use Rattle.crewdesk_main.proofs.ContinueLemmas.{FindsVerdict-TookAll, FindsWrongCommand-TookAll, EndsByTheText-TookAll}
 use Rattle.crewdesk_main.proofs.continue_form.continue_journal.Goals as goal
 

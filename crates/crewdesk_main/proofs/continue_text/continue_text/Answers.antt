@@ -2,7 +2,7 @@ use Rattle.std.proofs.Common.{inl, inr, subst, arith}
 use Rattle.std.specs.Io.KnownBytes.{Appends}
 use Rattle.desk_io.specs.Giving.{AddsFront}
 use Rattle.audit_desk.specs.Found.{Finds}
-use Rattle.crewdesk_main.specs.Ends.{WritesOrFails}
+use Rattle.day_replay.specs.Ends.{WritesOrFails}
 use Rattle.crewdesk_main.specs.Lines.{HasFewLines}
 use Rattle.crewdesk_main.proofs.ContinueLemmas.{IsAudited-Resumes, Continues-Resumes, FindsWrongCommand-at, EndsByTheText-legal, EndsByTheText-found}
 use Rattle.crewdesk_main.proofs.continue_text.continue_text.Goals as goal

@@ -1,5 +1,5 @@
 use Rattle.std.proofs.Common.{ap, arith}
-use Rattle.crewdesk_main.specs.Ends.{WritesOrFails, writes}
+use Rattle.day_replay.specs.Ends.{WritesOrFails, writes}
 use Rattle.crewdesk_main.proofs.TourLemmas.{TellsLine-told}
 use Rattle.crewdesk_main.proofs.tours.tell_tours.Goals as goal
 

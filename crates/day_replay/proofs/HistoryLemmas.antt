@@ -1,0 +1,80 @@
+-- The history of a day file's commands.
+use Rattle.std.proofs.Common.{◌≡◌, ℕ, ◌<◌, ◌+◌, ◌^◌, List, [], ◌∷◌, ◌++◌, length, get_or, take, map, refl, sym, ap, ◌∙◌, arith, drop, take-append-drop, length-append}
+use Rattle.std.specs.List.{All}
+use Rattle.std.proofs.lemmas.List.{take_more, map-append, length-map, length-take-le}
+use Rattle.std.proofs.lemmas.List.Elements.{All-cons, All-nil, All-head, All-tail}
+use Rattle.desk_model.specs.Opening.{OpeningValue, IsOpening}
+use Rattle.desk_model.specs.Statement.{StatedValue}
+use Rattle.desk_model.specs.Fits.{IsStated}
+use Rattle.desk_model.specs.Entry.{EntryValue}
+use Rattle.desk_model.specs.History.{History, opened, with_entry}
+use Rattle.desk_model.specs.Legal.{next, given, history_from, history, MayState, IsLegal}
+use Rattle.day_replay.specs.Replay.{by_the_day_file, goes_on, day_history, IsReplay}
+
+-- no command has no entry
+pub goes_on-none : (h : History) → goes_on h [] ≡ h
+unfolding history_from
+goes_on-none h = refl
+
+-- commands after others go on with the history of those
+history_from-append : (h : History) (commands later : List (ℕ × StatedValue)) → history_from h (commands ++ later) ≡ history_from (history_from h commands) later
+unfolding history_from
+history_from-append h [] later = refl
+history_from-append h ((caller, s) ∷ rest) later = history_from-append (with_entry h (next h caller s)) rest later
+
+-- the next command adds the entry that the rules give
+goes_on-more : (h : History) (commands : List StatedValue) (place : ℕ) (s : StatedValue) → place < length commands → s ≡ get_or commands place s
+    → goes_on h (take (place + 1) commands) ≡ with_entry (goes_on h (take place commands)) (next (goes_on h (take place commands)) 0 s)
+unfolding history_from
+goes_on-more h commands place s within at =
+    ap (goes_on h) (take_more commands place s within ∙ ap (λ x. take place commands ++ x ∷ []) (sym at))
+    ∙ ap (history_from h) (map-append by_the_day_file (take place commands) (s ∷ []))
+    ∙ history_from-append h (map by_the_day_file (take place commands)) (by_the_day_file s ∷ [])
+
+-- so the entry that comes next is the one that a desk answers which stands for the history so far
+pub goes_on-next : (h : History) (commands : List StatedValue) (place : ℕ) (s : StatedValue) (e : EntryValue)
+    → place < length commands → s ≡ get_or commands place s → e ≡ next (goes_on h (take place commands)) 0 s
+    → with_entry (goes_on h (take place commands)) e ≡ goes_on h (take (place + 1) commands)
+goes_on-next h commands place s e within at answer =
+    ap (with_entry (goes_on h (take place commands))) answer ∙ sym (goes_on-more h commands place s within at)
+
+-- it has an entry more for each command
+history_from-length : (h : History) (commands : List (ℕ × StatedValue)) → length (history_from h commands).entries ≡ length h.entries + length commands
+unfolding history_from
+history_from-length h [] = omega arith
+history_from-length h ((caller, s) ∷ rest) =
+    omega (arith, history_from-length (with_entry h (next h caller s)) rest, length-append h.entries (next h caller s ∷ []))
+
+goes_on-length : (h : History) (commands : List StatedValue) → length (goes_on h commands).entries ≡ length h.entries + length commands
+goes_on-length h commands = omega (arith, history_from-length h (map by_the_day_file commands), length-map commands by_the_day_file)
+
+-- so of the first commands it has one entry for each, and one more is no more than all
+pub day_history-few : (o : OpeningValue) (commands : List StatedValue) (place : ℕ) → length commands < 2 ^ 64 → place < length commands
+    → length (day_history o (take place commands)).entries + 1 < 2 ^ 64
+day_history-few o commands place few within = omega (arith, few, within, goes_on-length (opened o) (take place commands), length-take-le place commands (omega (arith, within)))
+
+-- the history of the first commands goes on with that of the rest
+pub goes_on-behind : (h : History) (commands : List StatedValue) (place : ℕ)
+    → history_from (goes_on h (take place commands)) (map by_the_day_file (drop place commands)) ≡ goes_on h commands
+goes_on-behind h commands place =
+    sym (history_from-append h (map by_the_day_file (take place commands)) (map by_the_day_file (drop place commands)))
+    ∙ ap (history_from h) (sym (map-append by_the_day_file (take place commands) (drop place commands)) ∙ ap (map by_the_day_file) (take-append-drop place commands))
+
+-- the day file's commands may be stated by caller 0
+pub day-MayState : (commands : List StatedValue) → All IsStated commands → All (λ c. MayState c.0 c.1) (map by_the_day_file commands)
+day-MayState [] all = All-nil (λ c. MayState c.0 c.1)
+day-MayState (s ∷ rest) all =
+    All-cons (λ c. MayState c.0 c.1) (by_the_day_file s) (map by_the_day_file rest)
+    (record { caller_in = omega arith; stated = All-head IsStated s rest all })
+    (day-MayState rest (All-tail IsStated s rest all))
+
+-- by the laws of legal histories, the history that the rules give for a day file's commands is their replay
+pub IsReplay-day : ((o : OpeningValue) (commands : List (ℕ × StatedValue)) → (history o commands).opening ≡ o)
+    → ((o : OpeningValue) (commands : List (ℕ × StatedValue)) → IsOpening o → All (λ c. MayState c.0 c.1) commands → IsLegal (history o commands))
+    → ((o : OpeningValue) (commands : List (ℕ × StatedValue)) → map given (history o commands).entries ≡ commands)
+    → (o : OpeningValue) (commands : List StatedValue) → IsOpening o → All IsStated commands → IsReplay o commands (day_history o commands)
+IsReplay-day opening legal given_is o commands valid all = record {
+  opening = opening o (map by_the_day_file commands);
+  legal = legal o (map by_the_day_file commands) valid (day-MayState commands all);
+  given = given_is o (map by_the_day_file commands);
+}

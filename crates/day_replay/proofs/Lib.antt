@@ -1,0 +1,4 @@
+pub mod HistoryLemmas
+pub mod InputLemmas
+pub mod JournalLemmas
+pub mod ReplayLemmas

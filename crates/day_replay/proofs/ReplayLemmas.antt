@@ -1,0 +1,83 @@
+-- What is said of bytes that were taken whole.
+use Rattle.std.proofs.Common.{◌≡◌, ◌⊎◌, inl, inr, ℕ, ◌≤◌, Option, List, length, subst}
+use Rattle.desk_io.specs.Input.{TookAll}
+use Rattle.desk_io.specs.declared.status.Status.{Status}
+use Rattle.desk_io.specs.declared.status.Status.TheVariants.{Fine, WriteFault, NoMemory}
+use Rattle.desk_model.specs.Opening.{OpeningValue, IsOpening}
+use Rattle.desk_model.specs.Statement.{StatedValue}
+use Rattle.desk_model.specs.History.{History}
+use Rattle.desk_text.specs.Line.{wrong_line}
+use Rattle.day_replay.specs.declared.limits.TheConstants.{BYTE_LIMIT}
+use Rattle.desk_text.specs.declared.day_fault.DayFault.{DayFault}
+use Rattle.desk_text.specs.declared.day_fault.DayFault.TheVariants as fault
+use Rattle.desk_text.specs.DayFile.{IsDayFile, IsSomeDayFile, HasUnreadable, IsUnreadable, HasFault}
+use Rattle.day_replay.specs.Ends.{WasRead, Tells}
+use Rattle.day_replay.specs.Replay.{IsReplay, Replays, FindsWrong, EndsByTheDay, day_history}
+use Rattle.day_replay.proofs.InputLemmas.{WasRead-TookAll, TookAll-told}
+use Rattle.desk_text.proofs.DayLemmas.{HasFault-one, IsDayFile-faultless}
+
+-- a day file was taken, and this was done with this text of its replay's history
+pub Replays-day : (before after : Option (List ℕ)) (o : OpeningValue) (commands : List StatedValue) (text : History → List ℕ) (Writes : List ℕ → Type 0)
+    → IsOpening o → WasRead BYTE_LIMIT before after (λ bytes. IsDayFile bytes o commands) → IsReplay o commands (day_history o commands)
+    → Writes (text (day_history o commands))
+    → Replays before after text Writes
+Replays-day before after o commands text Writes valid read replay written = record {
+  opening = o;
+  valid = valid;
+  commands = commands;
+  read = read;
+  history = day_history o commands;
+  replay = replay;
+  written = written;
+}
+
+-- a day file with a wrong field was taken whole and read, and this was done with the line that says which
+pub FindsWrong-TookAll : (before after : Option (List ℕ)) (bytes seen : List ℕ) (record_no field : ℕ) (Writes : List ℕ → Type 0)
+    → TookAll before after bytes → length bytes ≤ BYTE_LIMIT → seen ≡ bytes → HasUnreadable seen record_no field → Writes (wrong_line record_no field)
+    → FindsWrong before after Writes
+FindsWrong-TookAll before after bytes seen record_no field Writes took within same wrong written = record {
+  record_no = record_no;
+  field = field;
+  read = WasRead-TookAll BYTE_LIMIT before after bytes (λ b. HasUnreadable b record_no field) took within (subst (λ b. HasUnreadable b record_no field) same wrong);
+  written = written;
+}
+
+-- ---- of bytes that were taken whole the source told one fault at most
+
+pub one-cause : (before after : Option (List ℕ)) (bytes seen : List ℕ) (told cause : DayFault) → TookAll before after bytes → seen ≡ bytes → HasFault seen told
+    → Tells BYTE_LIMIT before (λ b. HasFault b cause) → told ≡ cause
+one-cause before after bytes seen told cause took same has tells =
+    let is = TookAll-told before after bytes tells.bytes took tells.told in
+    HasFault-one bytes told cause (subst (λ b. HasFault b told) same has) (subst (λ b. HasFault b cause) is tells.has)
+
+-- and none where they are a day file
+pub day-cause : (before after : Option (List ℕ)) (bytes seen : List ℕ) (o : OpeningValue) (commands : List StatedValue) (cause : DayFault)
+    → TookAll before after bytes → seen ≡ bytes → IsDayFile seen o commands → Tells BYTE_LIMIT before (λ b. HasFault b cause) → ⊥
+day-cause before after bytes seen o commands cause took same day tells =
+    let is = TookAll-told before after bytes tells.bytes took tells.told in
+    IsDayFile-faultless bytes o commands cause (subst (λ b. IsDayFile b o commands) same day) (subst (λ b. HasFault b cause) is tells.has)
+
+pub cause-day : (before after : Option (List ℕ)) (bytes seen : List ℕ) (cause : DayFault) → TookAll before after bytes → seen ≡ bytes → HasFault seen cause
+    → Tells BYTE_LIMIT before IsSomeDayFile → ⊥
+cause-day before after bytes seen cause took same has tells =
+    let is = TookAll-told before after bytes tells.bytes took tells.told in
+    IsDayFile-faultless bytes tells.has.opening tells.has.commands cause (subst (λ b. IsDayFile b tells.has.opening tells.has.commands) is tells.has.day) (subst (λ b. HasFault b cause) same has)
+
+-- a record that states no command is one of the faults
+pub unreadable-cause : (left : Option (List ℕ)) (tells : Tells BYTE_LIMIT left IsUnreadable) → Tells BYTE_LIMIT left (λ b. HasFault b (fault.Unreadable tells.has.record_no tells.has.field))
+unreadable-cause left tells = record { bytes = tells.bytes; told = tells.told; within = tells.within; has = tells.has.has }
+
+-- what is so of a run that took a day file stays so of one that goes on with it
+pub EndsByTheDay-day : (left : Option (List ℕ)) (result : Status) → (result ≡ Fine) ⊎ ((result ≡ WriteFault) ⊎ (result ≡ NoMemory)) → EndsByTheDay Fine left
+    → EndsByTheDay result left
+EndsByTheDay-day left result either ends = record {
+  more_bytes = λ tells. absurd (let same = ends.more_bytes tells (λ e. cc) (λ e. cc) in cc);
+  too_many = λ tells. absurd (let same = ends.too_many tells (λ e. cc) (λ e. cc) in cc);
+  no_opening = λ tells. absurd (let same = ends.no_opening tells (λ e. cc) (λ e. cc) in cc);
+  unreadable = λ tells. absurd (let same = ends.unreadable tells (λ e. cc) (λ e. cc) in cc);
+  day = λ tells written read memory. elim either [
+    | inl fine ↦ fine
+    | inr (inl fault) ↦ absurd (written fault)
+    | inr (inr none) ↦ absurd (memory none)
+  ];
+}

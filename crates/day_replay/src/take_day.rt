@@ -1,0 +1,82 @@
+ghost use Rattle.std.specs.Prelude.{◌≡◌, ◌≢◌, ◌≤◌, ◌⊎◌, IfOk, IfErr, IsErrOf};
+ghost use Rattle.std.specs.List.{All};
+ghost use Rattle.std.specs.Io.KnownBytes.{Keeps};
+ghost use Rattle.desk_io.specs.Faults.{Rose};
+ghost use Rattle.desk_io.specs.Input.{TookMore, TookFront};
+ghost use Rattle.desk_model.specs.Fits.{IsStated};
+ghost use Rattle.desk_model.specs.Opening.{IsOpening};
+ghost use Rattle.desk_text.specs.Line.{wrong_line};
+ghost use Rattle.desk_text.specs.DayFile.{IsDayFile, HasTooMany, HasNoOpening};
+ghost use Rattle.day_replay.specs.Ends.{WasRead, WritesOrFails};
+ghost use Rattle.day_replay.specs.Replay.{FindsWrong, EndsByTheDay, IsNoDay, taking_status};
+
+use crate::BYTE_LIMIT;
+use desk_io::{Sink, Source, Status, put_all, take_all};
+use desk_text::{DayFault, DayFile, read_day, write_wrong};
+use std::alloc::Global;
+
+/// Takes all that the source has, and reads it as a day file. Where it is none the run ends with the status that is
+/// answered: `ReadFault`, `TooLong`, `NoMemory`, `NoOpening`, or `Unreadable`, for which it writes a line to the sink that
+/// says which field of which record is wrong, or a front of it where the sink has a fault.
+pub fn take_day<S: Source, K: Sink>(
+    alloc: Global,
+    source: &mut S,
+    sink: &mut K,
+) -> Result<DayFile, Status>
+    ensures day { IfOk result (λ day.
+        WasRead BYTE_LIMIT (S.left source.old) (S.left source.new)
+        (λ bytes. IsDayFile bytes day.opening day.commands.items)) }
+    ensures opening { IfOk result (λ day. IsOpening day.opening) }
+    ensures stated { IfOk result (λ day. All IsStated day.commands.items) }
+
+    ensures read_fault { IsErrOf result Status.ReadFault
+        → Rose (S.faults source.old) (S.faults source.new) }
+    ensures no_fault { ¬ IsErrOf result Status.ReadFault
+        → S.faults source.new ≡ S.faults source.old }
+    ensures too_long { IsErrOf result Status.TooLong
+        → TookMore (S.left source.old) (S.left source.new) BYTE_LIMIT
+        ⊎ WasRead BYTE_LIMIT (S.left source.old) (S.left source.new) HasTooMany }
+    ensures not_too_long { ¬ IsErrOf result Status.TooLong
+        → TookFront (S.left source.old) (S.left source.new) BYTE_LIMIT }
+    ensures no_opening { IsErrOf result Status.NoOpening
+        → WasRead BYTE_LIMIT (S.left source.old) (S.left source.new) HasNoOpening }
+    ensures unreadable { IsErrOf result Status.Unreadable
+        → FindsWrong (S.left source.old) (S.left source.new)
+        (WritesOrFails (K.held sink.old) (K.held sink.new)
+        (K.faults sink.old) (K.faults sink.new)) }
+    ensures only { IfErr result IsNoDay }
+    ensures silent { ¬ IsErrOf result Status.Unreadable
+        → Keeps (K.held sink.old) (K.held sink.new) }
+    ensures silent_count { ¬ IsErrOf result Status.Unreadable
+        → K.faults sink.new ≡ K.faults sink.old }
+    ensures later_source { S.faults source.old ≤ S.faults source.new }
+    ensures later_sink { K.faults sink.old ≤ K.faults sink.new }
+
+    // And each comes where its cause is, unless memory or a fault is in the way.
+    ensures by_the_day { EndsByTheDay (taking_status result) (S.left source.old) }
+{
+    let bytes = match take_all(alloc, source, BYTE_LIMIT) {
+        Ok(bytes) => bytes,
+        Err(fault) => return Err(Status::from(fault)),
+    };
+    match read_day(alloc, &bytes) {
+        Ok(day) => Ok(day),
+        Err(DayFault::TooMany) => Err(Status::TooLong),
+        Err(DayFault::NoOpening) => Err(Status::NoOpening),
+        Err(DayFault::Unreadable { record_no, field }) => {
+            Err(tell_wrong(record_no, field, sink))
+        }
+        Err(DayFault::NoMemory) => Err(Status::NoMemory),
+    }
+}
+
+/// Writes which field of which record is wrong, or a front of that line where the sink has a fault.
+pub fn tell_wrong<K: Sink>(record_no: u32, field: u8, sink: &mut K) -> Status
+    ensures unreadable { result ≡ Status.Unreadable }
+    ensures written { WritesOrFails (K.held sink.old) (K.held sink.new)
+        (K.faults sink.old) (K.faults sink.new) (wrong_line record_no field) }
+    ensures later { K.faults sink.old ≤ K.faults sink.new }
+{
+    let _whole = put_all(sink, write_wrong(record_no, field).as_slice());
+    Status::Unreadable
+}
