@@ -1,0 +1,140 @@
+-- What follows an answer, from what was said by it and what was put.
+use Rattle.std.proofs.Common.{◌≡◌, ◌≢◌, ℕ, ◌-◌, ◌<◌, ◌≤◌, true, List, [], ◌∷◌, None, Some, refl, sym, ap, ◌∙◌, subst, arith}
+use Rattle.std.specs.declared.option.Option.{Option}
+use Rattle.desk_model.specs.Entry.{EntryValue}
+use Rattle.desk_model.specs.Journal.{entry_line}
+use Rattle.desk_model.specs.Opening.{OpeningValue}
+use Rattle.desk_model.specs.Statement.{StatedValue}
+use Rattle.desk_text.specs.CommandLine.{IsCommandLine, IsMalformed}
+use Rattle.turn_gate.specs.Seats.{SeatValue}
+use Rattle.caller_lines.specs.Given.{Given, GaveLine, GaveTooLong, GaveEnd, GaveFailed}
+use Rattle.caller_lines.specs.Hears.{ReadsAs, Hears}
+use Rattle.caller_lines.specs.Told.{with_last}
+use Rattle.caller_lines.specs.declared.said.Said.{Said}
+use Rattle.caller_lines.specs.declared.said.Said.TheVariants as said
+use Rattle.serve_desk.specs.declared.limits.TheConstants.{LINE_LIMIT}
+use Rattle.serve_desk.specs.declared.why.Why.{Why}
+use Rattle.serve_desk.specs.declared.why.Why.TheVariants as why
+use Rattle.serve_desk.specs.Texts.{too_many, too_long, no_memory, malformed, spent}
+use Rattle.serve_desk.specs.Told.{with_all, LineValue}
+use Rattle.serve_desk.specs.Follows.{is_line, Puts, Follows, it_is_put, it_is_not_put, the_end, a_fault, one_line_too_many, a_line_too_long, no_memory_for_a_line, no_command, no_call_left, a_call}
+use Rattle.serve_desk.specs.Seats.{Made}
+use Rattle.serve_desk.specs.Serves.{PutsOn, MakesCall, it_is_called, it_is_spent, Answers}
+use Rattle.serve_desk.proofs.ToldLemmas.{with_all-none, with_all-one}
+use Rattle.serve_desk.proofs.SeatLemmas.{Made-none}
+
+-- a text was put, or wasn't
+pub PutsOn-put : (text : List ℕ) (then : Option Why) (before now : Option (List (List ℕ))) → now ≡ with_last before text → PutsOn text then before now then
+PutsOn-put text then before now told = record { texts = text ∷ []; puts = it_is_put; told = told ∙ sym (with_all-one before text) }
+
+pub PutsOn-not_put : (text : List ℕ) (then : Option Why) (before now : Option (List (List ℕ))) → now ≡ before → PutsOn text then before now (Some why.LineFault)
+PutsOn-not_put text then before now same = record { texts = []; puts = it_is_not_put; told = same ∙ sym (with_all-none before) }
+
+-- what was said of a line
+pub line-said : (gave : Given) (s : Said) → ReadsAs gave s → s ≢ said.End → s ≢ said.LineFault → is_line gave ≡ true
+line-said (GaveLine bytes) s reads not_end no_fault = refl
+line-said GaveTooLong s reads not_end no_fault = refl
+line-said GaveEnd s reads not_end no_fault = absurd (not_end reads)
+line-said GaveFailed s reads not_end no_fault = absurd (no_fault reads)
+
+-- a text is put and nothing else changes but the line
+with_text : (o : OpeningValue) (heard left : ℕ) (line later : LineValue) (seat : SeatValue) (ends then : Option Why) (text : List ℕ) (gave : Given)
+    → later.given ≡ with_last line.given gave → (put : PutsOn text then line.puts later.puts ends) → Follows heard left gave [] put.texts ends → Answers o heard left line later seat seat ends
+with_text o heard left line later seat ends then text gave given put follows = record {
+  gave = gave;
+  entries = [];
+  texts = put.texts;
+  follows = follows;
+  given = given;
+  puts = put.told;
+  made = Made-none o seat;
+}
+
+-- the line has no more
+follows-end : (heard left : ℕ) (gave : Given) → ReadsAs gave said.End → Follows heard left gave [] [] (Some why.End)
+follows-end heard left GaveEnd reads = the_end
+follows-end heard left (GaveLine bytes) reads = absurd reads
+follows-end heard left GaveTooLong reads = absurd (cc)
+follows-end heard left GaveFailed reads = absurd (cc)
+
+-- it has a fault
+follows-fault : (heard left : ℕ) (gave : Given) → ReadsAs gave said.LineFault → Follows heard left gave [] [] (Some why.LineFault)
+follows-fault heard left GaveFailed reads = a_fault
+follows-fault heard left (GaveLine bytes) reads = absurd reads
+follows-fault heard left GaveTooLong reads = absurd (cc)
+follows-fault heard left GaveEnd reads = absurd (cc)
+
+-- it gave a line that is too long
+follows-too_long : (heard left : ℕ) (gave : Given) (texts : List (List ℕ)) (ends : Option Why) → heard < LINE_LIMIT → ReadsAs gave said.TooLong → Puts too_long None texts ends
+    → Follows heard left gave [] texts ends
+follows-too_long heard left GaveTooLong texts ends few reads puts = a_line_too_long texts ends few puts
+follows-too_long heard left (GaveLine bytes) texts ends few reads puts = absurd reads
+follows-too_long heard left GaveEnd texts ends few reads puts = absurd (cc)
+follows-too_long heard left GaveFailed texts ends few reads puts = absurd (cc)
+
+-- memory was wanting for the line
+follows-no_memory : (heard left : ℕ) (gave : Given) (texts : List (List ℕ)) (ends : Option Why) → heard < LINE_LIMIT → ReadsAs gave said.NoMemory → Puts no_memory None texts ends
+    → Follows heard left gave [] texts ends
+follows-no_memory heard left (GaveLine bytes) texts ends few reads puts = no_memory_for_a_line bytes texts ends few puts
+follows-no_memory heard left GaveTooLong texts ends few reads puts = absurd (cc)
+follows-no_memory heard left GaveEnd texts ends few reads puts = absurd (cc)
+follows-no_memory heard left GaveFailed texts ends few reads puts = absurd (cc)
+
+-- it gave no command
+follows-malformed : (heard left : ℕ) (gave : Given) (field : ℕ) (texts : List (List ℕ)) (ends : Option Why) → heard < LINE_LIMIT → ReadsAs gave (said.Malformed field)
+    → Puts (malformed field) None texts ends → Follows heard left gave [] texts ends
+follows-malformed heard left (GaveLine bytes) field texts ends few reads puts = no_command bytes field texts ends few reads puts
+follows-malformed heard left GaveTooLong field texts ends few reads puts = absurd (cc)
+follows-malformed heard left GaveEnd field texts ends few reads puts = absurd (cc)
+follows-malformed heard left GaveFailed field texts ends few reads puts = absurd (cc)
+
+-- it gave a command, and the seat has no call left
+follows-spent : (heard left : ℕ) (gave : Given) (s : StatedValue) (texts : List (List ℕ)) (ends : Option Why) → heard < LINE_LIMIT → ReadsAs gave (said.Command s) → left ≡ 0
+    → Puts spent (Some why.Spent) texts ends → Follows heard left gave [] texts ends
+follows-spent heard left (GaveLine bytes) s texts ends few reads none puts = no_call_left bytes s texts ends few reads none puts
+follows-spent heard left GaveTooLong s texts ends few reads none puts = absurd (cc)
+follows-spent heard left GaveEnd s texts ends few reads none puts = absurd (cc)
+follows-spent heard left GaveFailed s texts ends few reads none puts = absurd (cc)
+
+-- it gave a command, which was called
+follows-call : (heard left : ℕ) (gave : Given) (e : EntryValue) (texts : List (List ℕ)) (ends : Option Why) → heard < LINE_LIMIT → ReadsAs gave (said.Command e.stated) → 0 < left
+    → Puts (entry_line e) None texts ends → Follows heard left gave (e ∷ []) texts ends
+follows-call heard left (GaveLine bytes) e texts ends few reads some puts = a_call bytes e texts ends few reads some puts
+follows-call heard left GaveTooLong e texts ends few reads some puts = absurd (cc)
+follows-call heard left GaveEnd e texts ends few reads some puts = absurd (cc)
+follows-call heard left GaveFailed e texts ends few reads some puts = absurd (cc)
+
+-- what follows where no text is put
+quiet : (o : OpeningValue) (heard left : ℕ) (line later : LineValue) (seat : SeatValue) (ends : Option Why) (gave : Given) → later.given ≡ with_last line.given gave → later.puts ≡ line.puts
+    → Follows heard left gave [] [] ends → Answers o heard left line later seat seat ends
+quiet o heard left line later seat ends gave given puts follows = record {
+  gave = gave;
+  entries = [];
+  texts = [];
+  follows = follows;
+  given = given;
+  puts = puts ∙ sym (with_all-none line.puts);
+  made = Made-none o seat;
+}
+
+pub Answers-end : (o : OpeningValue) (heard left : ℕ) (line later : LineValue) (seat : SeatValue) → Hears line.given later.given said.End → later.puts ≡ line.puts
+    → Answers o heard left line later seat seat (Some why.End)
+Answers-end o heard left line later seat hears puts = quiet o heard left line later seat (Some why.End) hears.gave hears.once puts (follows-end heard left hears.gave hears.reads)
+
+pub Answers-fault : (o : OpeningValue) (heard left : ℕ) (line later : LineValue) (seat : SeatValue) → Hears line.given later.given said.LineFault → later.puts ≡ line.puts
+    → Answers o heard left line later seat seat (Some why.LineFault)
+Answers-fault o heard left line later seat hears puts = quiet o heard left line later seat (Some why.LineFault) hears.gave hears.once puts (follows-fault heard left hears.gave hears.reads)
+
+-- what follows where a text is put and nothing is called: it was put after the line was asked
+pub Answers-text : (o : OpeningValue) (heard left : ℕ) (line asked later : LineValue) (seat : SeatValue) (ends then : Option Why) (text : List ℕ) (s : Said) → Hears line.given asked.given s
+    → asked.puts ≡ line.puts → later.given ≡ asked.given → PutsOn text then asked.puts later.puts ends
+    → ((gave : Given) (texts : List (List ℕ)) → ReadsAs gave s → Puts text then texts ends → Follows heard left gave [] texts ends) → Answers o heard left line later seat seat ends
+Answers-text o heard left line asked later seat ends then text s hears same given put follows = record {
+  gave = hears.gave;
+  entries = [];
+  texts = put.texts;
+  follows = follows hears.gave put.texts hears.reads put.puts;
+  given = given ∙ hears.once;
+  puts = put.told ∙ ap (λ xs. with_all xs put.texts) same;
+  made = Made-none o seat;
+}

@@ -1,0 +1,5 @@
+mod ToldLemmas
+mod SeatLemmas
+mod AnswerLemmas
+mod SessionLemmas
+mod LineLemmas

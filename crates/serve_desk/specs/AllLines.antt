@@ -1,0 +1,52 @@
+-- What serving all lines at one desk makes of them.
+use Rattle.std.specs.Prelude.{◌≡◌, ◌≢◌, ℕ, ◌+◌, ◌-◌, ◌<◌, ◌≤◌, List, ◌++◌, length, slice_index_or, Some}
+use Rattle.std.specs.declared.option.Option.{Option}
+use Rattle.std.specs.List.{All}
+use Rattle.desk_io.specs.Faults.{Rose}
+use Rattle.desk_model.specs.Entry.{EntryValue}
+use Rattle.turn_gate.specs.Seats.{GateValue, SeatValue, IsSeatOf}
+use Rattle.turn_gate.specs.Told.{own, IsNumber}
+use Rattle.caller_lines.specs.Given.{Given}
+use Rattle.serve_desk.specs.declared.why.Why.{Why}
+use Rattle.serve_desk.specs.declared.why.Why.TheVariants as why
+use Rattle.serve_desk.specs.Told.{with_all, LineValue}
+use Rattle.serve_desk.specs.Session.{Session}
+use Rattle.serve_desk.specs.Serves.{Serves}
+
+-- a post's line was served at its seat, at a desk of this gate
+pub record Attends (gate : GateValue) (seat after : Option SeatValue) (line later : LineValue) : Type 0 where
+  pub before : SeatValue
+  pub behind : SeatValue
+  pub why : Why
+  pub taken : ℕ
+  pub had : seat ≡ Some before
+  pub has : after ≡ Some behind
+  pub serves : Serves gate.start.book.opening (gate.start.quota - before.calls) line later before behind why taken
+  pub of_desk : IsSeatOf gate behind
+  pub fault : why ≡ why.LineFault → Rose line.faults later.faults
+  pub no_fault : why ≢ why.LineFault → later.faults ≡ line.faults
+  pub faults : line.faults ≤ later.faults
+
+-- a line after its session, the caller of this number: of that caller the later entries are those that came of what it gave. It
+-- ended with a fault only where the line's faults rose, which never fall
+pub record IsServed (left : ℕ) (before after : List EntryValue) (number : ℕ) (line later : LineValue) : Type 0 where
+  pub answers : List Given
+  pub entries : List EntryValue
+  pub texts : List (List ℕ)
+  pub why : Why
+  pub session : Session left answers entries texts why
+  pub given : later.given ≡ with_all line.given answers
+  pub puts : later.puts ≡ with_all line.puts texts
+  pub own_entries : own after number ≡ own before number ++ entries
+  pub fault : why ≡ why.LineFault → Rose line.faults later.faults
+  pub no_fault : why ≢ why.LineFault → later.faults ≡ line.faults
+  pub faults : line.faults ≤ later.faults
+
+-- the entries of a desk before and after its lines were served, line i as caller i, from 1: the caller of each later entry is the
+-- number of a line, and each line was served
+pub record AreServed (left : ℕ) (before after : List EntryValue) (lines later : List LineValue) : Type 0 where
+  pub more : List EntryValue
+  pub begins : after ≡ before ++ more
+  pub callers : All (λ e. IsNumber (length lines) e.caller) more
+  pub count : length later ≡ length lines
+  pub each : (i : ℕ) (line : LineValue) → i < length lines → IsServed left before after (i + 1) (slice_index_or lines i line) (slice_index_or later i line)

@@ -1,0 +1,101 @@
+//! One answer of a line, and what follows it.
+ghost use Rattle.std.specs.Prelude.{◌≡◌, ◌≢◌, ◌-◌, ◌≤◌};
+ghost use Rattle.desk_io.specs.Faults.{Rose};
+ghost use Rattle.turn_gate.specs.Seats.{IsSeatOf};
+ghost use Rattle.serve_desk.specs.Told.{line_of};
+ghost use Rattle.serve_desk.specs.Serves.{Answers, MakesCall};
+
+use crate::answered::Answered;
+use crate::entry_lines::EntryLines;
+use crate::malformed::write_malformed;
+use crate::put::put_on;
+use crate::texts::{NO_MEMORY, SPENT, TOO_LONG, TOO_MANY};
+use crate::{LINE_LIMIT, Why};
+use call_history::Book;
+use caller_lines::{CallerLine, Said, hear};
+use desk_model::{DeskCore, Stated};
+use desk_shared::{Called, Desk, SeatSpent};
+use std::alloc::Global;
+use std::sync::Wait;
+use turn_gate::Seat;
+
+/// Asks the line once, which gave so many lines before, and does what follows. The reply to a line is put before the next is asked.
+pub fn answer<C: DeskCore, R: Wait>(
+    rt: &R,
+    alloc: Global,
+    desk: &Desk<C>,
+    seat: Seat<Book<C>>,
+    heard: u32,
+    lines: &mut EntryLines,
+    line: &mut Box<dyn CallerLine + Send>,
+) -> Answered<C>
+    requires seat { IsSeatOf desk.now seat }
+    requires heard { heard ≤ LINE_LIMIT }
+    ensures answers { Answers desk.now.start.book.opening heard (desk.now.start.quota - seat.calls)
+        (line_of (faults line.old) (given line.old) (put_texts line.old))
+        (line_of (faults line.new) (given line.new) (put_texts line.new))
+        seat result.seat result.ends }
+    ensures seat { IsSeatOf desk.now result.seat }
+    ensures later { faults line.old ≤ faults line.new }
+    ensures cause { result.ends ≡ Some Why.LineFault → Rose (faults line.old) (faults line.new) }
+    ensures no_fault { result.ends ≢ Some Why.LineFault → faults line.new ≡ faults line.old }
+{
+    match hear(alloc, line) {
+        Said::End => Answered {
+            seat,
+            ends: Some(Why::End),
+        },
+        Said::LineFault => Answered {
+            seat,
+            ends: Some(Why::LineFault),
+        },
+        _ if heard == LINE_LIMIT => Answered {
+            seat,
+            ends: put_on(line, TOO_MANY, Some(Why::TooManyLines)),
+        },
+        Said::TooLong => Answered {
+            seat,
+            ends: put_on(line, TOO_LONG, None),
+        },
+        Said::NoMemory => Answered {
+            seat,
+            ends: put_on(line, NO_MEMORY, None),
+        },
+        Said::Malformed(field) => Answered {
+            seat,
+            ends: put_on(line, write_malformed(field).as_slice(), None),
+        },
+        Said::Command(stated) => call(rt, desk, seat, stated, lines, line),
+    }
+}
+
+// Calls the desk with a command, and puts the entry's line; or says that the seat has no call left.
+fn call<C: DeskCore, R: Wait>(
+    rt: &R,
+    desk: &Desk<C>,
+    seat: Seat<Book<C>>,
+    stated: Stated,
+    lines: &mut EntryLines,
+    line: &mut Box<dyn CallerLine + Send>,
+) -> Answered<C>
+    requires { IsSeatOf desk.now seat }
+    ensures calls { MakesCall desk.now.start.book.opening (desk.now.start.quota - seat.calls)
+        (put_texts line.old) (put_texts line.new) stated seat result.seat result.ends }
+    ensures seat { IsSeatOf desk.now result.seat }
+    ensures given { given line.new ≡ given line.old }
+    ensures later { faults line.old ≤ faults line.new }
+    ensures cause { result.ends ≡ Some Why.LineFault → Rose (faults line.old) (faults line.new) }
+    ensures no_fault { result.ends ≢ Some Why.LineFault → faults line.new ≡ faults line.old }
+{
+    let Called { seat, outcome } = desk.call(rt, seat, stated);
+    match outcome {
+        Ok(receipt) => Answered {
+            seat,
+            ends: put_on(line, lines.write(&receipt.entry), None),
+        },
+        Err(SeatSpent) => Answered {
+            seat,
+            ends: put_on(line, SPENT, Some(Why::Spent)),
+        },
+    }
+}
