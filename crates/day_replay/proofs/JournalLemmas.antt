@@ -1,16 +1,17 @@
 -- The journal of a day grows by the lines of the entries, one after another.
-use Rattle.std.proofs.Common.{◌≡◌, ℕ, ◌+◌, Option, List, [], ◌∷◌, ◌++◌, length, map, take, drop, refl, sym, ap, subst, ◌∙◌, arith, append-nil, length-append, append_assoc}
-use Rattle.std.specs.Io.KnownBytes.{Appends}
+use Rattle.std.proofs.Common.{◌≡◌, ℕ, ◌+◌, Option, None, Some, List, [], ◌∷◌, ◌++◌, length, map, take, drop, take-append-drop, refl, sym, ap, subst, ◌∙◌, arith, append-nil, length-append, append_assoc}
+use Rattle.std.specs.Io.KnownBytes.{Appends, Keeps}
 use Rattle.std.proofs.KnownBytes.{Appends-trans, Appends-nil}
 use Rattle.std.proofs.lemmas.List.{take-append-le}
 use Rattle.std.proofs.Math.Seq.{take-append-add}
 use Rattle.desk_io.specs.Giving.{AddsFront}
-use Rattle.desk_text.proofs.JournalLemmas.{journal-next}
+use Rattle.desk_text.proofs.JournalLemmas.{journal-append, journal-next}
 use Rattle.desk_model.specs.Entry.{EntryValue}
+use Rattle.desk_model.specs.Opening.{OpeningValue}
 use Rattle.desk_model.specs.Statement.{StatedValue}
-use Rattle.desk_model.specs.History.{History, with_entry}
+use Rattle.desk_model.specs.History.{History, history_of, with_entry}
 use Rattle.desk_model.specs.Legal.{next, history_from}
-use Rattle.desk_model.specs.Journal.{entry_line, journal}
+use Rattle.desk_model.specs.Journal.{entry_line, entry_lines, journal}
 use Rattle.day_replay.specs.Gathered.{Gathers}
 use Rattle.day_replay.specs.Replay.{by_the_day_file, goes_on}
 use Rattle.day_replay.proofs.HistoryLemmas.{goes_on-behind}
@@ -55,6 +56,15 @@ pub AddsFront-gathered : (a b c : Option (List ℕ)) (text waiting : List ℕ) �
 AddsFront-gathered a b c text waiting before front =
     subst (AddsFront a c) (sym before.parts) (AddsFront-after a b c before.put waiting before.added front)
 
+-- what is put into a sink that holds what it held
+pub Appends-kept : (a b c : Option (List ℕ)) (text : List ℕ) → Keeps a b → Appends b c text → Appends a c text
+Appends-kept None b c text kept put = tt
+Appends-kept (Some x) None c text kept put = absurd kept
+Appends-kept (Some x) (Some y) c text kept put = subst (λ z. Appends (Some z) c text) kept put
+
+pub AddsFront-kept : (a b c : Option (List ℕ)) (text : List ℕ) → Keeps a b → AddsFront b c text → AddsFront a c text
+AddsFront-kept a b c text kept front = record { count = front.count; within = front.within; added = Appends-kept a b c (take front.count text) kept front.added }
+
 -- ---- the journal
 
 -- commands more are lines more
@@ -89,3 +99,10 @@ AddsFront-journal a b h commands place front =
     let first = goes_on h (take place commands) in
     let more = journal-grows first (map by_the_day_file (drop place commands)) in
     subst (AddsFront a b) (sym more.1 ∙ ap journal (goes_on-behind h commands place)) (AddsFront-longer a b (journal first) more.0 front)
+
+-- a front of the journal of the first entries is one of that of all
+pub AddsFront-entries : (a b : Option (List ℕ)) (o : OpeningValue) (entries : List EntryValue) (place : ℕ)
+    → AddsFront a b (journal (history_of o (take place entries))) → AddsFront a b (journal (history_of o entries))
+AddsFront-entries a b o entries place front =
+    subst (AddsFront a b) (sym (journal-append (history_of o (take place entries)) (drop place entries)) ∙ ap (λ es. journal (history_of o es)) (take-append-drop place entries))
+    (AddsFront-longer a b (journal (history_of o (take place entries))) (entry_lines (drop place entries)) front)

@@ -6,7 +6,7 @@ use Rattle.desk_text.specs.declared.day_fault.DayFault.TheVariants as fault
 use Rattle.desk_text.specs.DayFile.{IsDayFile, HasFault}
 use Rattle.day_replay.proofs.InputLemmas.{WasRead-TookAll}
 use Rattle.day_replay.proofs.ReplayLemmas.{FindsWrong-TookAll, one-cause, cause-day, day-cause, unreadable-cause}
-use Rattle.day_replay.proofs.take_day.take_day.Goals as goal
+use Rattle.day_replay.proofs.day_input.take_day.Goals as goal
 
 pub returns-in-Ok-read_day-clause-day : goal.returns-in-Ok-read_day-clause-day
 returns-in-Ok-read_day-clause-day g c =

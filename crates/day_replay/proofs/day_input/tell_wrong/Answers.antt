@@ -1,6 +1,6 @@
 use Rattle.std.proofs.Common.{◌∙◌, inl, inr}
 use Rattle.std.proofs.lemmas.Bool.{cases_Bool}
-use Rattle.day_replay.proofs.take_day.tell_wrong.Goals as goal
+use Rattle.day_replay.proofs.day_input.tell_wrong.Goals as goal
 
 pub returns-clause-written : goal.returns-clause-written
 returns-clause-written g c =

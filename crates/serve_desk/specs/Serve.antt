@@ -1,0 +1,41 @@
+-- What serving lines behind a day file makes of the source, the lines and the sink.
+use Rattle.std.specs.Prelude.{◌≡◌, ◌⊎◌, ℕ, ◌+◌, ◌<◌, Option, List, length, map, take, drop, slice_index_or}
+use Rattle.std.specs.List.{All}
+use Rattle.desk_io.specs.Faults.{Rose}
+use Rattle.desk_model.specs.Entry.{EntryValue}
+use Rattle.desk_model.specs.History.{History}
+use Rattle.desk_model.specs.Journal.{journal}
+use Rattle.desk_model.specs.Legal.{IsLegal, given}
+use Rattle.desk_model.specs.Opening.{OpeningValue, IsOpening}
+use Rattle.desk_model.specs.Statement.{StatedValue}
+use Rattle.desk_model.specs.declared.entry.TheConstants.{LAST_CALLER}
+use Rattle.desk_text.specs.DayFile.{IsDayFile}
+use Rattle.day_replay.specs.Ends.{WasRead}
+use Rattle.day_replay.specs.Replay.{by_the_day_file}
+use Rattle.day_replay.specs.declared.limits.TheConstants.{BYTE_LIMIT}
+use Rattle.turn_gate.specs.Told.{own, IsNumber}
+use Rattle.serve_desk.specs.declared.limits.TheConstants.{CALLS_PER_LINE}
+use Rattle.serve_desk.specs.Told.{LineValue}
+use Rattle.serve_desk.specs.AllLines.{IsServed}
+
+-- there are fewer lines than can be served, or more
+abbrev pub IsNoNumberOfLines : ℕ → Type 0
+IsNoNumberOfLines count = (count ≡ 0) ⊎ (LAST_CALLER < count)
+
+-- a day file was read, and there is one legal history of a desk that was opened so, with which this was done. Its first entries have
+-- the day file's commands, each once, in their order, with caller 0; the caller of each later one is the number of a line; and of
+-- each line's number it has just the entries that come of what the line gave
+pub record ServesDay (before after : Option (List ℕ)) (lines later : List LineValue) (Writes : List ℕ → Type 0) : Type 0 where
+  pub opening : OpeningValue
+  pub valid : IsOpening opening
+  pub commands : List StatedValue
+  pub read : WasRead BYTE_LIMIT before after (λ bytes. IsDayFile bytes opening commands)
+  pub history : History
+  pub opened : history.opening ≡ opening
+  pub legal : IsLegal history
+  pub setup : map given (take (length commands) history.entries) ≡ map by_the_day_file commands
+  pub callers : All (λ e. IsNumber (length lines) e.caller) (drop (length commands) history.entries)
+  pub count : length later ≡ length lines
+  pub each : (i : ℕ) (line : LineValue) → i < length lines
+      → IsServed CALLS_PER_LINE (own history.entries (i + 1)) (slice_index_or lines i line) (slice_index_or later i line)
+  pub written : Writes (journal history)
