@@ -2,7 +2,9 @@
 use Rattle.std.proofs.Common.{◌≡◌, ◌≢◌, ℕ, ◌-◌, ◌<◌, ◌≤◌, true, List, [], ◌∷◌, None, Some, refl, sym, ap, ◌∙◌, subst, arith}
 use Rattle.std.specs.declared.option.Option.{Option}
 use Rattle.desk_model.specs.Entry.{EntryValue}
+use Rattle.desk_model.specs.History.{History, history_of}
 use Rattle.desk_model.specs.Journal.{entry_line}
+use Rattle.desk_model.specs.Legal.{next}
 use Rattle.desk_model.specs.Opening.{OpeningValue}
 use Rattle.desk_model.specs.Statement.{StatedValue}
 use Rattle.desk_text.specs.CommandLine.{IsCommandLine, IsMalformed}
@@ -12,6 +14,8 @@ use Rattle.caller_lines.specs.Hears.{ReadsAs, Hears}
 use Rattle.caller_lines.specs.Told.{with_last}
 use Rattle.caller_lines.specs.declared.said.Said.{Said}
 use Rattle.caller_lines.specs.declared.said.Said.TheVariants as said
+use Rattle.desk_shared.specs.Calls.{Calls}
+use Rattle.desk_shared.specs.declared.receipt.Receipt.{Receipt}
 use Rattle.serve_desk.specs.declared.limits.TheConstants.{LINE_LIMIT}
 use Rattle.serve_desk.specs.declared.why.Why.{Why}
 use Rattle.serve_desk.specs.declared.why.Why.TheVariants as why
@@ -19,9 +23,9 @@ use Rattle.serve_desk.specs.Texts.{too_many, too_long, no_memory, malformed, spe
 use Rattle.serve_desk.specs.Told.{with_all, LineValue}
 use Rattle.serve_desk.specs.Follows.{is_line, Puts, Follows, it_is_put, it_is_not_put, the_end, a_fault, one_line_too_many, a_line_too_long, no_memory_for_a_line, no_command, no_call_left, a_call}
 use Rattle.serve_desk.specs.Seats.{Made}
-use Rattle.serve_desk.specs.Serves.{PutsOn, MakesCall, it_is_called, it_is_spent, Answers}
+use Rattle.serve_desk.specs.Serves.{PutsOn, Replies, Answers}
 use Rattle.serve_desk.proofs.ToldLemmas.{with_all-none, with_all-one}
-use Rattle.serve_desk.proofs.SeatLemmas.{Made-none}
+use Rattle.serve_desk.proofs.SeatLemmas.{Made-none, Made-one}
 
 -- a text was put, or wasn't
 pub PutsOn-put : (text : List ℕ) (then : Option Why) (before now : Option (List (List ℕ))) → now ≡ with_last before text → PutsOn text then before now then
@@ -36,19 +40,6 @@ line-said (GaveLine bytes) s reads not_end no_fault = refl
 line-said GaveTooLong s reads not_end no_fault = refl
 line-said GaveEnd s reads not_end no_fault = absurd (not_end reads)
 line-said GaveFailed s reads not_end no_fault = absurd (no_fault reads)
-
--- a text is put and nothing else changes but the line
-with_text : (o : OpeningValue) (heard left : ℕ) (line later : LineValue) (seat : SeatValue) (ends then : Option Why) (text : List ℕ) (gave : Given)
-    → later.given ≡ with_last line.given gave → (put : PutsOn text then line.puts later.puts ends) → Follows heard left gave [] put.texts ends → Answers o heard left line later seat seat ends
-with_text o heard left line later seat ends then text gave given put follows = record {
-  gave = gave;
-  entries = [];
-  texts = put.texts;
-  follows = follows;
-  given = given;
-  puts = put.told;
-  made = Made-none o seat;
-}
 
 -- the line has no more
 follows-end : (heard left : ℕ) (gave : Given) → ReadsAs gave said.End → Follows heard left gave [] [] (Some why.End)
@@ -125,16 +116,70 @@ pub Answers-fault : (o : OpeningValue) (heard left : ℕ) (line later : LineValu
     → Answers o heard left line later seat seat (Some why.LineFault)
 Answers-fault o heard left line later seat hears puts = quiet o heard left line later seat (Some why.LineFault) hears.gave hears.once puts (follows-fault heard left hears.gave hears.reads)
 
--- what follows where a text is put and nothing is called: it was put after the line was asked
-pub Answers-text : (o : OpeningValue) (heard left : ℕ) (line asked later : LineValue) (seat : SeatValue) (ends then : Option Why) (text : List ℕ) (s : Said) → Hears line.given asked.given s
-    → asked.puts ≡ line.puts → later.given ≡ asked.given → PutsOn text then asked.puts later.puts ends
-    → ((gave : Given) (texts : List (List ℕ)) → ReadsAs gave s → Puts text then texts ends → Follows heard left gave [] texts ends) → Answers o heard left line later seat seat ends
-Answers-text o heard left line asked later seat ends then text s hears same given put follows = record {
-  gave = hears.gave;
+-- a text is put, and nothing is called
+Replies-text : (o : OpeningValue) (heard left : ℕ) (before now : Option (List (List ℕ))) (s : Said) (seat : SeatValue) (ends then : Option Why) (text : List ℕ) → PutsOn text then before now ends
+    → ((gave : Given) (texts : List (List ℕ)) → ReadsAs gave s → Puts text then texts ends → Follows heard left gave [] texts ends) → Replies o heard left before now s seat seat ends
+Replies-text o heard left before now s seat ends then text put follows = record {
   entries = [];
   texts = put.texts;
-  follows = follows hears.gave put.texts hears.reads put.puts;
-  given = given ∙ hears.once;
-  puts = put.told ∙ ap (λ xs. with_all xs put.texts) same;
+  follows = λ gave reads. follows gave put.texts reads put.puts;
+  told = put.told;
   made = Made-none o seat;
+}
+
+pub Replies-too_many : (o : OpeningValue) (heard left : ℕ) (before now : Option (List (List ℕ))) (s : Said) (seat : SeatValue) (ends : Option Why) → heard ≡ LINE_LIMIT → s ≢ said.End → s ≢ said.LineFault
+    → PutsOn too_many (Some why.TooManyLines) before now ends → Replies o heard left before now s seat seat ends
+Replies-too_many o heard left before now s seat ends full not_end no_fault put =
+    Replies-text o heard left before now s seat ends (Some why.TooManyLines) too_many put
+    (λ gave texts reads puts. one_line_too_many gave texts ends (line-said gave s reads not_end no_fault) full puts)
+
+pub Replies-too_long : (o : OpeningValue) (heard left : ℕ) (before now : Option (List (List ℕ))) (s : Said) (seat : SeatValue) (ends : Option Why) → heard < LINE_LIMIT → s ≡ said.TooLong
+    → PutsOn too_long None before now ends → Replies o heard left before now s seat seat ends
+Replies-too_long o heard left before now s seat ends few is put =
+    Replies-text o heard left before now s seat ends None too_long put (λ gave texts reads puts. follows-too_long heard left gave texts ends few (subst (λ x. ReadsAs gave x) is reads) puts)
+
+pub Replies-no_memory : (o : OpeningValue) (heard left : ℕ) (before now : Option (List (List ℕ))) (s : Said) (seat : SeatValue) (ends : Option Why) → heard < LINE_LIMIT → s ≡ said.NoMemory
+    → PutsOn no_memory None before now ends → Replies o heard left before now s seat seat ends
+Replies-no_memory o heard left before now s seat ends few is put =
+    Replies-text o heard left before now s seat ends None no_memory put (λ gave texts reads puts. follows-no_memory heard left gave texts ends few (subst (λ x. ReadsAs gave x) is reads) puts)
+
+pub Replies-malformed : (o : OpeningValue) (heard left : ℕ) (before now : Option (List (List ℕ))) (s : Said) (field : ℕ) (seat : SeatValue) (ends : Option Why) → heard < LINE_LIMIT
+    → s ≡ said.Malformed field → PutsOn (malformed field) None before now ends → Replies o heard left before now s seat seat ends
+Replies-malformed o heard left before now s field seat ends few is put =
+    Replies-text o heard left before now s seat ends None (malformed field) put (λ gave texts reads puts. follows-malformed heard left gave field texts ends few (subst (λ x. ReadsAs gave x) is reads) puts)
+
+pub Replies-spent : (o : OpeningValue) (heard left : ℕ) (before now : Option (List (List ℕ))) (s : StatedValue) (seat after : SeatValue) (ends : Option Why) → heard < LINE_LIMIT → left ≡ 0 → after ≡ seat
+    → PutsOn spent (Some why.Spent) before now ends → Replies o heard left before now (said.Command s) seat after ends
+Replies-spent o heard left before now s seat after ends few none same put =
+    subst (λ x. Replies o heard left before now (said.Command s) seat x ends) (sym same)
+    (Replies-text o heard left before now (said.Command s) seat ends (Some why.Spent) spent put (λ gave texts reads puts. follows-spent heard left gave s texts ends few reads none puts))
+
+-- the entry that comes next is of what is stated
+next-stated : (h : History) (caller : ℕ) (s : StatedValue) (e : EntryValue) → e ≡ next h caller s → e.stated ≡ s
+unfolding next
+next-stated h caller s e is = ap (λ x. x.stated) is
+
+-- a call is made, and its entry's line put
+pub Replies-called : (o : OpeningValue) (heard left : ℕ) (before now : Option (List (List ℕ))) (s : StatedValue) (seat later : SeatValue) (receipt : Receipt) (ends : Option Why) → heard < LINE_LIMIT
+    → 0 < left → Calls o seat later s receipt → PutsOn (entry_line receipt.entry) None before now ends → Replies o heard left before now (said.Command s) seat later ends
+Replies-called o heard left before now s seat later receipt ends few some call put =
+    let stated : receipt.entry.stated ≡ s = next-stated (history_of o call.before) seat.number s receipt.entry call.entry in record {
+      entries = receipt.entry ∷ [];
+      texts = put.texts;
+      follows = λ gave reads. follows-call heard left gave receipt.entry put.texts ends few (subst (λ x. ReadsAs gave (said.Command x)) (sym stated) reads) some put.puts;
+      told = put.told;
+      made = Made-one o seat later s receipt call;
+    }
+
+-- the line was asked, and then replied to
+pub Answers-reply : (o : OpeningValue) (heard left : ℕ) (line later : LineValue) (given : Option (List Given)) (puts : Option (List (List ℕ))) (s : Said) (seat after : SeatValue) (ends : Option Why)
+    → Hears line.given given s → puts ≡ line.puts → later.given ≡ given → Replies o heard left puts later.puts s seat after ends → Answers o heard left line later seat after ends
+Answers-reply o heard left line later given puts s seat after ends hears same kept reply = record {
+  gave = hears.gave;
+  entries = reply.entries;
+  texts = reply.texts;
+  follows = reply.follows hears.gave hears.reads;
+  given = kept ∙ hears.once;
+  puts = reply.told ∙ ap (λ xs. with_all xs reply.texts) same;
+  made = reply.made;
 }

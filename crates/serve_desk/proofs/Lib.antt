@@ -2,4 +2,3 @@ mod ToldLemmas
 mod SeatLemmas
 mod AnswerLemmas
 mod SessionLemmas
-mod LineLemmas

@@ -24,7 +24,7 @@ pub record SoFar (o : OpeningValue) (left heard : ℕ) (line now : LineValue) (s
   pub entries : List EntryValue
   pub texts : List (List ℕ)
   pub goes_on : GoesOn left answers entries texts
-  pub heard : lines_in answers ≡ heard
+  pub lines : lines_in answers ≡ heard
   pub given : now.given ≡ with_all line.given answers
   pub puts : now.puts ≡ with_all line.puts texts
   pub made : Made o seat after entries
@@ -35,7 +35,7 @@ SoFar-begins o left line seat = record {
   entries = [];
   texts = [];
   goes_on = it_begins;
-  heard = refl;
+  lines = refl;
   given = sym (with_all-none line.given);
   puts = sym (with_all-none line.puts);
   made = Made-none o seat;
@@ -71,7 +71,7 @@ follows-here : (o : OpeningValue) (quota heard : ℕ) (line now : LineValue) (se
     → (so : SoFar o (quota - seat.calls) heard line now seat after) → Follows heard (quota - after.calls) gave es ts ends
     → Follows (lines_in so.answers) ((quota - seat.calls) - length so.entries) gave es ts ends
 follows-here o quota heard line now seat after gave es ts ends so follows =
-    subst (λ n. Follows n ((quota - seat.calls) - length so.entries) gave es ts ends) (sym so.heard)
+    subst (λ n. Follows n ((quota - seat.calls) - length so.entries) gave es ts ends) (sym so.lines)
     (subst (λ n. Follows heard n gave es ts ends) (left-behind quota seat.calls after.calls (length so.entries) so.made.calls) follows)
 
 -- one answer more, behind which the session goes on
@@ -83,7 +83,7 @@ SoFar-more o quota heard line now later seat after next so more = record {
   texts = so.texts ++ more.texts;
   goes_on = it_goes_on so.answers so.entries so.texts more.gave more.entries more.texts so.goes_on
       (follows-here o quota heard line now seat after more.gave more.entries more.texts None so more.follows);
-  heard = lines_in-line so.answers more.gave (goes-on heard (quota - after.calls) more.gave more.entries more.texts None more.follows refl).line ∙ ap (λ n. n + 1) so.heard;
+  lines = lines_in-line so.answers more.gave (goes-on heard (quota - after.calls) more.gave more.entries more.texts None more.follows refl).line ∙ ap (λ n. n + 1) so.lines;
   given = more.given ∙ ap (λ xs. with_last xs more.gave) so.given ∙ with_last-all line.given so.answers more.gave;
   puts = more.puts ∙ ap (λ xs. with_all xs more.texts) so.puts ∙ with_all-more line.puts so.texts more.texts;
   made = Made-then o seat after next so.entries more.entries so.made more.made;
@@ -94,10 +94,10 @@ pub Answers-few : (o : OpeningValue) (heard left : ℕ) (now later : LineValue) 
 Answers-few o heard left now later after next more = (goes-on heard left more.gave more.entries more.texts None more.follows refl).few
 
 -- the last answer
-pub Serves-ends : (o : OpeningValue) (quota heard taken : ℕ) (line now later : LineValue) (seat after next : SeatValue) (why : Why) → SoFar o (quota - seat.calls) heard line now seat after
-    → Answers o heard (quota - after.calls) now later after next (Some why) → seat.calls + taken ≡ next.calls
-    → Serves o (quota - seat.calls) line later seat next why taken
-Serves-ends o quota heard taken line now later seat after next why so more calls =
+pub Serves-ends : (o : OpeningValue) (quota heard had has : ℕ) (line now later : LineValue) (seat after next : SeatValue) (why : Why) → SoFar o (quota - seat.calls) heard line now seat after
+    → Answers o heard (quota - after.calls) now later after next (Some why) → seat.calls + had ≡ quota → next.calls + has ≡ quota
+    → Serves o (quota - seat.calls) line later seat next why (had - has)
+Serves-ends o quota heard had has line now later seat after next why so more left still =
     let made : Made o seat next (so.entries ++ more.entries) = Made-then o seat after next so.entries more.entries so.made more.made in
     record {
       answers = so.answers ++ more.gave ∷ [];
@@ -108,5 +108,5 @@ Serves-ends o quota heard taken line now later seat after next why so more calls
       given = more.given ∙ ap (λ xs. with_last xs more.gave) so.given ∙ with_last-all line.given so.answers more.gave;
       puts = more.puts ∙ ap (λ xs. with_all xs more.texts) so.puts ∙ with_all-more line.puts so.texts more.texts;
       made = made;
-      taken = omega (arith, made.calls);
+      counted = omega (arith, made.calls);
     }

@@ -1,5 +1,5 @@
 -- What is told of a line, with more behind it; and the lines among what it gave.
-use Rattle.std.proofs.Common.{◌≡◌, ℕ, ◌+◌, Bool, true, false, cond, List, [], ◌∷◌, ◌++◌, count_by, None, Some, refl, sym, ap, ◌∙◌, append-nil, append_assoc, arith}
+use Rattle.std.proofs.Common.{◌≡◌, ℕ, ◌+◌, Bool, true, false, cond, List, [], ◌∷◌, ◌++◌, count_by, None, Some, refl, sym, ap, ◌∙◌, append-nil, append_assoc, zero-add}
 use Rattle.std.specs.declared.option.Option.{Option}
 use Rattle.std.proofs.lemmas.List.Sums.{sum_by-append}
 use Rattle.caller_lines.specs.Given.{Given}
@@ -29,5 +29,8 @@ with_last-all None ys y = refl
 with_last-all (Some xs) ys y = ap (λ all. Some all) (append_assoc xs ys (y ∷ []))
 
 -- one line more
+lines_in-more : (given : List Given) (gave : Given) → lines_in (given ++ gave ∷ []) ≡ lines_in given + cond (is_line gave) 1 0
+lines_in-more given gave = sum_by-append (λ x. cond (is_line x) 1 0) given (gave ∷ []) ∙ ap (λ n. lines_in given + n) (zero-add (cond (is_line gave) 1 0))
+
 pub lines_in-line : (given : List Given) (gave : Given) → is_line gave ≡ true → lines_in (given ++ gave ∷ []) ≡ lines_in given + 1
-lines_in-line given gave line = sum_by-append (λ x. cond (is_line x) 1 0) given (gave ∷ []) ∙ ap (λ b. lines_in given + cond b 1 0) line
+lines_in-line given gave line = lines_in-more given gave ∙ ap (λ b. lines_in given + cond b 1 0) line

@@ -8,7 +8,7 @@ use Rattle.turn_gate.specs.Seats.{GateValue, SeatValue, IsSeatOf}
 use Rattle.turn_gate.specs.Told.{own, IsNumber}
 use Rattle.caller_lines.specs.Given.{Given}
 use Rattle.serve_desk.specs.declared.why.Why.{Why}
-use Rattle.serve_desk.specs.declared.why.Why.TheVariants as why
+use Rattle.serve_desk.specs.declared.why.Why.TheVariants.{LineFault}
 use Rattle.serve_desk.specs.Told.{with_all, LineValue}
 use Rattle.serve_desk.specs.Session.{Session}
 use Rattle.serve_desk.specs.Serves.{Serves}
@@ -23,8 +23,8 @@ pub record Attends (gate : GateValue) (seat after : Option SeatValue) (line late
   pub has : after ≡ Some behind
   pub serves : Serves gate.start.book.opening (gate.start.quota - before.calls) line later before behind why taken
   pub of_desk : IsSeatOf gate behind
-  pub fault : why ≡ why.LineFault → Rose line.faults later.faults
-  pub no_fault : why ≢ why.LineFault → later.faults ≡ line.faults
+  pub fault : why ≡ LineFault → Rose line.faults later.faults
+  pub no_fault : why ≢ LineFault → later.faults ≡ line.faults
   pub faults : line.faults ≤ later.faults
 
 -- a line after its session, the caller of this number: of that caller the later entries are those that came of what it gave. It
@@ -38,8 +38,8 @@ pub record IsServed (left : ℕ) (before after : List EntryValue) (number : ℕ)
   pub given : later.given ≡ with_all line.given answers
   pub puts : later.puts ≡ with_all line.puts texts
   pub own_entries : own after number ≡ own before number ++ entries
-  pub fault : why ≡ why.LineFault → Rose line.faults later.faults
-  pub no_fault : why ≢ why.LineFault → later.faults ≡ line.faults
+  pub fault : why ≡ LineFault → Rose line.faults later.faults
+  pub no_fault : why ≢ LineFault → later.faults ≡ line.faults
   pub faults : line.faults ≤ later.faults
 
 -- the entries of a desk before and after its lines were served, line i as caller i, from 1: the caller of each later entry is the

@@ -1,9 +1,9 @@
 //! One answer of a line, and what follows it.
-ghost use Rattle.std.specs.Prelude.{◌≡◌, ◌≢◌, ◌-◌, ◌≤◌};
+ghost use Rattle.std.specs.Prelude.{◌≡◌, ◌≢◌, ℕ, ◌-◌, ◌<◌, ◌≤◌};
 ghost use Rattle.desk_io.specs.Faults.{Rose};
 ghost use Rattle.turn_gate.specs.Seats.{IsSeatOf};
 ghost use Rattle.serve_desk.specs.Told.{line_of};
-ghost use Rattle.serve_desk.specs.Serves.{Answers, MakesCall};
+ghost use Rattle.serve_desk.specs.Serves.{Answers, Replies};
 
 use crate::answered::Answered;
 use crate::entry_lines::EntryLines;
@@ -49,10 +49,37 @@ pub fn answer<C: DeskCore, R: Wait>(
             seat,
             ends: Some(Why::LineFault),
         },
-        _ if heard == LINE_LIMIT => Answered {
-            seat,
-            ends: put_on(line, TOO_MANY, Some(Why::TooManyLines)),
-        },
+        said => reply(rt, desk, seat, heard, said, lines, line),
+    }
+}
+
+// Replies to what was said.
+fn reply<C: DeskCore, R: Wait>(
+    rt: &R,
+    desk: &Desk<C>,
+    seat: Seat<Book<C>>,
+    heard: u32,
+    said: Said,
+    lines: &mut EntryLines,
+    line: &mut Box<dyn CallerLine + Send>,
+) -> Answered<C>
+    requires seat { IsSeatOf desk.now seat }
+    requires heard { heard ≤ LINE_LIMIT }
+    requires not_end { said ≢ Said.End }
+    requires no_fault { said ≢ Said.LineFault }
+    ensures replies { Replies desk.now.start.book.opening heard (desk.now.start.quota - seat.calls)
+        (put_texts line.old) (put_texts line.new) said seat result.seat result.ends }
+    ensures seat { IsSeatOf desk.now result.seat }
+    ensures given { given line.new ≡ given line.old }
+    ensures later { faults line.old ≤ faults line.new }
+    ensures cause { result.ends ≡ Some Why.LineFault → Rose (faults line.old) (faults line.new) }
+    ensures no_fault { result.ends ≢ Some Why.LineFault → faults line.new ≡ faults line.old }
+{
+    if heard == LINE_LIMIT {
+        let ends = put_on(line, TOO_MANY, Some(Why::TooManyLines));
+        return Answered { seat, ends };
+    }
+    match said {
         Said::TooLong => Answered {
             seat,
             ends: put_on(line, TOO_LONG, None),
@@ -66,6 +93,7 @@ pub fn answer<C: DeskCore, R: Wait>(
             ends: put_on(line, write_malformed(field).as_slice(), None),
         },
         Said::Command(stated) => call(rt, desk, seat, stated, lines, line),
+        Said::End | Said::LineFault => unreachable!(),
     }
 }
 
@@ -79,8 +107,9 @@ fn call<C: DeskCore, R: Wait>(
     line: &mut Box<dyn CallerLine + Send>,
 ) -> Answered<C>
     requires { IsSeatOf desk.now seat }
-    ensures calls { MakesCall desk.now.start.book.opening (desk.now.start.quota - seat.calls)
-        (put_texts line.old) (put_texts line.new) stated seat result.seat result.ends }
+    ensures replies { (heard : ℕ) → heard < LINE_LIMIT
+        → Replies desk.now.start.book.opening heard (desk.now.start.quota - seat.calls)
+        (put_texts line.old) (put_texts line.new) (Said.Command stated) seat result.seat result.ends }
     ensures seat { IsSeatOf desk.now result.seat }
     ensures given { given line.new ≡ given line.old }
     ensures later { faults line.old ≤ faults line.new }

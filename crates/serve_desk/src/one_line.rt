@@ -6,9 +6,8 @@ ghost use Rattle.serve_desk.specs.Told.{line_of};
 ghost use Rattle.serve_desk.specs.Serves.{Serves};
 
 use crate::answer::answer;
-use crate::answered::Answered;
 use crate::entry_lines::EntryLines;
-use crate::{Ended, LINE_LIMIT};
+use crate::{Ended, LINE_LIMIT, Why};
 use call_history::Book;
 use caller_lines::CallerLine;
 use desk_model::DeskCore;
