@@ -1,11 +1,14 @@
 -- What is said of bytes that were taken whole.
-use Rattle.std.proofs.Common.{◌≡◌, ◌⊎◌, inl, inr, ℕ, ◌≤◌, Option, List, length, subst}
+use Rattle.std.proofs.Common.{◌≡◌, ◌⊎◌, inl, inr, ℕ, ◌<◌, ◌≤◌, Option, List, length, ap, subst, arith}
 use Rattle.desk_io.specs.Input.{TookAll}
 use Rattle.desk_io.specs.declared.status.Status.{Status}
 use Rattle.desk_io.specs.declared.status.Status.TheVariants.{Fine, WriteFault, NoMemory}
 use Rattle.desk_model.specs.Opening.{OpeningValue, IsOpening}
 use Rattle.desk_model.specs.Statement.{StatedValue}
 use Rattle.desk_model.specs.History.{History}
+use Rattle.std.proofs.lemmas.List.{length-map}
+use Rattle.desk_model.specs.StatedTexts.{stated_fields}
+use Rattle.desk_text.specs.declared.limits.TheConstants.{RECORD_LIMIT}
 use Rattle.desk_text.specs.Line.{wrong_line}
 use Rattle.day_replay.specs.declared.limits.TheConstants.{BYTE_LIMIT}
 use Rattle.desk_text.specs.declared.day_fault.DayFault.{DayFault}
@@ -15,6 +18,11 @@ use Rattle.day_replay.specs.Ends.{WasRead, Tells}
 use Rattle.day_replay.specs.Replay.{IsReplay, Replays, FindsWrong, EndsByTheDay, day_history}
 use Rattle.day_replay.proofs.InputLemmas.{WasRead-TookAll, TookAll-told}
 use Rattle.desk_text.proofs.DayLemmas.{HasFault-one, IsDayFile-faultless}
+
+-- a day file has fewer commands than records
+pub IsDayFile-few : (bytes : List ℕ) (o : OpeningValue) (commands : List StatedValue) → IsDayFile bytes o commands → length commands < RECORD_LIMIT
+IsDayFile-few bytes o commands day =
+    omega (arith, day.opened.few, ap length day.opened.parts, ap length day.states.fields, length-map commands stated_fields)
 
 -- a day file was taken, and this was done with this text of its replay's history
 pub Replays-day : (before after : Option (List ℕ)) (o : OpeningValue) (commands : List StatedValue) (text : History → List ℕ) (Writes : List ℕ → Type 0)

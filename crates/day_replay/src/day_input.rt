@@ -1,4 +1,4 @@
-ghost use Rattle.std.specs.Prelude.{◌≡◌, ◌≢◌, ◌≤◌, ◌⊎◌, IfOk, IfErr, IsErrOf};
+ghost use Rattle.std.specs.Prelude.{◌≡◌, ◌≢◌, ◌<◌, ◌≤◌, ◌⊎◌, vec_len, IfOk, IfErr, IsErrOf};
 ghost use Rattle.std.specs.List.{All};
 ghost use Rattle.std.specs.Io.KnownBytes.{Keeps};
 ghost use Rattle.desk_io.specs.Faults.{Rose};
@@ -7,6 +7,7 @@ ghost use Rattle.desk_model.specs.Fits.{IsStated};
 ghost use Rattle.desk_model.specs.Opening.{IsOpening};
 ghost use Rattle.desk_text.specs.Line.{wrong_line};
 ghost use Rattle.desk_text.specs.DayFile.{IsDayFile, HasTooMany, HasNoOpening};
+ghost use Rattle.desk_text.specs.declared.limits.TheConstants.{RECORD_LIMIT};
 ghost use Rattle.day_replay.specs.Ends.{WasRead, WritesOrFails};
 ghost use Rattle.day_replay.specs.Replay.{FindsWrong, EndsByTheDay, IsNoDay, taking_status};
 
@@ -28,6 +29,7 @@ pub fn take_day<S: Source, K: Sink>(
         (λ bytes. IsDayFile bytes day.opening day.commands.items)) }
     ensures opening { IfOk result (λ day. IsOpening day.opening) }
     ensures stated { IfOk result (λ day. All IsStated day.commands.items) }
+    ensures few { IfOk result (λ day. vec_len day.commands < RECORD_LIMIT) }
 
     ensures read_fault { IsErrOf result Status.ReadFault
         → Rose (S.faults source.old) (S.faults source.new) }

@@ -5,7 +5,7 @@ use Rattle.desk_text.specs.declared.day_fault.DayFault.{DayFault}
 use Rattle.desk_text.specs.declared.day_fault.DayFault.TheVariants as fault
 use Rattle.desk_text.specs.DayFile.{IsDayFile, HasFault}
 use Rattle.day_replay.proofs.InputLemmas.{WasRead-TookAll}
-use Rattle.day_replay.proofs.ReplayLemmas.{FindsWrong-TookAll, one-cause, cause-day, day-cause, unreadable-cause}
+use Rattle.day_replay.proofs.ReplayLemmas.{IsDayFile-few, FindsWrong-TookAll, one-cause, cause-day, day-cause, unreadable-cause}
 use Rattle.day_replay.proofs.day_input.take_day.Goals as goal
 
 pub returns-in-Ok-read_day-clause-day : goal.returns-in-Ok-read_day-clause-day
@@ -19,6 +19,9 @@ returns-in-Ok-read_day-clause-opening g c = c.in-Ok-read_day.ensures.day.opened.
 
 pub returns-in-Ok-read_day-clause-stated : goal.returns-in-Ok-read_day-clause-stated
 returns-in-Ok-read_day-clause-stated g c = c.in-Ok-read_day.ensures.day.states.valid
+
+pub returns-in-Ok-read_day-clause-few : goal.returns-in-Ok-read_day-clause-few
+returns-in-Ok-read_day-clause-few g c = omega (arith, IsDayFile-few _ _ _ c.in-Ok-read_day.ensures.day, c.in-Ok-read_day.day.commands.ok.0)
 
 pub returns-in-Err-Unreadable-clause-unreadable : goal.returns-in-Err-Unreadable-clause-unreadable
 returns-in-Err-Unreadable-clause-unreadable g c = λ told.
