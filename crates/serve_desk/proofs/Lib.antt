@@ -2,3 +2,4 @@ mod ToldLemmas
 mod SeatLemmas
 mod AnswerLemmas
 mod SessionLemmas
+mod LineLemmas

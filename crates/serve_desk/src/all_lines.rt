@@ -17,6 +17,7 @@ use desk_model::{Booked, DeskCore, LAST_CALLER};
 use desk_shared::Desk;
 use std::alloc::Global;
 use std::sync::Wait;
+use turn_gate::Seat;
 use std::thread::{self, Threads};
 
 /// Serves 1 to 63 lines at one desk over the book, all at the same time, line i as caller i, from 1, with 5,000 calls of each, for
@@ -58,7 +59,7 @@ fn attend_all<C: DeskCore + Send, R: Threads + Wait + Sync>(
     rt: &R,
     alloc: Global,
     desk: &Desk<C>,
-    posts: &mut Vec<Post<C>>,
+    posts: &mut Vec<Post<Seat<Book<C>>, Box<dyn CallerLine + Send>>>,
 )
     requires { All (λ post. IsSomeAnd post.seat (IsSeatOf desk.now)) posts.old.items }
     ensures count { vec_len posts.new ≡ vec_len posts.old }
@@ -67,7 +68,7 @@ fn attend_all<C: DeskCore + Send, R: Threads + Wait + Sync>(
         (line_of (faults (slice_index_or posts.old.items i d).line) (given (slice_index_or posts.old.items i d).line) (put_texts (slice_index_or posts.old.items i d).line))
         (line_of (faults (slice_index_or posts.new.items i d).line) (given (slice_index_or posts.new.items i d).line) (put_texts (slice_index_or posts.new.items i d).line)) }
 {
-    let work = |_i: usize, post: &mut Post<C>|
+    let work = |_i: usize, post: &mut Post<Seat<Book<C>>, Box<dyn CallerLine + Send>>|
         requires { IsSomeAnd post.now.seat (IsSeatOf desk.now) }
         ensures { Attends desk.entry.now post.entry.now.seat post.exit.now.seat
             (line_of (faults post.entry.now.line) (given post.entry.now.line) (put_texts post.entry.now.line))
@@ -77,7 +78,7 @@ fn attend_all<C: DeskCore + Send, R: Threads + Wait + Sync>(
 }
 
 // Serves the line of a post at its seat.
-fn attend<C: DeskCore, R: Wait>(rt: &R, alloc: Global, desk: &Desk<C>, post: &mut Post<C>)
+fn attend<C: DeskCore, R: Wait>(rt: &R, alloc: Global, desk: &Desk<C>, post: &mut Post<Seat<Book<C>>, Box<dyn CallerLine + Send>>)
     requires { IsSomeAnd post.old.seat (IsSeatOf desk.now) }
     ensures { Attends desk.now post.old.seat post.new.seat
         (line_of (faults post.old.line) (given post.old.line) (put_texts post.old.line))

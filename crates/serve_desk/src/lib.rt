@@ -1,6 +1,7 @@
 //! The lines of callers served at one desk, each by a session of its own.
 #![tactic(auto)]
 
+mod all_lines;
 mod answer;
 mod answered;
 mod ended;
@@ -8,10 +9,13 @@ mod entry_lines;
 mod limits;
 mod malformed;
 mod one_line;
+mod post;
+mod posts;
 mod put;
 mod texts;
 mod why;
 
+pub use all_lines::serve_lines;
 pub use ended::Ended;
 pub use limits::{CALLS_PER_LINE, LINE_LIMIT};
 pub use one_line::session;

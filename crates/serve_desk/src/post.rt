@@ -1,13 +1,8 @@
-use caller_lines::CallerLine;
-use call_history::Book;
-use desk_model::DeskCore;
-use turn_gate::Seat;
-
 /// A line, and the seat at which it is served.
 #[derive(Drop)]
-pub struct Post<C: DeskCore> {
+pub struct Post<S, L> {
     /// The seat.
-    pub seat: Option<Seat<Book<C>>>,
+    pub seat: Option<S>,
     /// The line.
-    pub line: Box<dyn CallerLine + Send>,
+    pub line: L,
 }

@@ -12,7 +12,7 @@ use turn_gate::Seat;
 pub fn seat_lines<C: DeskCore>(
     lines: &mut Vec<Box<dyn CallerLine + Send>>,
     seats: &mut Vec<Seat<Book<C>>>,
-    posts: &mut Vec<Post<C>>,
+    posts: &mut Vec<Post<Seat<Book<C>>, Box<dyn CallerLine + Send>>>,
 )
     requires as_many { vec_len seats.old ≡ vec_len lines.old }
     requires empty { posts.old.items ≡ [] }
@@ -33,7 +33,7 @@ pub fn seat_lines<C: DeskCore>(
 
 /// Takes each line and its seat from the posts, in their order. There is room for all.
 pub fn leave_posts<C: DeskCore>(
-    posts: &mut Vec<Post<C>>,
+    posts: &mut Vec<Post<Seat<Book<C>>, Box<dyn CallerLine + Send>>>,
     lines: &mut Vec<Box<dyn CallerLine + Send>>,
     seats: &mut Vec<Seat<Book<C>>>,
 )
