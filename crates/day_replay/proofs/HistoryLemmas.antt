@@ -45,7 +45,7 @@ history_from-length h [] = omega arith
 history_from-length h ((caller, s) ∷ rest) =
     omega (arith, history_from-length (with_entry h (next h caller s)) rest, length-append h.entries (next h caller s ∷ []))
 
-goes_on-length : (h : History) (commands : List StatedValue) → length (goes_on h commands).entries ≡ length h.entries + length commands
+pub goes_on-length : (h : History) (commands : List StatedValue) → length (goes_on h commands).entries ≡ length h.entries + length commands
 goes_on-length h commands = omega (arith, history_from-length h (map by_the_day_file commands), length-map commands by_the_day_file)
 
 -- so of the first commands it has one entry for each, and one more is no more than all

@@ -3,3 +3,4 @@ mod SeatLemmas
 mod AnswerLemmas
 mod SessionLemmas
 mod LineLemmas
+mod ServeLemmas

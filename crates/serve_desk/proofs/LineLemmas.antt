@@ -1,5 +1,5 @@
 -- All lines served at one desk.
-use Rattle.std.proofs.Common.{◌≡◌, ◌≢◌, ℕ, zero, suc, ◌+◌, ◌-◌, ◌<◌, ◌≤◌, List, [], ◌∷◌, ◌++◌, length, get_or, map, Some, refl, sym, ap, ◌∙◌, subst, arith}
+use Rattle.std.proofs.Common.{◌≡◌, ◌≢◌, ℕ, zero, suc, ◌+◌, ◌-◌, ◌<◌, ◌≤◌, List, [], ◌∷◌, ◌++◌, length, get_or, map, ◌==◌, Some, refl, sym, ap, ◌∙◌, subst, arith}
 use Rattle.std.specs.declared.option.Option.{Option}
 use Rattle.std.specs.List.{All}
 use Rattle.std.proofs.lemmas.List.{get_or-map, length-map}
@@ -39,23 +39,31 @@ own-served base after number seat later es is began same made knows =
     subst (λ n. own after n ≡ own later.known n) here knows.own
     ∙ (subst (λ n. own later.known n ≡ own seat.known n ++ es) is made ∙ ap (λ l. own l number ++ es) began)
 
+-- so of its number the entries behind those are its session's
+own-more : (base more after es : List EntryValue) (number : ℕ) → after ≡ base ++ more → own after number ≡ own base number ++ es → es ≡ own more number
+own-more base more after es number begins served =
+    append_cancel_left (own base number) es (own more number)
+    (sym served ∙ (ap (λ l. own l number) begins ∙ filter-append (λ e. e.caller == number) base more))
+
 -- one line, at the seat of its number
-IsServed-attends : (gate : GateValue) (after : List EntryValue) (i : ℕ) (seat later : Option SeatValue) (known : SeatValue) (line served : LineValue) → Attends gate seat later line served
-    → seat ≡ Some (new_seat gate (1 + i)) → later ≡ Some known → Knows after known → IsServed gate.start.quota gate.start.book.entries after (i + 1) line served
-IsServed-attends gate after i seat later known line served a had has knows =
+IsServed-attends : (gate : GateValue) (more after : List EntryValue) (i : ℕ) (seat later : Option SeatValue) (known : SeatValue) (line served : LineValue) → Attends gate seat later line served
+    → seat ≡ Some (new_seat gate (1 + i)) → later ≡ Some known → Knows after known → after ≡ gate.start.book.entries ++ more
+    → IsServed gate.start.quota (own more (i + 1)) line served
+IsServed-attends gate more after i seat later known line served a had has knows begins =
     let before : a.before ≡ new_seat gate (1 + i) = cc in
     let behind : a.behind ≡ known = cc in
     let none : a.before.calls ≡ 0 = ap (λ s. s.calls) before in
+    let mine = own-more gate.start.book.entries more after a.serves.entries (i + 1) begins
+    (own-served gate.start.book.entries after (i + 1) a.before a.behind a.serves.entries (ap (λ s. s.number) before ∙ omega arith) (ap (λ s. s.known) before) a.serves.made.number
+        a.serves.made.own_calls (subst (λ s. Knows after s) (sym behind) knows)) in
     record {
       answers = a.serves.answers;
-      entries = a.serves.entries;
       texts = a.serves.texts;
       why = a.why;
-      session = subst (λ n. Session n a.serves.answers a.serves.entries a.serves.texts a.why) (omega arith) a.serves.session;
+      session = subst (λ es. Session gate.start.quota a.serves.answers es a.serves.texts a.why) mine
+          (subst (λ n. Session n a.serves.answers a.serves.entries a.serves.texts a.why) (omega arith) a.serves.session);
       given = a.serves.given;
       puts = a.serves.puts;
-      own_entries = own-served gate.start.book.entries after (i + 1) a.before a.behind a.serves.entries (ap (λ s. s.number) before ∙ omega arith) (ap (λ s. s.known) before) a.serves.made.number
-          a.serves.made.own_calls (subst (λ s. Knows after s) (sym behind) knows);
       fault = a.fault;
       no_fault = a.no_fault;
       faults = a.faults;
@@ -74,7 +82,7 @@ pub AreServed-attended : {P : Type 0} (seat : P → Option SeatValue) (line : P 
     → AreServed gate.start.quota gate.start.book.entries book.entries (map line posts) (map line later)
 AreServed-attended {P} seat line gate posts later seats book attends as_many count new back knows of_gate =
     let n : length (map line posts) ≡ length posts = length-map posts line in
-    let one : (i : ℕ) (x : LineValue) → i < length (map line posts) → IsServed gate.start.quota gate.start.book.entries book.entries (i + 1) (get_or (map line posts) i x) (get_or (map line later) i x) =
+    let one : (i : ℕ) (x : LineValue) → i < length (map line posts) → IsServed gate.start.quota (own of_gate.later (i + 1)) (get_or (map line posts) i x) (get_or (map line later) i x) =
       λ i x within.
         let here : i < length posts = omega arith in
         let there : i < length later = omega arith in
@@ -84,9 +92,9 @@ AreServed-attended {P} seat line gate posts later seats book attends as_many cou
         let had : seat (get_or posts i d) ≡ Some (new_seat gate (1 + i)) = seat-at seat posts (new_seats gate 1 (length posts)) i d e new here ∙ ap (λ s. Some s) (new_seats-at gate 1 (length posts) i e here) in
         let has : seat (get_or later i d) ≡ Some (get_or seats i e) = seat-at seat later seats i d e (sym back) there in
         let k : Knows book.entries (get_or seats i e) = knows i e (omega arith) in
-        let served = IsServed-attends gate book.entries i (seat (get_or posts i d)) (seat (get_or later i d)) (get_or seats i e) (line (get_or posts i d)) (line (get_or later i d)) (attends i d here) had has k in
-        subst (λ l. IsServed gate.start.quota gate.start.book.entries book.entries (i + 1) l (get_or (map line later) i x)) (sym (get_or-map line posts i d x here))
-        (subst (λ l. IsServed gate.start.quota gate.start.book.entries book.entries (i + 1) (line (get_or posts i d)) l) (sym (get_or-map line later i d x there)) served)
+        let served = IsServed-attends gate of_gate.later book.entries i (seat (get_or posts i d)) (seat (get_or later i d)) (get_or seats i e) (line (get_or posts i d)) (line (get_or later i d)) (attends i d here) had has k (sym of_gate.begins) in
+        subst (λ l. IsServed gate.start.quota (own of_gate.later (i + 1)) l (get_or (map line later) i x)) (sym (get_or-map line posts i d x here))
+        (subst (λ l. IsServed gate.start.quota (own of_gate.later (i + 1)) (line (get_or posts i d)) l) (sym (get_or-map line later i d x there)) served)
     in
     record {
       more = of_gate.later;

@@ -27,26 +27,24 @@ pub record Attends (gate : GateValue) (seat after : Option SeatValue) (line late
   pub no_fault : why ≢ LineFault → later.faults ≡ line.faults
   pub faults : line.faults ≤ later.faults
 
--- a line after its session, the caller of this number: of that caller the later entries are those that came of what it gave. It
--- ended with a fault only where the line's faults rose, which never fall
-pub record IsServed (left : ℕ) (before after : List EntryValue) (number : ℕ) (line later : LineValue) : Type 0 where
+-- a line after its session, of which these entries came, at a seat with so many calls. It ended with a fault only where the line's
+-- faults rose, which never fall
+pub record IsServed (left : ℕ) (entries : List EntryValue) (line later : LineValue) : Type 0 where
   pub answers : List Given
-  pub entries : List EntryValue
   pub texts : List (List ℕ)
   pub why : Why
   pub session : Session left answers entries texts why
   pub given : later.given ≡ with_all line.given answers
   pub puts : later.puts ≡ with_all line.puts texts
-  pub own_entries : own after number ≡ own before number ++ entries
   pub fault : why ≡ LineFault → Rose line.faults later.faults
   pub no_fault : why ≢ LineFault → later.faults ≡ line.faults
   pub faults : line.faults ≤ later.faults
 
 -- the entries of a desk before and after its lines were served, line i as caller i, from 1: the caller of each later entry is the
--- number of a line, and each line was served
+-- number of a line, and of each line's number the later entries are those that came of what it gave
 pub record AreServed (left : ℕ) (before after : List EntryValue) (lines later : List LineValue) : Type 0 where
   pub more : List EntryValue
   pub begins : after ≡ before ++ more
   pub callers : All (λ e. IsNumber (length lines) e.caller) more
   pub count : length later ≡ length lines
-  pub each : (i : ℕ) (line : LineValue) → i < length lines → IsServed left before after (i + 1) (slice_index_or lines i line) (slice_index_or later i line)
+  pub each : (i : ℕ) (line : LineValue) → i < length lines → IsServed left (own more (i + 1)) (slice_index_or lines i line) (slice_index_or later i line)

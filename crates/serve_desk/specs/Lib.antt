@@ -5,3 +5,4 @@ pub mod Session
 pub mod Seats
 pub mod Serves
 pub mod AllLines
+pub mod Serve

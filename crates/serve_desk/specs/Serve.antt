@@ -8,7 +8,7 @@ use Rattle.desk_model.specs.Journal.{journal}
 use Rattle.desk_model.specs.Legal.{IsLegal, given}
 use Rattle.desk_model.specs.Opening.{OpeningValue, IsOpening}
 use Rattle.desk_model.specs.Statement.{StatedValue}
-use Rattle.desk_model.specs.declared.entry.TheConstants.{LAST_CALLER}
+use Rattle.desk_model.specs.declared.limits.TheConstants.{LAST_CALLER}
 use Rattle.desk_text.specs.DayFile.{IsDayFile}
 use Rattle.day_replay.specs.Ends.{WasRead}
 use Rattle.day_replay.specs.Replay.{by_the_day_file}
@@ -22,16 +22,12 @@ use Rattle.serve_desk.specs.AllLines.{IsServed}
 abbrev pub IsNoNumberOfLines : ℕ → Type 0
 IsNoNumberOfLines count = (count ≡ 0) ⊎ (LAST_CALLER < count)
 
--- a day file was read, and there is one legal history of a desk that was opened so, with which this was done. Its first entries have
--- the day file's commands, each once, in their order, with caller 0; the caller of each later one is the number of a line; and of
--- each line's number it has just the entries that come of what the line gave
-pub record ServesDay (before after : Option (List ℕ)) (lines later : List LineValue) (Writes : List ℕ → Type 0) : Type 0 where
-  pub opening : OpeningValue
-  pub valid : IsOpening opening
-  pub commands : List StatedValue
-  pub read : WasRead BYTE_LIMIT before after (λ bytes. IsDayFile bytes opening commands)
+-- there is one legal history of a desk that was opened so. Its first entries have these commands, each once, in their order, with
+-- caller 0; the caller of each later one is the number of a line; and of each line's number it has just the entries that come of
+-- what the line gave. This was done with its journal
+pub record ServesHistory (o : OpeningValue) (commands : List StatedValue) (lines later : List LineValue) (Writes : List ℕ → Type 0) : Type 0 where
   pub history : History
-  pub opened : history.opening ≡ opening
+  pub opened : history.opening ≡ o
   pub legal : IsLegal history
   pub setup : map given (take (length commands) history.entries) ≡ map by_the_day_file commands
   pub callers : All (λ e. IsNumber (length lines) e.caller) (drop (length commands) history.entries)
@@ -39,3 +35,11 @@ pub record ServesDay (before after : Option (List ℕ)) (lines later : List Line
   pub each : (i : ℕ) (line : LineValue) → i < length lines
       → IsServed CALLS_PER_LINE (own history.entries (i + 1)) (slice_index_or lines i line) (slice_index_or later i line)
   pub written : Writes (journal history)
+
+-- a day file was read, and lines were served behind it at a desk that was opened so
+pub record ServesDay (before after : Option (List ℕ)) (lines later : List LineValue) (Writes : List ℕ → Type 0) : Type 0 where
+  pub opening : OpeningValue
+  pub valid : IsOpening opening
+  pub commands : List StatedValue
+  pub read : WasRead BYTE_LIMIT before after (λ bytes. IsDayFile bytes opening commands)
+  pub serves : ServesHistory opening commands lines later Writes

@@ -12,6 +12,7 @@ mod one_line;
 mod post;
 mod posts;
 mod put;
+mod serving;
 mod texts;
 mod why;
 
@@ -19,4 +20,5 @@ pub use all_lines::serve_lines;
 pub use ended::Ended;
 pub use limits::{CALLS_PER_LINE, LINE_LIMIT};
 pub use one_line::session;
+pub use serving::serve;
 pub use why::Why;

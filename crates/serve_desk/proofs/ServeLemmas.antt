@@ -1,0 +1,54 @@
+-- The history of a day file's commands and of the calls of lines behind them.
+use Rattle.std.proofs.Common.{◌≡◌, ℕ, ◌+◌, ◌<◌, ◌≤◌, ◌==◌, Bool, true, false, cond, List, [], ◌∷◌, ◌++◌, length, map, take, drop, filter, slice_index_or, refl, sym, ap, subst, ◌∙◌, arith, common_steps}
+use Rattle.std.specs.List.{All}
+use Rattle.std.proofs.Props.{props}
+use Rattle.std.proofs.lemmas.List.Elements.{filter-append}
+use Rattle.desk_model.specs.Entry.{EntryValue}
+use Rattle.desk_model.specs.Fits.{IsStated}
+use Rattle.desk_model.specs.History.{History, opened}
+use Rattle.desk_model.specs.Journal.{journal}
+use Rattle.desk_model.specs.Legal.{IsLegal, given}
+use Rattle.desk_model.specs.Opening.{OpeningValue}
+use Rattle.desk_model.specs.Statement.{StatedValue}
+use Rattle.day_replay.specs.Replay.{IsReplay, by_the_day_file, day_history}
+use Rattle.day_replay.proofs.HistoryLemmas.{goes_on-length}
+use Rattle.turn_gate.specs.Told.{own, IsNumber}
+use Rattle.serve_desk.specs.declared.limits.TheConstants.{CALLS_PER_LINE}
+use Rattle.serve_desk.specs.Told.{LineValue}
+use Rattle.serve_desk.specs.AllLines.{IsServed, AreServed}
+use Rattle.serve_desk.specs.Serve.{ServesHistory}
+
+-- caller 0 stated what the day file has, so no line's caller did
+own-day : (es : List EntryValue) (commands : List StatedValue) (number : ℕ) → 0 < number → map given es ≡ map by_the_day_file commands → own es number ≡ []
+own-day [] commands number some same = refl
+own-day (e ∷ es) [] number some same = absurd (cc)
+own-day (e ∷ es) (s ∷ commands) number some same =
+    let first : given e ≡ by_the_day_file s = cc in
+    let rest : map given es ≡ map by_the_day_file commands = cc in
+    let zero_is : e.caller ≡ 0 = ap (λ c. c.0) first in
+    let other : (e.caller == number) ≡ false = grind (arith) in
+    ap (λ b. cond b (e ∷ own es number) (own es number)) other ∙ own-day es commands number some rest
+
+-- the history of lines that were served behind a day file's commands
+pub ServesHistory-served : (o : OpeningValue) (commands : List StatedValue) (h after : History) (lines later : List LineValue) (Writes : List ℕ → Type 0)
+    → h ≡ day_history o commands → IsReplay o commands (day_history o commands) → after.opening ≡ h.opening → ∥ IsLegal after ∥₁
+    → AreServed CALLS_PER_LINE h.entries after.entries lines later → Writes (journal after) → ServesHistory o commands lines later Writes
+ServesHistory-served o commands h after lines later Writes is replay opening legal served written =
+    let day = day_history o commands in
+    let begins : after.entries ≡ day.entries ++ served.more = served.begins ∙ ap (λ x. x.entries ++ served.more) is in
+    let long : length day.entries ≡ length commands = omega (arith, goes_on-length (opened o) commands) in
+    let front : take (length commands) after.entries ≡ day.entries = ap (take (length commands)) begins ∙ grind (arith, common_steps) in
+    let behind : drop (length commands) after.entries ≡ served.more = ap (drop (length commands)) begins ∙ grind (arith, common_steps) in
+    record {
+      history = after;
+      opened = opening ∙ ap (λ x. x.opening) is ∙ replay.opening;
+      legal = ∥∥₁_elim legal (hlevel props) (λ x. x);
+      setup = ap (map given) front ∙ replay.given;
+      callers = subst (All (λ e. IsNumber (length lines) e.caller)) (sym behind) served.callers;
+      count = served.count;
+      each = λ i line within.
+          let mine : own served.more (i + 1) ≡ own after.entries (i + 1) =
+              sym (ap (λ es. own es (i + 1)) begins ∙ filter-append (λ e. e.caller == i + 1) day.entries served.more ∙ ap (λ es. es ++ own served.more (i + 1)) (own-day day.entries commands (i + 1) (omega arith) replay.given)) in
+          subst (λ es. IsServed CALLS_PER_LINE es (slice_index_or lines i line) (slice_index_or later i line)) mine (served.each i line within);
+      written = written;
+    }

@@ -1,0 +1,182 @@
+//! Callers served behind a day file.
+ghost use Rattle.std.specs.Prelude.{◌≡◌, ◌≢◌, ◌<◌, ◌≤◌, ◌↔◌, ◌⊎◌, ◌+◌, ◌*◌, IfOk, length, map, vec_len, false};
+ghost use Rattle.std.specs.List.{All};
+ghost use Rattle.std.specs.Io.KnownBytes.{Appends, Keeps};
+ghost use Rattle.desk_io.specs.Faults.{Rose};
+ghost use Rattle.desk_io.specs.Giving.{AddsFront};
+ghost use Rattle.desk_io.specs.Input.{TookMore, TookFront};
+ghost use Rattle.desk_model.specs.Fits.{IsStated};
+ghost use Rattle.desk_model.specs.Opening.{IsOpening};
+ghost use Rattle.desk_text.specs.declared.limits.TheConstants.{RECORD_LIMIT};
+ghost use Rattle.desk_text.specs.DayFile.{HasTooMany, HasNoOpening};
+ghost use Rattle.day_replay.specs.Ends.{WasRead, WritesOrFails, writes};
+ghost use Rattle.day_replay.specs.Replay.{FindsWrong, EndsByTheDay, day_history, goes_on};
+ghost use Rattle.day_replay.specs.declared.limits.TheConstants.{BYTE_LIMIT};
+ghost use Rattle.serve_desk.specs.Told.{line_of};
+ghost use Rattle.serve_desk.specs.Serve.{IsNoNumberOfLines, ServesDay, ServesHistory};
+
+use crate::{CALLS_PER_LINE, serve_lines};
+use call_history::Book;
+use caller_lines::CallerLine;
+use day_replay::{take_day, write_history};
+use desk_base::NoMemory;
+use desk_io::{Sink, Source, Status};
+use desk_model::{Booked, DeskCore, LAST_CALLER, Stated};
+use desk_text::DayFile;
+use fast_core::FastCore;
+use std::alloc::Global;
+use std::sync::Wait;
+use std::thread::Threads;
+
+// How many bytes of the journal are put into the sink at once, at most.
+const BUFFER_BYTES: usize = 65_536;
+
+/// Reads a day file from the source and answers its commands as caller 0; then serves 1 to 63 lines at the same time, line i as
+/// caller i, from 1, with 5,000 calls of each; and when all have ended, writes the journal of the whole to the sink. It takes all
+/// memory of its own before it asks the first line: want of memory in reading a line is told on that line. `Usage` comes where
+/// there is no line, or there are more, and then nothing is read.
+pub fn serve<R: Threads + Wait + Sync, S: Source, K: Sink>(
+    rt: &R,
+    alloc: Global,
+    source: &mut S,
+    lines: &mut Vec<Box<dyn CallerLine + Send>>,
+    sink: &mut K,
+) -> Status
+    ensures usage { result ≡ Status.Usage ↔ IsNoNumberOfLines (vec_len lines.old) }
+    ensures fine { result ≡ Status.Fine
+        → ServesDay (S.left source.old) (S.left source.new)
+        (map (λ line. line_of ((⟦<(dyn CallerLine + Send) as CallerLine>⟧ line.vtable).faults line.value)
+        (given line) (put_texts line)) lines.old.items)
+        (map (λ line. line_of ((⟦<(dyn CallerLine + Send) as CallerLine>⟧ line.vtable).faults line.value)
+        (given line) (put_texts line)) lines.new.items)
+        (Appends (K.held sink.old) (K.held sink.new)) }
+    ensures write_fault { result ≡ Status.WriteFault
+        → ServesDay (S.left source.old) (S.left source.new)
+        (map (λ line. line_of ((⟦<(dyn CallerLine + Send) as CallerLine>⟧ line.vtable).faults line.value)
+        (given line) (put_texts line)) lines.old.items)
+        (map (λ line. line_of ((⟦<(dyn CallerLine + Send) as CallerLine>⟧ line.vtable).faults line.value)
+        (given line) (put_texts line)) lines.new.items)
+        (AddsFront (K.held sink.old) (K.held sink.new)) }
+    ensures unasked { result ≢ Status.Fine → result ≢ Status.WriteFault → lines.new ≡ lines.old }
+    ensures unread { result ≡ Status.Usage → S.left source.new ≡ S.left source.old }
+    ensures silent { writes result ≡ false → Keeps (K.held sink.old) (K.held sink.new) }
+
+    ensures read_count { result ≢ Status.ReadFault → S.faults source.new ≡ S.faults source.old }
+    ensures write_count { result ≢ Status.WriteFault → result ≢ Status.Unreadable
+        → K.faults sink.new ≡ K.faults sink.old }
+    ensures later_source { S.faults source.old ≤ S.faults source.new }
+    ensures later_sink { K.faults sink.old ≤ K.faults sink.new }
+    ensures write_cause { result ≡ Status.WriteFault
+        → Rose (K.faults sink.old) (K.faults sink.new) }
+    ensures read_cause { result ≡ Status.ReadFault
+        → Rose (S.faults source.old) (S.faults source.new) }
+    ensures too_long { result ≡ Status.TooLong
+        → TookMore (S.left source.old) (S.left source.new) BYTE_LIMIT
+        ⊎ WasRead BYTE_LIMIT (S.left source.old) (S.left source.new) HasTooMany }
+    ensures not_too_long { result ≢ Status.TooLong
+        → TookFront (S.left source.old) (S.left source.new) BYTE_LIMIT }
+    ensures no_opening { result ≡ Status.NoOpening
+        → WasRead BYTE_LIMIT (S.left source.old) (S.left source.new) HasNoOpening }
+    ensures unreadable { result ≡ Status.Unreadable
+        → FindsWrong (S.left source.old) (S.left source.new)
+        (WritesOrFails (K.held sink.old) (K.held sink.new)
+        (K.faults sink.old) (K.faults sink.new)) }
+    ensures audit_wrong { result ≢ Status.AuditWrong }
+
+    // And each of these comes where its cause is, unless memory or a fault is in the way.
+    ensures by_the_day { result ≢ Status.Usage → EndsByTheDay result (S.left source.old) }
+{
+    if lines.is_empty() || lines.len() > usize::from(LAST_CALLER) {
+        return Status::Usage;
+    }
+    match take_day(alloc, source, sink) {
+        Ok(day) => serve_day(rt, alloc, day, lines, sink),
+        Err(status) => status,
+    }
+}
+
+// Answers the day file's commands, serves the lines and writes the journal of the whole. All memory is taken before the first line
+// is asked.
+fn serve_day<R: Threads + Wait + Sync, K: Sink>(
+    rt: &R,
+    alloc: Global,
+    day: DayFile,
+    lines: &mut Vec<Box<dyn CallerLine + Send>>,
+    sink: &mut K,
+) -> Status
+    requires some { 1 ≤ vec_len lines.old }
+    requires most { vec_len lines.old ≤ LAST_CALLER }
+    requires few { vec_len day.commands < RECORD_LIMIT }
+    requires opening { IsOpening day.opening }
+    requires stated { All IsStated day.commands.items }
+    ensures fine { result ≡ Status.Fine
+        → ServesHistory day.opening day.commands.items
+        (map (λ line. line_of ((⟦<(dyn CallerLine + Send) as CallerLine>⟧ line.vtable).faults line.value)
+        (given line) (put_texts line)) lines.old.items)
+        (map (λ line. line_of ((⟦<(dyn CallerLine + Send) as CallerLine>⟧ line.vtable).faults line.value)
+        (given line) (put_texts line)) lines.new.items)
+        (Appends (K.held sink.old) (K.held sink.new)) }
+    ensures write_fault { result ≡ Status.WriteFault
+        → ServesHistory day.opening day.commands.items
+        (map (λ line. line_of ((⟦<(dyn CallerLine + Send) as CallerLine>⟧ line.vtable).faults line.value)
+        (given line) (put_texts line)) lines.old.items)
+        (map (λ line. line_of ((⟦<(dyn CallerLine + Send) as CallerLine>⟧ line.vtable).faults line.value)
+        (given line) (put_texts line)) lines.new.items)
+        (AddsFront (K.held sink.old) (K.held sink.new)) }
+    ensures unasked { result ≡ Status.NoMemory → lines.new ≡ lines.old }
+    ensures silent { result ≡ Status.NoMemory → Keeps (K.held sink.old) (K.held sink.new) }
+    ensures write_cause { result ≡ Status.WriteFault
+        → Rose (K.faults sink.old) (K.faults sink.new) }
+    ensures write_count { result ≢ Status.WriteFault → K.faults sink.new ≡ K.faults sink.old }
+    ensures later { K.faults sink.old ≤ K.faults sink.new }
+    ensures only { (result ≡ Status.Fine)
+        ⊎ ((result ≡ Status.WriteFault) ⊎ (result ≡ Status.NoMemory)) }
+{
+    let Ok(mut buffer) = Vec::with_capacity(alloc, BUFFER_BYTES) else {
+        return Status::NoMemory;
+    };
+    let Ok(book) = set_up(alloc, &day, lines.len()) else {
+        return Status::NoMemory;
+    };
+    let opening = day.opening;
+    drop(day);
+    let Ok(book) = serve_lines(rt, alloc, book, lines) else {
+        return Status::NoMemory;
+    };
+    if write_history(&opening, book.entries(), &mut buffer, sink) {
+        Status::Fine
+    } else {
+        Status::WriteFault
+    }
+}
+
+// The book of a desk that has answered the day file's commands as caller 0, with room for all calls of so many lines.
+fn set_up(alloc: Global, day: &DayFile, lines: usize) -> Result<Book<FastCore>, NoMemory>
+    requires most { lines ≤ LAST_CALLER }
+    requires few { vec_len day.now.commands < RECORD_LIMIT }
+    ensures history { IfOk result (λ book.
+        ⟦<Book<FastCore> as Booked>⟧.history book ≡ day_history day.now.opening day.now.commands.items) }
+    ensures room { IfOk result (λ book.
+        ⟦<Book<FastCore> as Booked>⟧.room book ≡ vec_len day.now.commands + lines * CALLS_PER_LINE) }
+{
+    let calls = lines as u64 * u64::from(CALLS_PER_LINE);
+    let core = FastCore::new(alloc, day.opening, day.commands.len() as u64 + calls)?;
+    let mut book = Book::new(alloc, core)?;
+    answer_all(&mut book, &day.commands);
+    Ok(book)
+}
+
+// Answers commands as caller 0, for all of which the book has room.
+fn answer_all<C: DeskCore>(book: &mut Book<C>, commands: &[Stated])
+    requires { length (⟦<Book<C> as Booked>⟧.history book.old).entries + length commands.now
+        ≤ ⟦<Book<C> as Booked>⟧.room book.old }
+    ensures history { ⟦<Book<C> as Booked>⟧.history book.new
+        ≡ goes_on (⟦<Book<C> as Booked>⟧.history book.old) commands.now }
+    ensures room { ⟦<Book<C> as Booked>⟧.room book.new ≡ ⟦<Book<C> as Booked>⟧.room book.old }
+{
+    for stated in commands {
+        let Ok(_entry) = book.step(0, *stated) else {
+            unreachable!()
+        };
+    }
+}
