@@ -48,6 +48,10 @@ pub fn looks(alloc: Global, count: usize) -> Result<Vec<Vec<u8>>, AllocError> {
 /// Just these texts were put on the line, in this order.
 pub fn has_puts(line: &Box<dyn CallerLine + Send>, texts: &[&[u8]]) -> bool {
     let count = line.put_count();
+    for (number, text) in (1..=count).zip(texts) {
+        if !line.was_put(number, text) {
+            return false;
+        }
+    }
     count as usize == texts.len()
-        && (1..=count).all(|number| line.was_put(number, texts[number as usize - 1]))
 }

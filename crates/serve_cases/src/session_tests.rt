@@ -36,89 +36,55 @@ fn ends<R: Wait>(
     Some((ended.why, ended.taken))
 }
 
-// What a line gives, at which of its calls it fails, and for how many bytes of puts it has room; and what its session is.
-#[derive(Drop)]
-struct Case<'a> {
-    gives: &'a [&'a [u8]],
-    failing: &'a [u64],
-    room: usize,
-    why: Why,
-    taken: u32,
-    puts: &'a [&'a [u8]],
+// Of a line that gives these lines, fails at these of its calls and has room for 150 bytes of puts: why its session ended, how
+// many calls were made in it, and whether just these texts were put.
+fn session_of<R: Wait>(
+    rt: &R,
+    alloc: Global,
+    gives: &[&[u8]],
+    failing: &[u64],
+    puts: &[&[u8]],
+) -> Option<(Why, u32, bool)> {
+    let failing = failing.to_vec(alloc).ok()?;
+    let line = MemoryLine::new(alloc, lines_of(alloc, gives).ok()?, failing, 150);
+    let mut line: Box<dyn CallerLine + Send> = Box::new(alloc, line.ok()?).ok()?;
+    let (why, taken) = ends(rt, alloc, &mut line)?;
+    Some((why, taken, has_puts(&line, puts)))
 }
 
 #[test]
-fn what_follows_each_answer(rt: HostRuntime) -> Result<(), Fail> {
+fn what_follows_each_answer(rt: HostRuntime) {
     let alloc = rt.alloc();
+    let nothing = session_of(&rt, alloc, &[], &[], &[]);
+    assert_eq!(rt; nothing, Some((Why::End, 0, true)));
     let two = b"2024-03-04 00:01,vac,\"1\"\n2024-03-04 00:01,vac,2".as_slice();
     let wrong = b"2024-03-04 00:01,vac,x".as_slice();
     let long = [b'a'; 513];
-    for case in [
-        Case {
-            gives: &[],
-            failing: &[],
-            room: 0,
-            why: Why::End,
-            taken: 0,
-            puts: &[],
-        },
-        // the third call of `next` fails
-        Case {
-            gives: &[LOOK, LOOK, LOOK],
-            failing: &[5],
-            room: 1_000,
-            why: Why::LineFault,
-            taken: 2,
-            puts: &[REPLY, REPLY],
-        },
-        // the entry stands whose line isn't taken
-        Case {
-            gives: &[LOOK, LOOK],
-            failing: &[2],
-            room: 1_000,
-            why: Why::LineFault,
-            taken: 1,
-            puts: &[],
-        },
-        Case {
-            gives: &[LOOK, LOOK],
-            failing: &[],
-            room: REPLY.len(),
-            why: Why::LineFault,
-            taken: 2,
-            puts: &[REPLY],
-        },
-        Case {
-            gives: &[wrong, LOOK],
-            failing: &[2],
-            room: 1_000,
-            why: Why::LineFault,
-            taken: 0,
-            puts: &[],
-        },
-        Case {
-            gives: &[b"", &long, two, wrong, LOOK],
-            failing: &[],
-            room: 1_000,
-            why: Why::End,
-            taken: 1,
-            puts: &[
-                b"malformed 0\n",
-                b"too long\n",
-                b"malformed 0\n",
-                b"malformed 3\n",
-                REPLY,
-            ],
-        },
-    ] {
-        let failing = case.failing.to_vec(alloc)?;
-        let line = MemoryLine::new(alloc, lines_of(alloc, case.gives)?, failing, case.room);
-        let mut line: Box<dyn CallerLine + Send> = Box::new(alloc, line.ok().ok_or("memory")?)?;
-        let ended = ends(&rt, alloc, &mut line);
-        assert_eq!(rt; ended, Some((case.why, case.taken)));
-        assert!(rt; has_puts(&line, case.puts));
-    }
-    Ok(())
+    let gives = &[b"".as_slice(), &long, two, wrong, LOOK];
+    let puts = &[
+        b"malformed 0\n".as_slice(),
+        b"too long\n",
+        b"malformed 0\n",
+        b"malformed 3\n",
+        REPLY,
+    ];
+    let all = session_of(&rt, alloc, gives, &[], puts);
+    assert_eq!(rt; all, Some((Why::End, 1, true)));
+}
+
+#[test]
+fn what_follows_a_fault(rt: HostRuntime) {
+    let alloc = rt.alloc();
+    let gives = &[LOOK, LOOK, LOOK];
+    let third_line = session_of(&rt, alloc, gives, &[5], &[REPLY, REPLY]);
+    assert_eq!(rt; third_line, Some((Why::LineFault, 2, true)));
+    // the entry stands whose line isn't taken
+    let first_reply = session_of(&rt, alloc, gives, &[2], &[]);
+    assert_eq!(rt; first_reply, Some((Why::LineFault, 1, true)));
+    let no_room = session_of(&rt, alloc, gives, &[], &[REPLY, REPLY]);
+    assert_eq!(rt; no_room, Some((Why::LineFault, 3, true)));
+    let malformed = session_of(&rt, alloc, &[b"", LOOK], &[2], &[]);
+    assert_eq!(rt; malformed, Some((Why::LineFault, 0, true)));
 }
 
 #[test]
