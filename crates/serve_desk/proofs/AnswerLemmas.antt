@@ -21,7 +21,7 @@ use Rattle.serve_desk.specs.declared.why.Why.TheVariants as why
 use Rattle.serve_desk.specs.Texts.{too_many, too_long, no_memory, malformed, spent}
 use Rattle.serve_desk.specs.Told.{with_all, LineValue}
 use Rattle.serve_desk.specs.Follows.{is_line, Puts, Follows, it_is_put, it_is_not_put, the_end, a_fault, one_line_too_many, a_line_too_long, no_memory_for_a_line, no_command, no_call_left, a_call}
-use Rattle.serve_desk.specs.Serves.{PutsOn, Replies, Answers}
+use Rattle.serve_desk.specs.Answers.{PutsOn, Replies, Answers}
 use Rattle.serve_desk.proofs.ToldLemmas.{with_all-none, with_all-one}
 use Rattle.serve_desk.proofs.SeatLemmas.{Made-none, Made-one}
 

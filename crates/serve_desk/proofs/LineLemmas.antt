@@ -11,7 +11,8 @@ use Rattle.turn_gate.specs.declared.start.Start.{Start}
 use Rattle.turn_gate.specs.declared.told.Told.{Told}
 use Rattle.serve_desk.specs.Told.{LineValue}
 use Rattle.serve_desk.specs.Session.{Session}
-use Rattle.serve_desk.specs.AllLines.{Attends, IsServed, AreServed}
+use Rattle.serve_desk.specs.AllLines.{IsServed, AreServed}
+use Rattle.serve_desk.specs.Attends.{Attends}
 
 -- the seats of a new gate, one by one
 pub length-new_seats : (gate : GateValue) (first count : ℕ) → length (new_seats gate first count) ≡ count

@@ -3,5 +3,7 @@ pub mod Told
 pub mod Follows
 pub mod Session
 pub mod Seats
+pub mod Answers
 pub mod Serves
+pub mod Attends
 pub mod AllLines

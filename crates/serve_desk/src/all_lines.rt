@@ -4,7 +4,8 @@ ghost use Rattle.std.specs.List.{All};
 ghost use Rattle.turn_gate.specs.Seats.{IsSeatOf};
 ghost use Rattle.desk_model.specs.Legal.{IsLegal};
 ghost use Rattle.serve_desk.specs.Told.{line_of};
-ghost use Rattle.serve_desk.specs.AllLines.{Attends, AreServed};
+ghost use Rattle.serve_desk.specs.AllLines.{AreServed};
+ghost use Rattle.serve_desk.specs.Attends.{Attends};
 
 use crate::CALLS_PER_LINE;
 use crate::one_line::session;

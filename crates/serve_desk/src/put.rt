@@ -3,7 +3,7 @@ ghost use Rattle.std.specs.Prelude.{◌≡◌, ◌≢◌, ◌≤◌};
 ghost use Rattle.std.specs.Bool.{OnTrue, OnFalse};
 ghost use Rattle.desk_io.specs.Faults.{Rose};
 ghost use Rattle.caller_lines.specs.Told.{with_last};
-ghost use Rattle.serve_desk.specs.Serves.{PutsOn};
+ghost use Rattle.serve_desk.specs.Answers.{PutsOn};
 
 use crate::Why;
 use caller_lines::CallerLine;
