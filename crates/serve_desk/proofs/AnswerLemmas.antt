@@ -1,5 +1,5 @@
 -- What follows an answer, from what was said by it and what was put.
-use Rattle.std.proofs.Common.{◌≡◌, ◌≢◌, ℕ, ◌-◌, ◌<◌, ◌≤◌, true, List, [], ◌∷◌, None, Some, refl, sym, ap, ◌∙◌, subst, arith}
+use Rattle.std.proofs.Common.{◌≡◌, ◌≢◌, ℕ, ◌<◌, true, List, [], ◌∷◌, None, Some, refl, sym, ap, ◌∙◌, subst}
 use Rattle.std.specs.declared.option.Option.{Option}
 use Rattle.desk_model.specs.Entry.{EntryValue}
 use Rattle.desk_model.specs.History.{History, history_of}
@@ -7,7 +7,6 @@ use Rattle.desk_model.specs.Journal.{entry_line}
 use Rattle.desk_model.specs.Legal.{next}
 use Rattle.desk_model.specs.Opening.{OpeningValue}
 use Rattle.desk_model.specs.Statement.{StatedValue}
-use Rattle.desk_text.specs.CommandLine.{IsCommandLine, IsMalformed}
 use Rattle.turn_gate.specs.Seats.{SeatValue}
 use Rattle.caller_lines.specs.Given.{Given, GaveLine, GaveTooLong, GaveEnd, GaveFailed}
 use Rattle.caller_lines.specs.Hears.{ReadsAs, Hears}
@@ -22,8 +21,7 @@ use Rattle.serve_desk.specs.declared.why.Why.TheVariants as why
 use Rattle.serve_desk.specs.Texts.{too_many, too_long, no_memory, malformed, spent}
 use Rattle.serve_desk.specs.Told.{with_all, LineValue}
 use Rattle.serve_desk.specs.Follows.{is_line, Puts, Follows, it_is_put, it_is_not_put, the_end, a_fault, one_line_too_many, a_line_too_long, no_memory_for_a_line, no_command, no_call_left, a_call}
-use Rattle.serve_desk.specs.Seats.{Made}
-use Rattle.serve_desk.specs.Serves.{PutsOn, Replies, Answers}
+use Rattle.serve_desk.specs.Answers.{PutsOn, Replies, Answers}
 use Rattle.serve_desk.proofs.ToldLemmas.{with_all-none, with_all-one}
 use Rattle.serve_desk.proofs.SeatLemmas.{Made-none, Made-one}
 

@@ -1,20 +1,22 @@
 -- All lines served at one desk.
-use Rattle.std.proofs.Common.{◌≡◌, ◌≢◌, ℕ, zero, suc, ◌+◌, ◌-◌, ◌<◌, ◌≤◌, List, [], ◌∷◌, ◌++◌, length, get_or, map, ◌==◌, Some, refl, sym, ap, ◌∙◌, subst, arith}
+use Rattle.std.proofs.Common.{◌≡◌, ℕ, zero, suc, ◌+◌, ◌<◌, List, [], ◌∷◌, ◌++◌, length, get_or, map, ◌==◌, Some, IsSomeAnd, refl, sym, ap, ◌∙◌, subst, arith}
 use Rattle.std.specs.declared.option.Option.{Option}
 use Rattle.std.specs.List.{All}
-use Rattle.std.proofs.lemmas.List.{get_or-map, length-map}
-use Rattle.desk_io.specs.Faults.{Rose}
+use Rattle.std.proofs.lemmas.List.{append_cancel_left, get_or-map, length-map}
+use Rattle.std.proofs.lemmas.List.Elements.{filter-append}
 use Rattle.desk_model.specs.Entry.{EntryValue}
 use Rattle.turn_gate.specs.Seats.{GateValue, SeatValue, IsSeatOf, new_seat, new_seats}
 use Rattle.turn_gate.specs.Told.{own, IsNumber, IsBookOf}
 use Rattle.turn_gate.specs.Turns.{Knows}
+use Rattle.turn_gate.specs.declared.start.Start.{Start}
 use Rattle.turn_gate.specs.declared.told.Told.{Told}
 use Rattle.serve_desk.specs.Told.{LineValue}
 use Rattle.serve_desk.specs.Session.{Session}
-use Rattle.serve_desk.specs.AllLines.{Attends, IsServed, AreServed}
+use Rattle.serve_desk.specs.AllLines.{IsServed, AreServed}
+use Rattle.serve_desk.specs.Attends.{Attends}
 
 -- the seats of a new gate, one by one
-length-new_seats : (gate : GateValue) (first count : ℕ) → length (new_seats gate first count) ≡ count
+pub length-new_seats : (gate : GateValue) (first count : ℕ) → length (new_seats gate first count) ≡ count
 length-new_seats gate first zero = refl
 length-new_seats gate first (suc count) = ap (λ n. suc n) (length-new_seats gate (first + 1) count)
 
@@ -74,8 +76,31 @@ some_element : {P : Type 0} (posts : List P) (i : ℕ) → i < length posts → 
 some_element [] i within = absurd (omega arith)
 some_element (post ∷ posts) i within = post
 
+-- posts whose seats are these, in order, have seats of their gate
+pub All-seated : {P : Type 0} (posts : List P) (seats : List SeatValue) (seat : P → Option SeatValue) (gate : GateValue) → map seat posts ≡ map (λ s. Some s) seats → All (IsSeatOf gate) seats
+    → All (λ post. IsSomeAnd (seat post) (IsSeatOf gate)) posts
+All-seated posts seats seat gate same each k d within =
+    let long : length seats ≡ length posts = sym (length-map seats (λ s. Some s)) ∙ (ap length (sym same) ∙ length-map posts seat) in
+    let near : k < length seats = omega arith in
+    let e : SeatValue = some_element seats k near in
+    subst (λ o. IsSomeAnd o (IsSeatOf gate)) (sym (seat-at seat posts seats k d e same within)) (each k e near)
+
+-- the seats of posts whose lines were served are of their gate
+pub All-left : {P : Type 0} (posts later : List P) (seats : List SeatValue) (seat : P → Option SeatValue) (line : P → LineValue) (gate : GateValue)
+    → ((i : ℕ) (d : P) → i < length posts → Attends gate (seat (get_or posts i d)) (seat (get_or later i d)) (line (get_or posts i d)) (line (get_or later i d)))
+    → length later ≡ length posts → map (λ s. Some s) seats ≡ map seat later → All (IsSeatOf gate) seats
+All-left posts later seats seat line gate attends as_many back k e within =
+    let long : length seats ≡ length later = sym (length-map seats (λ s. Some s)) ∙ (ap length back ∙ length-map later seat) in
+    let here : k < length posts = omega arith in
+    let there : k < length later = omega arith in
+    let d = some_element posts k here in
+    let a = attends k d here in
+    let has : seat (get_or later k d) ≡ Some (get_or seats k e) = seat-at seat later seats k d e (sym back) there in
+    let is : a.behind ≡ get_or seats k e = cc (a.has, has) in
+    subst (λ s. IsSeatOf gate s) is a.of_desk
+
 -- all lines, at the seats of a new desk
-pub AreServed-attended : {P : Type 0} (seat : P → Option SeatValue) (line : P → LineValue) (gate : GateValue) (posts later : List P) (seats : List SeatValue) (book : Told)
+AreServed-attended : {P : Type 0} (seat : P → Option SeatValue) (line : P → LineValue) (gate : GateValue) (posts later : List P) (seats : List SeatValue) (book : Told)
     → ((i : ℕ) (d : P) → i < length posts → Attends gate (seat (get_or posts i d)) (seat (get_or later i d)) (line (get_or posts i d)) (line (get_or later i d)))
     → length later ≡ length posts → gate.start.seats ≡ length posts → map seat posts ≡ map (λ s. Some s) (new_seats gate 1 (length posts)) → map (λ s. Some s) seats ≡ map seat later
     → All (Knows book.entries) seats → IsBookOf gate.start book
@@ -83,18 +108,18 @@ pub AreServed-attended : {P : Type 0} (seat : P → Option SeatValue) (line : P 
 AreServed-attended {P} seat line gate posts later seats book attends as_many count new back knows of_gate =
     let n : length (map line posts) ≡ length posts = length-map posts line in
     let one : (i : ℕ) (x : LineValue) → i < length (map line posts) → IsServed gate.start.quota (own of_gate.later (i + 1)) (get_or (map line posts) i x) (get_or (map line later) i x) =
-      λ i x within.
-        let here : i < length posts = omega arith in
-        let there : i < length later = omega arith in
-        let d : P = some_element posts i here in
-        let e : SeatValue = new_seat gate 1 in
-        let long : length seats ≡ length posts = sym (length-map seats (λ s. Some s)) ∙ (ap length back ∙ (length-map later seat ∙ as_many)) in
-        let had : seat (get_or posts i d) ≡ Some (new_seat gate (1 + i)) = seat-at seat posts (new_seats gate 1 (length posts)) i d e new here ∙ ap (λ s. Some s) (new_seats-at gate 1 (length posts) i e here) in
-        let has : seat (get_or later i d) ≡ Some (get_or seats i e) = seat-at seat later seats i d e (sym back) there in
-        let k : Knows book.entries (get_or seats i e) = knows i e (omega arith) in
-        let served = IsServed-attends gate of_gate.later book.entries i (seat (get_or posts i d)) (seat (get_or later i d)) (get_or seats i e) (line (get_or posts i d)) (line (get_or later i d)) (attends i d here) had has k (sym of_gate.begins) in
-        subst (λ l. IsServed gate.start.quota (own of_gate.later (i + 1)) l (get_or (map line later) i x)) (sym (get_or-map line posts i d x here))
-        (subst (λ l. IsServed gate.start.quota (own of_gate.later (i + 1)) (line (get_or posts i d)) l) (sym (get_or-map line later i d x there)) served)
+    λ i x within.
+    let here : i < length posts = omega arith in
+    let there : i < length later = omega arith in
+    let d : P = some_element posts i here in
+    let e : SeatValue = new_seat gate 1 in
+    let long : length seats ≡ length posts = sym (length-map seats (λ s. Some s)) ∙ (ap length back ∙ (length-map later seat ∙ as_many)) in
+    let had : seat (get_or posts i d) ≡ Some (new_seat gate (1 + i)) = seat-at seat posts (new_seats gate 1 (length posts)) i d e new here ∙ ap (λ s. Some s) (new_seats-at gate 1 (length posts) i e here) in
+    let has : seat (get_or later i d) ≡ Some (get_or seats i e) = seat-at seat later seats i d e (sym back) there in
+    let k : Knows book.entries (get_or seats i e) = knows i e (omega arith) in
+    let served = IsServed-attends gate of_gate.later book.entries i (seat (get_or posts i d)) (seat (get_or later i d)) (get_or seats i e) (line (get_or posts i d)) (line (get_or later i d)) (attends i d here) had has k (sym of_gate.begins) in
+    subst (λ l. IsServed gate.start.quota (own of_gate.later (i + 1)) l (get_or (map line later) i x)) (sym (get_or-map line posts i d x here))
+    (subst (λ l. IsServed gate.start.quota (own of_gate.later (i + 1)) (line (get_or posts i d)) l) (sym (get_or-map line later i d x there)) served)
     in
     record {
       more = of_gate.later;
@@ -103,3 +128,26 @@ AreServed-attended {P} seat line gate posts later seats book attends as_many cou
       count = length-map later line ∙ (as_many ∙ sym n);
       each = one;
     }
+
+map-map : {A B C : Type 0} (f : A → B) (g : B → C) (xs : List A) → map g (map f xs) ≡ map (λ x. g (f x)) xs
+map-map f g [] = refl
+map-map f g (x ∷ xs) = ap (λ ys. g (f x) ∷ ys) (map-map f g xs)
+
+-- the lines of a list, which were taken to posts with the seats of a new desk, and back
+pub AreServed-all : {P L : Type 0} (posts later : List P) (lines served : List L) (made seats : List SeatValue) (seat : P → Option SeatValue) (line : P → L) (value : L → LineValue) (gate : GateValue)
+    (start : Start) (book : Told)
+    → ((i : ℕ) (d : P) → i < length posts
+    → Attends gate (seat (get_or posts i d)) (seat (get_or later i d)) (value (line (get_or posts i d))) (value (line (get_or later i d))))
+    → length later ≡ length posts → map line posts ≡ lines → served ≡ map line later → made ≡ new_seats gate 1 start.seats → map seat posts ≡ map (λ s. Some s) made
+    → map (λ s. Some s) seats ≡ map seat later → gate.start ≡ start → start.seats ≡ length lines → All (Knows book.entries) seats → IsBookOf gate.start book
+    → AreServed start.quota start.book.entries book.entries (map value lines) (map value served)
+AreServed-all posts later lines served made seats seat line value gate start book attends as_many taken left new had back began count knows of_gate =
+    let long : length lines ≡ length posts = ap length (sym taken) ∙ length-map posts line in
+    let seated : map seat posts ≡ map (λ s. Some s) (new_seats gate 1 (length posts)) = had ∙ ap (λ l. map (λ s. Some s) l) (new ∙ ap (new_seats gate 1) (count ∙ long)) in
+    let counted : gate.start.seats ≡ length posts = ap (λ k. k.seats) began ∙ (count ∙ long) in
+    let all = AreServed-attended seat (λ p. value (line p)) gate posts later seats book attends as_many counted seated back knows of_gate in
+    let here : map (λ p. value (line p)) posts ≡ map value lines = sym (map-map line value posts) ∙ ap (map value) taken in
+    let there : map (λ p. value (line p)) later ≡ map value served = sym (map-map line value later) ∙ ap (map value) (sym left) in
+    subst (λ k. AreServed k.quota k.book.entries book.entries (map value lines) (map value served)) began
+    (subst (λ l. AreServed gate.start.quota gate.start.book.entries book.entries l (map value served)) here
+    (subst (λ l. AreServed gate.start.quota gate.start.book.entries book.entries (map (λ p. value (line p)) posts) l) there all))

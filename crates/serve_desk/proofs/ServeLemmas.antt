@@ -15,8 +15,8 @@ use Rattle.day_replay.proofs.HistoryLemmas.{goes_on-length}
 use Rattle.turn_gate.specs.Told.{own, IsNumber}
 use Rattle.serve_desk.specs.declared.limits.TheConstants.{CALLS_PER_LINE}
 use Rattle.serve_desk.specs.Told.{LineValue}
-use Rattle.serve_desk.specs.AllLines.{IsServed, AreServed}
-use Rattle.serve_desk.specs.Serve.{ServesHistory}
+use Rattle.serve_desk.specs.AllLines.{IsServed}
+use Rattle.serve_desk.specs.Serve.{ServesBehind, ServesHistory}
 
 -- caller 0 stated what the day file has, so no line's caller did
 own-day : (es : List EntryValue) (commands : List StatedValue) (number : ℕ) → 0 < number → map given es ≡ map by_the_day_file commands → own es number ≡ []
@@ -30,25 +30,26 @@ own-day (e ∷ es) (s ∷ commands) number some same =
     ap (λ b. cond b (e ∷ own es number) (own es number)) other ∙ own-day es commands number some rest
 
 -- the history of lines that were served behind a day file's commands
-pub ServesHistory-served : (o : OpeningValue) (commands : List StatedValue) (h after : History) (lines later : List LineValue) (Writes : List ℕ → Type 0)
-    → h ≡ day_history o commands → IsReplay o commands (day_history o commands) → after.opening ≡ h.opening → ∥ IsLegal after ∥₁
-    → AreServed CALLS_PER_LINE h.entries after.entries lines later → Writes (journal after) → ServesHistory o commands lines later Writes
-ServesHistory-served o commands h after lines later Writes is replay opening legal served written =
+pub ServesHistory-served : (o : OpeningValue) (commands : List StatedValue) (h : History) (lines later : List LineValue) (Writes : List ℕ → Type 0)
+    → h ≡ day_history o commands → IsReplay o commands (day_history o commands) → ServesBehind h lines later Writes → ServesHistory o commands lines later Writes
+ServesHistory-served o commands h lines later Writes is replay behind =
+    let after = behind.after in
+    let served = behind.served in
     let day = day_history o commands in
     let begins : after.entries ≡ day.entries ++ served.more = served.begins ∙ ap (λ x. x.entries ++ served.more) is in
     let long : length day.entries ≡ length commands = omega (arith, goes_on-length (opened o) commands) in
     let front : take (length commands) after.entries ≡ day.entries = ap (take (length commands)) begins ∙ grind (arith, common_steps) in
-    let behind : drop (length commands) after.entries ≡ served.more = ap (drop (length commands)) begins ∙ grind (arith, common_steps) in
+    let rest : drop (length commands) after.entries ≡ served.more = ap (drop (length commands)) begins ∙ grind (arith, common_steps) in
     record {
       history = after;
-      opened = opening ∙ ap (λ x. x.opening) is ∙ replay.opening;
-      legal = ∥∥₁_elim legal (hlevel props) (λ x. x);
+      opened = behind.opened ∙ ap (λ x. x.opening) is ∙ replay.opening;
+      legal = ∥∥₁_elim behind.legal (hlevel props) (λ x. x);
       setup = ap (map given) front ∙ replay.given;
-      callers = subst (All (λ e. IsNumber (length lines) e.caller)) (sym behind) served.callers;
+      callers = subst (All (λ e. IsNumber (length lines) e.caller)) (sym rest) served.callers;
       count = served.count;
       each = λ i line within.
           let mine : own served.more (i + 1) ≡ own after.entries (i + 1) =
               sym (ap (λ es. own es (i + 1)) begins ∙ filter-append (λ e. e.caller == i + 1) day.entries served.more ∙ ap (λ es. es ++ own served.more (i + 1)) (own-day day.entries commands (i + 1) (omega arith) replay.given)) in
           subst (λ es. IsServed CALLS_PER_LINE es (slice_index_or lines i line) (slice_index_or later i line)) mine (served.each i line within);
-      written = written;
+      written = behind.written;
     }

@@ -1,5 +1,5 @@
 -- A session, answer by answer.
-use Rattle.std.proofs.Common.{◌≡◌, ◌≢◌, ℕ, ◌+◌, ◌-◌, ◌<◌, ◌≤◌, true, List, [], ◌∷◌, ◌++◌, length, None, Some, refl, sym, ap, ◌∙◌, subst, length-append, arith}
+use Rattle.std.proofs.Common.{◌≡◌, ℕ, ◌+◌, ◌-◌, ◌<◌, true, List, [], ◌∷◌, ◌++◌, length, None, Some, refl, sym, ap, ◌∙◌, subst, arith}
 use Rattle.std.specs.declared.option.Option.{Option}
 use Rattle.desk_model.specs.Entry.{EntryValue}
 use Rattle.desk_model.specs.Opening.{OpeningValue}
@@ -8,13 +8,13 @@ use Rattle.caller_lines.specs.Given.{Given}
 use Rattle.caller_lines.specs.Told.{with_last}
 use Rattle.serve_desk.specs.declared.limits.TheConstants.{LINE_LIMIT}
 use Rattle.serve_desk.specs.declared.why.Why.{Why}
-use Rattle.serve_desk.specs.declared.why.Why.TheVariants as why
 use Rattle.serve_desk.specs.Texts.{too_many}
 use Rattle.serve_desk.specs.Told.{with_all, LineValue}
 use Rattle.serve_desk.specs.Follows.{is_line, Puts, Follows, it_is_put, it_is_not_put, the_end, a_fault, one_line_too_many, a_line_too_long, no_memory_for_a_line, no_command, no_call_left, a_call}
-use Rattle.serve_desk.specs.Session.{lines_in, GoesOn, it_begins, it_goes_on, Session, it_ends}
+use Rattle.serve_desk.specs.Session.{lines_in, GoesOn, it_begins, it_goes_on, it_ends}
 use Rattle.serve_desk.specs.Seats.{Made}
-use Rattle.serve_desk.specs.Serves.{Answers, Serves}
+use Rattle.serve_desk.specs.Answers.{Answers}
+use Rattle.serve_desk.specs.Serves.{Serves}
 use Rattle.serve_desk.proofs.ToldLemmas.{with_all-none, with_all-more, with_last-all, lines_in-line}
 use Rattle.serve_desk.proofs.SeatLemmas.{Made-none, Made-then}
 

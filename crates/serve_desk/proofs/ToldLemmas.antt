@@ -1,5 +1,5 @@
 -- What is told of a line, with more behind it; and the lines among what it gave.
-use Rattle.std.proofs.Common.{◌≡◌, ℕ, ◌+◌, Bool, true, false, cond, List, [], ◌∷◌, ◌++◌, count_by, None, Some, refl, sym, ap, ◌∙◌, append-nil, append_assoc, zero-add}
+use Rattle.std.proofs.Common.{◌≡◌, ◌+◌, true, cond, List, [], ◌∷◌, ◌++◌, None, Some, refl, ap, ◌∙◌, append-nil, append_assoc, zero-add}
 use Rattle.std.specs.declared.option.Option.{Option}
 use Rattle.std.proofs.lemmas.List.Sums.{sum_by-append}
 use Rattle.caller_lines.specs.Given.{Given}

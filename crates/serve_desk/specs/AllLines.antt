@@ -1,31 +1,14 @@
 -- What serving all lines at one desk makes of them.
-use Rattle.std.specs.Prelude.{◌≡◌, ◌≢◌, ℕ, ◌+◌, ◌-◌, ◌<◌, ◌≤◌, List, ◌++◌, length, slice_index_or, Some}
-use Rattle.std.specs.declared.option.Option.{Option}
+use Rattle.std.specs.Prelude.{◌≡◌, ◌≢◌, ℕ, ◌+◌, ◌<◌, ◌≤◌, List, ◌++◌, length, slice_index_or}
 use Rattle.std.specs.List.{All}
 use Rattle.desk_io.specs.Faults.{Rose}
 use Rattle.desk_model.specs.Entry.{EntryValue}
-use Rattle.turn_gate.specs.Seats.{GateValue, SeatValue, IsSeatOf}
 use Rattle.turn_gate.specs.Told.{own, IsNumber}
 use Rattle.caller_lines.specs.Given.{Given}
 use Rattle.serve_desk.specs.declared.why.Why.{Why}
 use Rattle.serve_desk.specs.declared.why.Why.TheVariants.{LineFault}
 use Rattle.serve_desk.specs.Told.{with_all, LineValue}
 use Rattle.serve_desk.specs.Session.{Session}
-use Rattle.serve_desk.specs.Serves.{Serves}
-
--- a post's line was served at its seat, at a desk of this gate
-pub record Attends (gate : GateValue) (seat after : Option SeatValue) (line later : LineValue) : Type 0 where
-  pub before : SeatValue
-  pub behind : SeatValue
-  pub why : Why
-  pub taken : ℕ
-  pub had : seat ≡ Some before
-  pub has : after ≡ Some behind
-  pub serves : Serves gate.start.book.opening (gate.start.quota - before.calls) line later before behind why taken
-  pub of_desk : IsSeatOf gate behind
-  pub fault : why ≡ LineFault → Rose line.faults later.faults
-  pub no_fault : why ≢ LineFault → later.faults ≡ line.faults
-  pub faults : line.faults ≤ later.faults
 
 -- a line after its session, of which these entries came, at a seat with so many calls. It ended with a fault only where the line's
 -- faults rose, which never fall

@@ -3,6 +3,8 @@ pub mod Told
 pub mod Follows
 pub mod Session
 pub mod Seats
+pub mod Answers
 pub mod Serves
+pub mod Attends
 pub mod AllLines
 pub mod Serve

@@ -16,11 +16,20 @@ use Rattle.day_replay.specs.declared.limits.TheConstants.{BYTE_LIMIT}
 use Rattle.turn_gate.specs.Told.{own, IsNumber}
 use Rattle.serve_desk.specs.declared.limits.TheConstants.{CALLS_PER_LINE}
 use Rattle.serve_desk.specs.Told.{LineValue}
-use Rattle.serve_desk.specs.AllLines.{IsServed}
+use Rattle.serve_desk.specs.AllLines.{IsServed, AreServed}
 
 -- there are fewer lines than can be served, or more
 abbrev pub IsNoNumberOfLines : ℕ → Type 0
 IsNoNumberOfLines count = (count ≡ 0) ⊎ (LAST_CALLER < count)
+
+-- lines were served at a desk that stands behind this history, and this was done with the journal of the legal history that goes on
+-- from it
+pub record ServesBehind (before : History) (lines later : List LineValue) (Writes : List ℕ → Type 0) : Type 0 where
+  pub after : History
+  pub opened : after.opening ≡ before.opening
+  pub legal : ∥ IsLegal after ∥₁
+  pub served : AreServed CALLS_PER_LINE before.entries after.entries lines later
+  pub written : Writes (journal after)
 
 -- there is one legal history of a desk that was opened so. Its first entries have these commands, each once, in their order, with
 -- caller 0; the caller of each later one is the number of a line; and of each line's number it has just the entries that come of

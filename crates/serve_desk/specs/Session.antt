@@ -1,6 +1,5 @@
 -- What a session of a line is.
 use Rattle.std.specs.Prelude.{ℕ, ◌-◌, List, [], ◌∷◌, ◌++◌, length, count_by, None, Some}
-use Rattle.std.specs.declared.option.Option.{Option}
 use Rattle.desk_model.specs.Entry.{EntryValue}
 use Rattle.caller_lines.specs.Given.{Given}
 use Rattle.serve_desk.specs.declared.why.Why.{Why}

@@ -1,15 +1,16 @@
 //! All lines served at one desk.
-ghost use Rattle.std.specs.Prelude.{◌≡◌, ◌+◌, ◌*◌, ◌<◌, ◌≤◌, ℕ, length, map, vec_len, IfOk, IsErr, IfSome, IsSome, IsSomeAnd, slice_index_or};
+ghost use Rattle.std.specs.Prelude.{◌≡◌, ◌+◌, ◌*◌, ◌<◌, ◌≤◌, ℕ, length, map, vec_len, IfOk, IsErr, IsSomeAnd, slice_index_or};
 ghost use Rattle.std.specs.List.{All};
 ghost use Rattle.turn_gate.specs.Seats.{IsSeatOf};
 ghost use Rattle.desk_model.specs.Legal.{IsLegal};
 ghost use Rattle.serve_desk.specs.Told.{line_of};
-ghost use Rattle.serve_desk.specs.AllLines.{Attends, AreServed};
+ghost use Rattle.serve_desk.specs.AllLines.{AreServed};
+ghost use Rattle.serve_desk.specs.Attends.{Attends};
 
+use crate::CALLS_PER_LINE;
 use crate::one_line::session;
 use crate::post::Post;
 use crate::posts::{leave_posts, seat_lines};
-use crate::CALLS_PER_LINE;
 use call_history::Book;
 use caller_lines::CallerLine;
 use desk_base::NoMemory;
@@ -17,8 +18,8 @@ use desk_model::{Booked, DeskCore, LAST_CALLER};
 use desk_shared::Desk;
 use std::alloc::Global;
 use std::sync::Wait;
-use turn_gate::Seat;
 use std::thread::{self, Threads};
+use turn_gate::Seat;
 
 /// Serves 1 to 63 lines at one desk over the book, all at the same time, line i as caller i, from 1, with 5,000 calls of each, for
 /// all of which the book has room. It answers the book when all sessions have ended. `NoMemory` comes before the first line is asked.
@@ -34,6 +35,7 @@ pub fn serve_lines<C: DeskCore + Send, R: Threads + Wait + Sync>(
         ≤ ⟦<Book<C> as Booked>⟧.room book }
     ensures opening { IfOk result (λ after. (⟦<Book<C> as Booked>⟧.history after).opening
         ≡ (⟦<Book<C> as Booked>⟧.history book).opening) }
+    ensures room { IfOk result (λ after. ⟦<Book<C> as Booked>⟧.room after ≡ ⟦<Book<C> as Booked>⟧.room book) }
     ensures legal { IfOk result (λ after. ∥ IsLegal (⟦<Book<C> as Booked>⟧.history after) ∥₁) }
     ensures served { IfOk result (λ after. AreServed CALLS_PER_LINE
         (⟦<Book<C> as Booked>⟧.history book).entries (⟦<Book<C> as Booked>⟧.history after).entries
@@ -64,9 +66,11 @@ fn attend_all<C: DeskCore + Send, R: Threads + Wait + Sync>(
     requires { All (λ post. IsSomeAnd post.seat (IsSeatOf desk.now)) posts.old.items }
     ensures count { vec_len posts.new ≡ vec_len posts.old }
     ensures each { (i : ℕ) (d : _) → i < length posts.old.items
-        → Attends desk.now (slice_index_or posts.old.items i d).seat (slice_index_or posts.new.items i d).seat
-        (line_of (faults (slice_index_or posts.old.items i d).line) (given (slice_index_or posts.old.items i d).line) (put_texts (slice_index_or posts.old.items i d).line))
-        (line_of (faults (slice_index_or posts.new.items i d).line) (given (slice_index_or posts.new.items i d).line) (put_texts (slice_index_or posts.new.items i d).line)) }
+        → let post = slice_index_or posts.old.items i d in
+        let after = slice_index_or posts.new.items i d in
+        Attends desk.now post.seat after.seat
+        (line_of (faults post.line) (given post.line) (put_texts post.line))
+        (line_of (faults after.line) (given after.line) (put_texts after.line)) }
 {
     let work = |_i: usize, post: &mut Post<Seat<Book<C>>, Box<dyn CallerLine + Send>>|
         requires { IsSomeAnd post.now.seat (IsSeatOf desk.now) }
@@ -78,7 +82,12 @@ fn attend_all<C: DeskCore + Send, R: Threads + Wait + Sync>(
 }
 
 // Serves the line of a post at its seat.
-fn attend<C: DeskCore, R: Wait>(rt: &R, alloc: Global, desk: &Desk<C>, post: &mut Post<Seat<Book<C>>, Box<dyn CallerLine + Send>>)
+fn attend<C: DeskCore, R: Wait>(
+    rt: &R,
+    alloc: Global,
+    desk: &Desk<C>,
+    post: &mut Post<Seat<Book<C>>, Box<dyn CallerLine + Send>>,
+)
     requires { IsSomeAnd post.old.seat (IsSeatOf desk.now) }
     ensures { Attends desk.now post.old.seat post.new.seat
         (line_of (faults post.old.line) (given post.old.line) (put_texts post.old.line))

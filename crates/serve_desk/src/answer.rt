@@ -3,7 +3,7 @@ ghost use Rattle.std.specs.Prelude.{◌≡◌, ◌≢◌, ℕ, ◌-◌, ◌<◌,
 ghost use Rattle.desk_io.specs.Faults.{Rose};
 ghost use Rattle.turn_gate.specs.Seats.{IsSeatOf};
 ghost use Rattle.serve_desk.specs.Told.{line_of};
-ghost use Rattle.serve_desk.specs.Serves.{Answers, Replies};
+ghost use Rattle.serve_desk.specs.Answers.{Answers, Replies};
 
 use crate::answered::Answered;
 use crate::entry_lines::EntryLines;

@@ -18,7 +18,7 @@ mod why;
 
 pub use all_lines::serve_lines;
 pub use ended::Ended;
-pub use limits::{CALLS_PER_LINE, LINE_LIMIT};
+pub use limits::{CALLS_PER_LINE, LINE_LIMIT, the_numbers_of_a_session};
 pub use one_line::session;
 pub use serving::serve;
 pub use why::Why;

@@ -11,7 +11,8 @@ pub fn write_malformed(field: u8) -> LineText
 {
     let mut text = LineText::new();
     text.try_extend_from_slice(b"malformed ").unwrap();
-    text.try_extend_from_slice(Buffer::new().format(field).as_bytes()).unwrap();
+    text.try_extend_from_slice(Buffer::new().format(field).as_bytes())
+        .unwrap();
     text.push(b'\n');
     text
 }

@@ -1,5 +1,5 @@
 //! Lines at their seats, and away from them.
-ghost use Rattle.std.specs.Prelude.{◌≡◌, ◌≤◌, [], ◌++◌, length, map, vec_len, vec_capacity, IsSome};
+ghost use Rattle.std.specs.Prelude.{◌≡◌, ◌≤◌, [], map, vec_len, vec_capacity, IsSome};
 ghost use Rattle.std.specs.List.{All};
 
 use crate::post::Post;

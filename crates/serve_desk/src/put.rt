@@ -3,18 +3,14 @@ ghost use Rattle.std.specs.Prelude.{◌≡◌, ◌≢◌, ◌≤◌};
 ghost use Rattle.std.specs.Bool.{OnTrue, OnFalse};
 ghost use Rattle.desk_io.specs.Faults.{Rose};
 ghost use Rattle.caller_lines.specs.Told.{with_last};
-ghost use Rattle.serve_desk.specs.Serves.{PutsOn};
+ghost use Rattle.serve_desk.specs.Answers.{PutsOn};
 
 use crate::Why;
 use caller_lines::CallerLine;
 
 /// Puts a text on the line, behind which the session ends or goes on as told. Where the line doesn't take it, that is a fault and
 /// ends the session.
-pub fn put_on(
-    line: &mut Box<dyn CallerLine + Send>,
-    text: &[u8],
-    then: Option<Why>,
-) -> Option<Why>
+pub fn put_on(line: &mut Box<dyn CallerLine + Send>, text: &[u8], then: Option<Why>) -> Option<Why>
     requires { then ≢ Some Why.LineFault }
     ensures puts { PutsOn text.now then (put_texts line.old) (put_texts line.new) result }
     ensures given { given line.new ≡ given line.old }

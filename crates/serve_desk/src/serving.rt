@@ -1,5 +1,5 @@
 //! Callers served behind a day file.
-ghost use Rattle.std.specs.Prelude.{◌≡◌, ◌≢◌, ◌<◌, ◌≤◌, ◌↔◌, ◌⊎◌, ◌+◌, ◌*◌, IfOk, length, map, vec_len, false};
+ghost use Rattle.std.specs.Prelude.{◌≡◌, ◌≢◌, ◌<◌, ◌≤◌, ◌↔◌, ◌⊎◌, ◌+◌, ◌*◌, IfOk, length, map, [], vec_len, vec_capacity, false};
 ghost use Rattle.std.specs.List.{All};
 ghost use Rattle.std.specs.Io.KnownBytes.{Appends, Keeps};
 ghost use Rattle.desk_io.specs.Faults.{Rose};
@@ -13,7 +13,7 @@ ghost use Rattle.day_replay.specs.Ends.{WasRead, WritesOrFails, writes};
 ghost use Rattle.day_replay.specs.Replay.{FindsWrong, EndsByTheDay, day_history, goes_on};
 ghost use Rattle.day_replay.specs.declared.limits.TheConstants.{BYTE_LIMIT};
 ghost use Rattle.serve_desk.specs.Told.{line_of};
-ghost use Rattle.serve_desk.specs.Serve.{IsNoNumberOfLines, ServesDay, ServesHistory};
+ghost use Rattle.serve_desk.specs.Serve.{IsNoNumberOfLines, ServesBehind, ServesDay, ServesHistory};
 
 use crate::{CALLS_PER_LINE, serve_lines};
 use call_history::Book;
@@ -21,7 +21,7 @@ use caller_lines::CallerLine;
 use day_replay::{take_day, write_history};
 use desk_base::NoMemory;
 use desk_io::{Sink, Source, Status};
-use desk_model::{Booked, DeskCore, LAST_CALLER, Stated};
+use desk_model::{Booked, DeskCore, LAST_CALLER, Opening, Stated, one_history_is_legal};
 use desk_text::DayFile;
 use fast_core::FastCore;
 use std::alloc::Global;
@@ -132,18 +132,65 @@ fn serve_day<R: Threads + Wait + Sync, K: Sink>(
     ensures only { (result ≡ Status.Fine)
         ⊎ ((result ≡ Status.WriteFault) ⊎ (result ≡ Status.NoMemory)) }
 {
+    // What the desk answers is a legal history.
+    one_history_is_legal();
     let Ok(mut buffer) = Vec::with_capacity(alloc, BUFFER_BYTES) else {
         return Status::NoMemory;
     };
-    let Ok(book) = set_up(alloc, &day, lines.len()) else {
-        return Status::NoMemory;
-    };
-    let opening = day.opening;
-    drop(day);
+    match set_up(alloc, &day, lines.len()) {
+        Ok(book) => {
+            let opening = day.opening;
+            drop(day);
+            serve_book(rt, alloc, &opening, book, lines, &mut buffer, sink)
+        }
+        Err(_) => Status::NoMemory,
+    }
+}
+
+// Serves the lines at a desk over a book that was opened so, and writes the journal of the whole.
+fn serve_book<C: DeskCore + Send, R: Threads + Wait + Sync, K: Sink>(
+    rt: &R,
+    alloc: Global,
+    opening: &Opening,
+    book: Book<C>,
+    lines: &mut Vec<Box<dyn CallerLine + Send>>,
+    buffer: &mut Vec<u8>,
+    sink: &mut K,
+) -> Status
+    requires opening { opening.now ≡ (⟦<Book<C> as Booked>⟧.history book).opening }
+    requires some { 1 ≤ vec_len lines.old }
+    requires most { vec_len lines.old ≤ LAST_CALLER }
+    requires room { length (⟦<Book<C> as Booked>⟧.history book).entries + vec_len lines.old * CALLS_PER_LINE
+        ≤ ⟦<Book<C> as Booked>⟧.room book }
+    requires empty { buffer.old.items ≡ [] }
+    requires buffer_room { 512 ≤ vec_capacity buffer.old }
+    ensures fine { result ≡ Status.Fine
+        → ServesBehind (⟦<Book<C> as Booked>⟧.history book)
+        (map (λ line. line_of ((⟦<(dyn CallerLine + Send) as CallerLine>⟧ line.vtable).faults line.value)
+        (given line) (put_texts line)) lines.old.items)
+        (map (λ line. line_of ((⟦<(dyn CallerLine + Send) as CallerLine>⟧ line.vtable).faults line.value)
+        (given line) (put_texts line)) lines.new.items)
+        (Appends (K.held sink.old) (K.held sink.new)) }
+    ensures write_fault { result ≡ Status.WriteFault
+        → ServesBehind (⟦<Book<C> as Booked>⟧.history book)
+        (map (λ line. line_of ((⟦<(dyn CallerLine + Send) as CallerLine>⟧ line.vtable).faults line.value)
+        (given line) (put_texts line)) lines.old.items)
+        (map (λ line. line_of ((⟦<(dyn CallerLine + Send) as CallerLine>⟧ line.vtable).faults line.value)
+        (given line) (put_texts line)) lines.new.items)
+        (AddsFront (K.held sink.old) (K.held sink.new)) }
+    ensures unasked { result ≡ Status.NoMemory → lines.new ≡ lines.old }
+    ensures silent { result ≡ Status.NoMemory → Keeps (K.held sink.old) (K.held sink.new) }
+    ensures write_cause { result ≡ Status.WriteFault
+        → Rose (K.faults sink.old) (K.faults sink.new) }
+    ensures write_count { result ≢ Status.WriteFault → K.faults sink.new ≡ K.faults sink.old }
+    ensures later { K.faults sink.old ≤ K.faults sink.new }
+    ensures only { (result ≡ Status.Fine)
+        ⊎ ((result ≡ Status.WriteFault) ⊎ (result ≡ Status.NoMemory)) }
+{
     let Ok(book) = serve_lines(rt, alloc, book, lines) else {
         return Status::NoMemory;
     };
-    if write_history(&opening, book.entries(), &mut buffer, sink) {
+    if write_history(opening, book.entries(), buffer, sink) {
         Status::Fine
     } else {
         Status::WriteFault

@@ -1,4 +1,4 @@
-use Rattle.serve_desk.proofs.AnswerLemmas.{Answers-end, Answers-fault, Answers-reply}
+use Rattle.serve_desk.proofs.AnswerLemmas.{Answers-end, Answers-fault}
 use Rattle.serve_desk.proofs.answer.answer.Goals as goal
 
 pub returns-in-End-clause-answers : goal.returns-in-End-clause-answers

@@ -1,5 +1,4 @@
-use Rattle.std.proofs.Common.{◌<◌, arith}
-use Rattle.serve_desk.specs.declared.limits.TheConstants.{LINE_LIMIT}
+use Rattle.std.proofs.Common.{arith}
 use Rattle.serve_desk.proofs.AnswerLemmas.{Replies-too_many, Replies-too_long, Replies-no_memory, Replies-malformed}
 use Rattle.serve_desk.proofs.answer.reply.Goals as goal
 

@@ -1,4 +1,4 @@
-use Rattle.std.proofs.Common.{◌≡◌, ◌+◌, ◌-◌, ◌≤◌}
+use Rattle.std.proofs.Common.{◌≡◌, ◌-◌, ◌≤◌}
 use Rattle.turn_gate.specs.Seats.{IsSeatOf}
 use Rattle.serve_desk.specs.declared.limits.TheConstants.{LINE_LIMIT}
 use Rattle.serve_desk.specs.Told.{line_of}

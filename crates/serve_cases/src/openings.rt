@@ -1,0 +1,57 @@
+//! What the cases begin with.
+ghost use Rattle.std.specs.Prelude.{◌≡◌, ◌<◌, ◌^◌, [], IfSome};
+ghost use Rattle.desk_model.specs.History.{History};
+
+use call_history::Book;
+use caller_lines::CallerLine;
+use desk_base::{Minute, Month, Window};
+use desk_model::{Booked, Edition, Opening};
+use plain_core::PlainCore;
+use std::alloc::{AllocError, Global};
+
+/// A command of a line: who stands at the first place of the board P1, which there isn't.
+pub const LOOK: &[u8] = b"2024-03-04 00:01,at,P1,1";
+
+fn opening() -> Option<Opening> {
+    let window = Window::new(Month::read(b"2024-03")?, 1)?;
+    let start = Minute::read(b"2024-03-04 00:00")?;
+    Opening::new(start, window, 15, Edition::One)
+}
+
+/// The book of a new desk that has so many steps, fewer than 2^32.
+pub fn new_book(alloc: Global, steps: u32) -> Option<Book<PlainCore>>
+    ensures empty { IfSome result (λ book. (⟦<Book<PlainCore> as Booked>⟧.history book).entries ≡ []) }
+    ensures room { IfSome result (λ book. ⟦<Book<PlainCore> as Booked>⟧.room book ≡ steps) }
+{
+    let core = PlainCore::new(alloc, opening()?, u64::from(steps)).ok()?;
+    Book::new(alloc, core).ok()
+}
+
+/// These lines, each with its bytes.
+pub fn lines_of(alloc: Global, texts: &[&[u8]]) -> Result<Vec<Vec<u8>>, AllocError> {
+    let mut lines = Vec::with_capacity(alloc, texts.len())?;
+    for text in texts {
+        lines.push(text.to_vec(alloc)?)?;
+    }
+    Ok(lines)
+}
+
+/// So many lines, each a look.
+pub fn looks(alloc: Global, count: usize) -> Result<Vec<Vec<u8>>, AllocError> {
+    let mut lines = Vec::new(alloc);
+    for _ in 0..count {
+        lines.push(LOOK.to_vec(alloc)?)?;
+    }
+    Ok(lines)
+}
+
+/// Just these texts were put on the line, in this order.
+pub fn has_puts(line: &Box<dyn CallerLine + Send>, texts: &[&[u8]]) -> bool {
+    let count = line.put_count();
+    for (number, text) in (1..=count).zip(texts) {
+        if !line.was_put(number, text) {
+            return false;
+        }
+    }
+    count as usize == texts.len()
+}
