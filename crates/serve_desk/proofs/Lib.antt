@@ -4,3 +4,4 @@ mod AnswerLemmas
 mod SessionLemmas
 mod LineLemmas
 mod ServeLemmas
+mod LegalLemmas

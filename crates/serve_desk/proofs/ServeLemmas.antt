@@ -1,22 +1,27 @@
 -- The history of a day file's commands and of the calls of lines behind them.
-use Rattle.std.proofs.Common.{◌≡◌, ℕ, ◌+◌, ◌<◌, ◌≤◌, ◌==◌, Bool, true, false, cond, List, [], ◌∷◌, ◌++◌, length, map, take, drop, filter, slice_index_or, refl, sym, ap, subst, ◌∙◌, arith, common_steps}
+use Rattle.std.proofs.Common.{◌≡◌, ℕ, Option, ◌+◌, ◌<◌, ◌≤◌, ◌==◌, Bool, true, false, cond, List, [], ◌∷◌, ◌++◌, length, map, take, drop, filter, slice_index_or, refl, sym, ap, subst, ◌∙◌, arith}
 use Rattle.std.specs.List.{All}
-use Rattle.std.proofs.Props.{props}
+use Rattle.std.proofs.Math.Logic.{∥∥₁_elim}
+use Rattle.std.proofs.lemmas.Grind.{common_steps}
 use Rattle.std.proofs.lemmas.List.Elements.{filter-append}
 use Rattle.desk_model.specs.Entry.{EntryValue}
 use Rattle.desk_model.specs.Fits.{IsStated}
 use Rattle.desk_model.specs.History.{History, opened}
 use Rattle.desk_model.specs.Journal.{journal}
 use Rattle.desk_model.specs.Legal.{IsLegal, given}
-use Rattle.desk_model.specs.Opening.{OpeningValue}
+use Rattle.desk_model.specs.Opening.{OpeningValue, IsOpening}
 use Rattle.desk_model.specs.Statement.{StatedValue}
+use Rattle.desk_text.specs.DayFile.{IsDayFile}
+use Rattle.day_replay.specs.declared.limits.TheConstants.{BYTE_LIMIT}
+use Rattle.day_replay.specs.Ends.{WasRead}
 use Rattle.day_replay.specs.Replay.{IsReplay, by_the_day_file, day_history}
 use Rattle.day_replay.proofs.HistoryLemmas.{goes_on-length}
 use Rattle.turn_gate.specs.Told.{own, IsNumber}
 use Rattle.serve_desk.specs.declared.limits.TheConstants.{CALLS_PER_LINE}
 use Rattle.serve_desk.specs.Told.{LineValue}
 use Rattle.serve_desk.specs.AllLines.{IsServed}
-use Rattle.serve_desk.specs.Serve.{ServesBehind, ServesHistory}
+use Rattle.serve_desk.proofs.LegalLemmas.{IsLegal-IsProp}
+use Rattle.serve_desk.specs.Serve.{ServesBehind, ServesHistory, ServesDay}
 
 -- caller 0 stated what the day file has, so no line's caller did
 own-day : (es : List EntryValue) (commands : List StatedValue) (number : ℕ) → 0 < number → map given es ≡ map by_the_day_file commands → own es number ≡ []
@@ -43,7 +48,7 @@ ServesHistory-served o commands h lines later Writes is replay behind =
     record {
       history = after;
       opened = behind.opened ∙ ap (λ x. x.opening) is ∙ replay.opening;
-      legal = ∥∥₁_elim behind.legal (hlevel props) (λ x. x);
+      legal = ∥∥₁_elim behind.legal (IsLegal-IsProp after) (λ x. x);
       setup = ap (map given) front ∙ replay.given;
       callers = subst (All (λ e. IsNumber (length lines) e.caller)) (sym rest) served.callers;
       count = served.count;
@@ -53,3 +58,24 @@ ServesHistory-served o commands h lines later Writes is replay behind =
           subst (λ es. IsServed CALLS_PER_LINE es (slice_index_or lines i line) (slice_index_or later i line)) mine (served.each i line within);
       written = behind.written;
     }
+
+-- a day file was taken, and lines were served behind it; and what was done with their journal is as if nothing had been done before
+pub ServesDay-taken : (before after : Option (List ℕ)) (o : OpeningValue) (commands : List StatedValue) (lines later : List LineValue) (Writes WritesAll : List ℕ → Type 0)
+    → ((text : List ℕ) → Writes text → WritesAll text) → IsOpening o → WasRead BYTE_LIMIT before after (λ bytes. IsDayFile bytes o commands)
+    → ServesHistory o commands lines later Writes → ServesDay before after lines later WritesAll
+ServesDay-taken before after o commands lines later Writes WritesAll as_well valid read serves = record {
+  opening = o;
+  valid = valid;
+  commands = commands;
+  read = read;
+  serves = record {
+    history = serves.history;
+    opened = serves.opened;
+    legal = serves.legal;
+    setup = serves.setup;
+    callers = serves.callers;
+    count = serves.count;
+    each = serves.each;
+    written = as_well (journal serves.history) serves.written;
+  };
+}
