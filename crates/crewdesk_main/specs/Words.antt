@@ -84,3 +84,8 @@ reads other = false
 abbrev pub is_asked : (Form → Bool) → Option Form → Bool
 is_asked test None = false
 is_asked test (Some form) = test form
+
+-- the names of the callers that are to be served; none where the first word isn't `serve`
+abbrev pub callers_of : List (String Global) → Option (List (String Global))
+callers_of [] = None
+callers_of (word ∷ names) = if is_word (codes "serve") word then Some names else None

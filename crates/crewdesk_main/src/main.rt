@@ -1,4 +1,4 @@
-//! The crew calling desk: replays day files, and audits journals.
+//! The crew calling desk: replays day files, serves callers, and audits journals.
 #![tactic(auto)]
 
 mod audit_form;
@@ -13,9 +13,11 @@ mod generate;
 mod go_on;
 mod limits;
 mod lines_law;
+mod named_callers;
 mod read_number;
 mod read_tours;
 mod run;
+mod serve_form;
 mod take_journal;
 mod tour_form;
 mod tours;
@@ -24,6 +26,8 @@ mod write_text;
 
 use desk_io::{ReaderSource, Status, WriterSink};
 use forms::perform;
+use named_callers::named_callers;
+use serve_form::serve_callers;
 use std::env;
 use std::io::ErrorKind;
 use std::process::ExitCode;
@@ -34,7 +38,10 @@ fn main(rt: HostRuntime) -> ExitCode {
     let mut source = ReaderSource::new(rt.stdin());
     let mut sink = WriterSink::new(rt.stdout());
     let status = match given_words(&rt) {
-        Ok(words) => perform(rt.alloc(), &words, &mut source, &mut sink),
+        Ok(words) => match named_callers(&words) {
+            Some(names) => serve_callers(&rt, names, &mut source, &mut sink),
+            None => perform(rt.alloc(), &words, &mut source, &mut sink),
+        },
         Err(status) => status,
     };
     if status != Status::Fine {
