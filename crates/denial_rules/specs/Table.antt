@@ -68,6 +68,10 @@ first_some (None ∷ rest) = first_some rest
 abbrev pub first_bar : Facts → Option Bar
 first_bar facts = first_some (rows facts)
 
+-- the same facts, where the law bars nobody
+abbrev pub without_law : Facts → Facts
+without_law facts = record facts { law = None }
+
 -- no row holds
 pub record IsFree (facts : Facts) : Type 0 where
   pub marked_on : ¬ IsTrue facts.marked_off

@@ -3,10 +3,12 @@
 
 mod bar;
 mod facts;
+mod laws;
 mod table;
 
 pub use bar::{Bar, name};
 pub use facts::Facts;
+pub use laws::the_law_comes_last;
 pub use table::first_bar;
 
 #[cfg(test)]
