@@ -9,7 +9,7 @@ mod table;
 pub use bar::{Bar, name};
 pub use facts::Facts;
 pub use laws::the_law_comes_last;
-pub use table::first_bar;
+pub use table::{busy_bar, first_bar};
 
 #[cfg(test)]
 mod tests;

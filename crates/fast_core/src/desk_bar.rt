@@ -4,6 +4,7 @@ ghost use Rattle.month_hours.specs.Plan.{plan_of};
 ghost use Rattle.desk_model.specs.declared.person.Person.{Person};
 ghost use Rattle.desk_model.specs.History.{History};
 ghost use Rattle.desk_model.specs.Register.{person_of};
+ghost use Rattle.desk_model.specs.Offers.{on_offer};
 ghost use Rattle.desk_model.specs.Bars.{bar_of};
 ghost use Rattle.desk_answers.specs.Asked.{IsAsked};
 ghost use Rattle.fast_core.specs.Desk.{Tells};
@@ -14,7 +15,7 @@ use crate::candidate::Candidate;
 use crate::desk::Desk;
 use crate::job_asked::JobAsked;
 use denial_rules::{Bar, first_bar, the_law_comes_last};
-use desk_base::{Minute, PersonNo};
+use desk_base::{Minute, PersonNo, VacNo};
 use desk_model::Job;
 use month_hours::{Plan, PlanMonths};
 
@@ -45,17 +46,35 @@ impl Desk {
         }
     }
 
-    /// The first bar that keeps an enrolled person from the job that is asked about; `None` where nothing does.
-    pub fn bar_of(&self, asked: &JobAsked, person: &Candidate) -> Option<Bar>
+    // The first bar that keeps an enrolled person from the job that is asked about, of all bars; `offered` is the vacancy that is on
+    // offer to them.
+    fn bar_by_facts(
+        &self,
+        asked: &JobAsked,
+        person: &Candidate,
+        offered: Option<VacNo>,
+    ) -> Option<Bar>
         ensures { (h : History) (p : ℕ) (who : Person) → Tells self.now h → IsJobAsked asked.now h → IsCandidate person.now h p
-            → person_of h p ≡ Some who → result ≡ bar_of h asked.now.moment asked.now.job.now p who }
+            → person_of h p ≡ Some who → offered ≡ on_offer h p → result ≡ bar_of h asked.now.moment asked.now.job.now p who }
     {
         the_law_comes_last();
-        let offered = self.on_offer(person.number);
         let until = self.held(asked.moment, &asked.job.chain(), person.place);
         match first_bar(&person.facts(asked, offered, until)) {
             Some(bar) => Some(bar),
             None => person.law(asked),
+        }
+    }
+
+    /// The first bar that keeps an enrolled person from the job that is asked about; `None` where nothing does. The bars that are
+    /// told before all others are looked for first, by themselves.
+    pub fn bar_of(&self, asked: &JobAsked, person: &Candidate) -> Option<Bar>
+        ensures { (h : History) (p : ℕ) (who : Person) → Tells self.now h → IsJobAsked asked.now h → IsCandidate person.now h p
+            → person_of h p ≡ Some who → result ≡ bar_of h asked.now.moment asked.now.job.now p who }
+    {
+        let offered = self.on_offer(person.number);
+        match person.busy_bar(&offered) {
+            Some(bar) => Some(bar),
+            None => self.bar_by_facts(asked, person, offered),
         }
     }
 

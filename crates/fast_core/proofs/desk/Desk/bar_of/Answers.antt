@@ -1,16 +1,8 @@
-use Rattle.std.proofs.Common.{◌≡◌, sym, ap, ◌∙◌}
-use Rattle.std.specs.Option.{option_or}
-use Rattle.denial_rules.specs.Table.{first_bar}
+use Rattle.std.proofs.Common.{sym, ap, ◌∙◌}
 use Rattle.desk_model.specs.Offers.{on_offer}
-use Rattle.desk_model.specs.Held.{held}
-use Rattle.desk_model.specs.Bars.{facts_of}
 use Rattle.fast_core.proofs.desk.Desk.bar_of.Goals as goal
 
 pub returns-in-Some : goal.returns-in-Some
 returns-in-Some c h p who tells asked is known =
     let a = c.args.asked.now in
-    let facts = facts_of h a.moment a.job.now p who in
-    let offered : c.on_offer-offered.result ≡ on_offer h p = c.on_offer-offered.ensures h tells ∙ ap (on_offer h) is.number in
-    let until : c.held-until.result ≡ held h a.moment a.job.now.chain p = c.held-until.ensures h p tells is.place ∙ ap (λ chain. held h a.moment chain p) c.chain.ensures in
-    let own = c.facts.ensures h p who tells.legal is asked known offered until in
-    sym (c.the_law_comes_last.ensures facts ∙ ap (λ o. option_or o facts.law) (ap first_bar (sym own) ∙ sym c.first_bar.ensures.first ∙ c.in-Some.is))
+    sym (c.busy_bar.ensures h p who a.moment a.job.now c.in-Some.bar tells.legal is known (c.on_offer-offered.ensures h tells ∙ ap (on_offer h) is.number) c.in-Some.is)
