@@ -1,10 +1,16 @@
 -- Where no row holds.
-use Rattle.std.proofs.Common.{◌≡◌, ℕ, Bool, true, false, if◌then◌else◌, List, [], ◌∷◌, Option, None, Some, refl}
-use Rattle.std.specs.Option.{option_map}
+use Rattle.std.proofs.Common.{◌≡◌, ℕ, Bool, true, false, if◌then◌else◌, List, [], ◌∷◌, ◌++◌, Option, None, Some, refl, sym, ap, ◌∙◌}
+use Rattle.std.specs.Option.{option_map, option_or}
 use Rattle.denial_rules.specs.declared.bar.Bar.{Bar}
 use Rattle.denial_rules.specs.declared.bar.Bar.TheVariants as bar
 use Rattle.denial_rules.specs.declared.facts.Facts.{Facts}
-use Rattle.denial_rules.specs.Table.{marked_off_row, busy_row, on_offer_row, place_row, craft_row, quals_row, answered_row, held_row, law_row, first_some, first_bar}
+use Rattle.denial_rules.specs.Table.{marked_off_row, busy_row, on_offer_row, place_row, craft_row, quals_row, answered_row, held_row, law_row, first_some, first_bar, without_law}
+
+-- the first of some rows, else of those behind them
+pub first_some-append : (xs ys : List (Option Bar)) → first_some (xs ++ ys) ≡ option_or (first_some xs) (first_some ys)
+first_some-append [] ys = refl
+first_some-append (None ∷ xs) ys = first_some-append xs ys
+first_some-append (Some x ∷ xs) ys = refl
 
 -- where no row holds, neither the first nor those behind it do
 pub both-none : (row : Option Bar) (rest : List (Option Bar)) → first_some (row ∷ rest) ≡ None → (row ≡ None) × (first_some rest ≡ None)
@@ -36,3 +42,32 @@ first_bar-none facts none =
     let answered = (both-none (quals_row facts) _ quals).1 in
     let held = (both-none (answered_row facts) _ answered).1 in
     let law = both-none (held_row facts) _ held in (busy-none facts offer.0, held-none facts law.0, (both-none (law_row facts) [] law.1).0)
+
+-- the rows but the last
+own_rows : Facts → List (Option Bar)
+own_rows facts =
+    marked_off_row facts
+    ∷ busy_row facts
+    ∷ on_offer_row facts
+    ∷ place_row facts
+    ∷ craft_row facts
+    ∷ quals_row facts
+    ∷ answered_row facts
+    ∷ held_row facts
+    ∷ []
+
+option_or-none : (o : Option Bar) → option_or o None ≡ o
+option_or-none None = refl
+option_or-none (Some b) = refl
+
+first_some-one : (o : Option Bar) → first_some (o ∷ []) ≡ o
+first_some-one None = refl
+first_some-one (Some b) = refl
+
+-- the law's row is the last
+pub first_bar-law : (facts : Facts) → first_bar facts ≡ option_or (first_bar (without_law facts)) facts.law
+unfolding own_rows
+first_bar-law facts =
+    let own = first_some (own_rows facts) in
+    let without : first_bar (without_law facts) ≡ own = first_some-append (own_rows facts) (None ∷ []) ∙ option_or-none own in
+    first_some-append (own_rows facts) (facts.law ∷ []) ∙ ap (option_or own) (first_some-one facts.law) ∙ ap (λ o. option_or o facts.law) (sym without)

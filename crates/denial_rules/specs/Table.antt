@@ -1,6 +1,6 @@
 -- The table of bars: its rows, in order, and the first that holds.
-use Rattle.std.specs.Prelude.{◌≡◌, IsTrue, IsNone, Option, None, Some, if◌then◌else◌, List, [], ◌∷◌}
-use Rattle.std.specs.Option.{option_map}
+use Rattle.std.specs.Prelude.{◌≡◌, ℕ, Bool, IsTrue, IsNone, Option, None, Some, if◌then◌else◌, List, [], ◌∷◌}
+use Rattle.std.specs.Option.{option_map, option_or}
 use Rattle.std.specs.Str.{bytes_eq}
 use Rattle.qualifications.specs.Craft.{craft_eq}
 use Rattle.qualifications.specs.Quals.{HasAll, lowest_missing}
@@ -67,6 +67,17 @@ first_some (None ∷ rest) = first_some rest
 -- the first row that holds
 abbrev pub first_bar : Facts → Option Bar
 first_bar facts = first_some (rows facts)
+
+-- the first bar of who is marked off, in a tour, assigned or on offer
+abbrev pub busy_bar : Bool → Bool → Option ℕ → Option ℕ → Option Bar
+busy_bar marked_off in_tour assigned on_offer =
+    if marked_off then Some bar.MarkedOff
+    else if in_tour then Some bar.InTour
+    else option_or (option_map (λ vacancy. bar.Assigned vacancy) assigned) (option_map (λ vacancy. bar.OnOffer vacancy) on_offer)
+
+-- the same facts, where the law bars nobody
+abbrev pub without_law : Facts → Facts
+without_law facts = record facts { law = None }
 
 -- no row holds
 pub record IsFree (facts : Facts) : Type 0 where

@@ -3,11 +3,13 @@
 
 mod bar;
 mod facts;
+mod laws;
 mod table;
 
 pub use bar::{Bar, name};
 pub use facts::Facts;
-pub use table::first_bar;
+pub use laws::the_law_comes_last;
+pub use table::{busy_bar, first_bar};
 
 #[cfg(test)]
 mod tests;

@@ -1,7 +1,10 @@
-ghost use Rattle.std.specs.Prelude.{◌≡◌, ◌↔◌, IsNone};
-ghost use Rattle.denial_rules.specs.Table.{first_bar, IsFree};
+ghost use Rattle.std.specs.Prelude.{◌≡◌, ◌↔◌, IsNone, Some};
+ghost use Rattle.denial_rules.specs.declared.facts.Facts.{Facts};
+ghost use Rattle.denial_rules.specs.declared.bar.Bar.{Bar};
+ghost use Rattle.denial_rules.specs.Table.{first_bar, busy_bar, IsFree};
 
 use crate::{Bar, Facts};
+use desk_base::VacNo;
 
 /// The first bar that holds, this desk's own rules before the law; `None` where the person may be offered
 /// the vacancy.
@@ -29,5 +32,30 @@ pub fn first_bar(facts: &Facts) -> Option<Bar>
         Some(Bar::Held(until))
     } else {
         facts.law
+    }
+}
+
+/// The first bar of who is marked off, in a tour, assigned or on offer, before which no other is told; `None` where none of these
+/// holds.
+pub fn busy_bar(
+    marked_off: bool,
+    in_tour: bool,
+    assigned: Option<VacNo>,
+    on_offer: Option<VacNo>,
+) -> Option<Bar>
+    ensures value { result ≡ busy_bar marked_off in_tour assigned on_offer }
+    ensures first { (facts : Facts) (bar : Bar) → facts.marked_off ≡ marked_off → facts.in_tour ≡ in_tour
+        → facts.assigned ≡ assigned → facts.on_offer ≡ on_offer → result ≡ Some bar → first_bar facts ≡ Some bar }
+{
+    if marked_off {
+        Some(Bar::MarkedOff)
+    } else if in_tour {
+        Some(Bar::InTour)
+    } else if let Some(vacancy) = assigned {
+        Some(Bar::Assigned(vacancy))
+    } else if let Some(vacancy) = on_offer {
+        Some(Bar::OnOffer(vacancy))
+    } else {
+        None
     }
 }

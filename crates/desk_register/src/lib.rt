@@ -5,6 +5,7 @@ mod add_last;
 mod board_changes;
 mod board_reads;
 mod boards;
+mod enrolled;
 mod kept_person;
 mod kept_vacancy;
 mod laws;
@@ -19,6 +20,7 @@ mod vacancy_changes;
 mod vacancy_reads;
 
 pub use boards::Boards;
+pub use enrolled::Enrolled;
 pub use kept_person::KeptPerson;
 pub use kept_vacancy::KeptVacancy;
 pub use laws::who_is_enrolled_has_a_place;

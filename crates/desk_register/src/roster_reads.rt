@@ -1,10 +1,11 @@
 ghost use Rattle.std.specs.Prelude.{◌≡◌, ◌≤◌, ◌<◌, ◌+◌, ℕ, nat_eq, if◌then◌else◌, Option, None, Some, OnOk, is_some, IfOk, IfSome, List, [], ◌∷◌, ◌++◌, length};
-ghost use Rattle.std.specs.Option.{option_copied};
+ghost use Rattle.std.specs.Option.{option_copied, option_map};
 ghost use Rattle.desk_register.specs.Among.{place_among};
 ghost use Rattle.desk_register.specs.Persons.{person_under, person_numbers};
 ghost use Rattle.desk_model.specs.declared.limits.TheConstants.{PERSON_LIMIT};
 
 use crate::add_last::add_last;
+use crate::enrolled::Enrolled;
 use crate::kept_person::KeptPerson;
 use crate::roster::Roster;
 use desk_base::{NoMemory, PersonNo};
@@ -36,6 +37,16 @@ impl Roster {
         ensures found { is_some result ≡ is_some (person_under self.now person) }
     {
         self.kept.get_index_of(&person)
+    }
+
+    /// The place of this person among all, below 1,000, and what is kept of them; `None` where nobody has the number.
+    pub fn find(&self, person: PersonNo) -> Option<Enrolled<'_>>
+        ensures place { option_map (λ x. x.place) result ≡ place_among (person_numbers self.now) person }
+        ensures kept { option_map (λ x. x.kept.now) result ≡ person_under self.now person }
+        ensures range { IfSome result (λ x. x.place < PERSON_LIMIT) }
+    {
+        let (place, _, kept) = self.kept.get_full(&person)?;
+        Some(Enrolled { place, kept })
     }
 
     /// How many are enrolled.

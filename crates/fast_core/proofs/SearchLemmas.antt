@@ -30,9 +30,11 @@ use Rattle.desk_lists.specs.Places.{has_board}
 use Rattle.desk_lists.specs.declared.lists.Lists.{Lists}
 use Rattle.desk_lists.specs.Lists.{KeepsLists, Keeps, boards_kept, is_on_one, IsOnOne}
 use Rattle.fast_core.specs.declared.desk.Desk.{Desk}
+use Rattle.fast_core.specs.declared.job_asked.JobAsked.{JobAsked}
+use Rattle.fast_core.specs.Judged.{IsJobAsked}
 use Rattle.fast_core.specs.Desk.{Tells}
 use Rattle.desk_lists.proofs.BitLemmas.{no-board}
-use Rattle.fast_core.specs.Search.{bar_by, bar_for, bar_unless, was_searched, Asks, Judges, HasSearched, board_steps, chain_steps}
+use Rattle.fast_core.specs.Search.{bar_by, bar_for, bar_unless, was_searched, Judges, HasSearched, board_steps, chain_steps}
 use Rattle.fast_core.proofs.OfferLemmas.{code-at}
 
 -- the law: who isn't ready is barred
@@ -219,33 +221,33 @@ was-on law d h p searched tells fits was = go (place_among (persons h) p) refl w
 by : Desk → History → ℕ → JobValue → ℕ → ℕ → Option Bar
 by d h m job searched p = bar_unless (was_searched d h searched p) (bar_for h m job p)
 
-by-agrees : KeptIsOn → (d : Desk) (h : History) (m : ℕ) (job : JobValue) (searched : ℕ) → Asks d m job h → HasSearched h m job searched → Agrees (by d h m job searched) h m job
+by-agrees : KeptIsOn → (d : Desk) (h : History) (m : ℕ) (job : JobValue) (searched : ℕ) → Tells d h → HasSearched h m job searched → Agrees (by d h m job searched) h m job
 unfolding by
-by-agrees law d h m job searched asks before p =
-    unless-agrees (was_searched d h searched p) (bar_for h m job p) (λ was. before.barred p (was-on law d h p searched asks.tells before.fits was))
+by-agrees law d h m job searched tells before p =
+    unless-agrees (was_searched d h searched p) (bar_for h m job p) (λ was. before.barred p (was-on law d h p searched tells before.fits was))
 
-by-judges : (d : Desk) (h : History) (m : ℕ) (job : JobValue) (searched : ℕ) → Asks d m job h → Judges d m job searched (by d h m job searched)
+by-judges : (d : Desk) (h : History) (a : JobAsked) (searched : ℕ) → Tells d h → IsJobAsked a h → Judges d a searched (by d h a.moment a.job.now searched)
 unfolding by
-by-judges d h m job searched asks = record { history = h; asks = asks; bars = λ p. refl }
+by-judges d h a searched tells asked = record { history = h; tells = tells; asked = asked; bars = λ p. refl }
 
 -- so the call finds the first of a board who may have the job
-pub call-first : KeptIsOn → (d : Desk) (h : History) (m : ℕ) (job : JobValue) (searched : ℕ) (seen : List BoardValue) (b : List ℕ) (j : ℕ) (found : Option Found) → BarsTours h → BarsRest h
-    → Asks d m job h → HasSearched h m job searched → seen ≡ boards_kept d.lists → board_place (boards h) b ≡ Some j
-    → ((barred : ℕ → Option Bar) → Judges d m job searched barred → All (λ index. BarsUnready barred m (members_at seen index)) (j ∷ [])
+pub call-first : KeptIsOn → (d : Desk) (h : History) (a : JobAsked) (searched : ℕ) (seen : List BoardValue) (b : List ℕ) (j : ℕ) (found : Option Found) → BarsTours h → BarsRest h
+    → Tells d h → IsJobAsked a h → HasSearched h a.moment a.job.now searched → seen ≡ boards_kept d.lists → board_place (boards h) b ≡ Some j
+    → ((barred : ℕ → Option Bar) → Judges d a searched barred → All (λ index. BarsUnready barred a.moment (members_at seen index)) (j ∷ [])
     → found ≡ first_found barred (chain_from seen 0 (j ∷ [])))
-    → option_map (link_at b) found ≡ find (λ link. is_free h m job link.person) (links b 1 (order h b))
-call-first law d h m job searched seen b j found tours rest asks before same at finds =
-    let barred = by d h m job searched in
-    found-first h m job (boards_kept d.lists) seen _ b j found barred (by-agrees law d h m job searched asks before) tours rest asks.tells.lists.lists same at
-    (finds barred (by-judges d h m job searched asks))
+    → option_map (link_at b) found ≡ find (λ link. is_free h a.moment a.job.now link.person) (links b 1 (order h b))
+call-first law d h a searched seen b j found tours rest tells asked before same at finds =
+    let barred = by d h a.moment a.job.now searched in
+    found-first h a.moment a.job.now (boards_kept d.lists) seen _ b j found barred (by-agrees law d h a.moment a.job.now searched tells before) tours rest tells.lists.lists same at
+    (finds barred (by-judges d h a searched tells asked))
 
 -- and reads no more than the board's members give
-pub call-steps : KeptIsOn → (d : Desk) (h : History) (m : ℕ) (job : JobValue) (searched : ℕ) (seen : List BoardValue) (b : List ℕ) (j old new : ℕ) → BarsTours h → BarsRest h
-    → Asks d m job h → HasSearched h m job searched → seen ≡ boards_kept d.lists → board_place (boards h) b ≡ Some j
-    → ((barred : ℕ → Option Bar) → Judges d m job searched barred → All (λ index. BarsUnready barred m (members_at seen index)) (j ∷ [])
-    → new ≤ old + most_steps barred m seen (j ∷ []))
-    → new ≤ old + board_steps (boards_kept d.lists) (bar_for h m job) m (board_place (boards h) b)
-call-steps law d h m job searched seen b j old new tours rest asks before same at reads =
-    let barred = by d h m job searched in
-    found-steps h m job (boards_kept d.lists) seen _ b j old new barred (by-agrees law d h m job searched asks before) tours rest asks.tells.lists.lists same at
-    (reads barred (by-judges d h m job searched asks))
+pub call-steps : KeptIsOn → (d : Desk) (h : History) (a : JobAsked) (searched : ℕ) (seen : List BoardValue) (b : List ℕ) (j old new : ℕ) → BarsTours h → BarsRest h
+    → Tells d h → IsJobAsked a h → HasSearched h a.moment a.job.now searched → seen ≡ boards_kept d.lists → board_place (boards h) b ≡ Some j
+    → ((barred : ℕ → Option Bar) → Judges d a searched barred → All (λ index. BarsUnready barred a.moment (members_at seen index)) (j ∷ [])
+    → new ≤ old + most_steps barred a.moment seen (j ∷ []))
+    → new ≤ old + board_steps (boards_kept d.lists) (bar_for h a.moment a.job.now) a.moment (board_place (boards h) b)
+call-steps law d h a searched seen b j old new tours rest tells asked before same at reads =
+    let barred = by d h a.moment a.job.now searched in
+    found-steps h a.moment a.job.now (boards_kept d.lists) seen _ b j old new barred (by-agrees law d h a.moment a.job.now searched tells before) tours rest tells.lists.lists same at
+    (reads barred (by-judges d h a searched tells asked))

@@ -1,4 +1,5 @@
 pub mod Crew
 pub mod Desk
+pub mod Judged
 pub mod Search
 pub mod Core

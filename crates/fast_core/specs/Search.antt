@@ -10,11 +10,12 @@ use Rattle.desk_model.specs.Job.{JobValue}
 use Rattle.desk_model.specs.History.{History}
 use Rattle.desk_model.specs.Register.{person_of, persons, boards}
 use Rattle.desk_model.specs.Bars.{bar_of}
-use Rattle.desk_answers.specs.Asked.{IsAsked}
 use Rattle.desk_register.specs.Among.{place_among, board_place}
 use Rattle.desk_lists.specs.Lists.{boards_kept, is_on_one, IsOnOne}
 use Rattle.fast_core.specs.Desk.{Tells}
+use Rattle.fast_core.specs.Judged.{IsJobAsked}
 use Rattle.fast_core.specs.declared.desk.Desk.{Desk}
+use Rattle.fast_core.specs.declared.job_asked.JobAsked.{JobAsked}
 
 -- what bars somebody from the job at a moment; nobody has it who isn't enrolled
 abbrev pub bar_by : History → ℕ → JobValue → ℕ → Option Person → Option Bar
@@ -23,11 +24,6 @@ bar_by h m job p (Some person) = bar_of h m job p person
 
 abbrev pub bar_for : History → ℕ → JobValue → ℕ → Option Bar
 bar_for h m job p = bar_by h m job p (person_of h p)
-
--- the desk tells of the history, in which this vacancy is asked about at this moment
-pub record Asks (d : Desk) (m : ℕ) (job : JobValue) (h : History) : Type 0 where
-  pub tells : Tells d h
-  pub asked : IsAsked h m job
 
 -- the person is kept as on one of the boards that were searched, each a bit by its place among all
 abbrev pub was_searched : Desk → History → ℕ → ℕ → Bool
@@ -44,10 +40,11 @@ bar_unless true other = Some bar.MarkedOff
 bar_unless false other = other
 
 -- the desk tells of a history in which the vacancy is asked about, and each person is barred so
-pub record Judges (d : Desk) (m : ℕ) (job : JobValue) (searched : ℕ) (barred : ℕ → Option Bar) : Type 0 where
+pub record Judges (d : Desk) (a : JobAsked) (searched : ℕ) (barred : ℕ → Option Bar) : Type 0 where
   pub history : History
-  pub asks : Asks d m job history
-  pub bars : (p : ℕ) → barred p ≡ bar_unless (was_searched d history searched p) (bar_for history m job p)
+  pub tells : Tells d history
+  pub asked : IsJobAsked a history
+  pub bars : (p : ℕ) → barred p ≡ bar_unless (was_searched d history searched p) (bar_for history a.moment a.job.now p)
 
 -- a search of a board of 2^10 slots reads at most 4 * (10 + 1) nodes for each member who is ready at the moment and has a bar, and
 -- as many once more

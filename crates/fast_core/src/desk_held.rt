@@ -1,11 +1,13 @@
 //! Until when a person is held after declines.
-ghost use Rattle.std.specs.Prelude.{◌≡◌, ◌∷◌, [], max};
+ghost use Rattle.std.specs.Prelude.{◌≡◌, ◌∷◌, [], ℕ, Some, max};
 ghost use Rattle.desk_model.specs.History.{History};
+ghost use Rattle.desk_model.specs.Register.{persons};
 ghost use Rattle.desk_model.specs.Held.{hold_end, held};
+ghost use Rattle.desk_register.specs.Among.{place_among};
 ghost use Rattle.fast_core.specs.Desk.{Tells};
 
 use crate::desk::Desk;
-use desk_base::{Code, Minute, PersonNo};
+use desk_base::{Code, Minute};
 use desk_model::{Chain, Edition, a_hold_is_by_boards};
 
 // The later of two minutes.
@@ -17,18 +19,20 @@ fn later(one: Minute, other: Minute) -> Minute
 
 impl Desk {
     // Until when the person is held by this board alone; the first minute of all where they aren't.
-    fn hold_by(&self, board: &Code, person: PersonNo) -> Minute
-        ensures { (h : History) → Tells self.now h → result ≡ hold_end h (board.now ∷ []) person }
+    fn hold_by(&self, board: &Code, person: usize) -> Minute
+        ensures { (h : History) (p : ℕ) → Tells self.now h → place_among (persons h) p ≡ Some person
+            → result ≡ hold_end h (board.now ∷ []) p }
     {
-        match (self.person_place(person), self.board_place(board)) {
-            (Some(person), Some(board)) => self.offers.hold_end(person, board),
-            _ => Minute::FIRST,
+        match self.board_place(board) {
+            Some(board) => self.offers.hold_end(person, board),
+            None => Minute::FIRST,
         }
     }
 
     // Until when the person is held by a chain's boards.
-    fn hold_end(&self, boards: &Chain, person: PersonNo) -> Minute
-        ensures { (h : History) → Tells self.now h → result ≡ hold_end h boards.now person }
+    fn hold_end(&self, boards: &Chain, person: usize) -> Minute
+        ensures { (h : History) (p : ℕ) → Tells self.now h → place_among (persons h) p ≡ Some person
+            → result ≡ hold_end h boards.now p }
     {
         a_hold_is_by_boards();
         let mut end = Minute::FIRST;
@@ -38,9 +42,10 @@ impl Desk {
         end
     }
 
-    /// Until when the person is held from vacancies of this chain, at this moment; `None` where they aren't.
-    pub fn held(&self, moment: Minute, boards: &Chain, person: PersonNo) -> Option<Minute>
-        ensures { (h : History) → Tells self.now h → result ≡ held h moment boards.now person }
+    /// Until when the person at this place among all is held from vacancies of this chain, at this moment; `None` where they aren't.
+    pub fn held(&self, moment: Minute, boards: &Chain, person: usize) -> Option<Minute>
+        ensures { (h : History) (p : ℕ) → Tells self.now h → place_among (persons h) p ≡ Some person
+            → result ≡ held h moment boards.now p }
     {
         if self.opening.edition() == Edition::One {
             return None;

@@ -2,11 +2,13 @@
 #![tactic(auto)]
 
 mod call;
+mod candidate;
+mod candidate_facts;
+mod candidate_law;
 mod crew;
+mod crew_candidate;
 mod crew_duty;
-mod crew_facts;
 mod crew_keep;
-mod crew_law;
 mod desk;
 mod desk_bar;
 mod desk_boards;
@@ -17,6 +19,7 @@ mod desk_offer;
 mod desk_places;
 mod desk_reads;
 mod fast_core;
+mod job_asked;
 mod looks;
 mod search;
 mod step;

@@ -2,15 +2,18 @@
 ghost use Rattle.std.specs.Prelude.{◌≡◌, ◌≤◌, ◌+◌};
 ghost use Rattle.desk_model.specs.History.{History};
 ghost use Rattle.desk_model.specs.Bars.{first_free};
-ghost use Rattle.fast_core.specs.Search.{Asks, HasSearched, search_steps};
+ghost use Rattle.fast_core.specs.Desk.{Tells};
+ghost use Rattle.fast_core.specs.Judged.{IsJobAsked};
+ghost use Rattle.fast_core.specs.Search.{HasSearched, search_steps};
 
 use crate::call::Call;
 use crate::desk::Desk;
+use crate::job_asked::JobAsked;
 use denial_rules::Bar;
-use desk_base::{Code, Minute, PersonNo};
+use desk_base::{Code, PersonNo};
 use desk_lists::who_is_kept_on_a_board_is_on_it;
 use desk_model::{
-    Job, Link, order_is_by_rank, who_is_not_ready_is_barred, who_is_on_a_board_is_listed,
+    Link, order_is_by_rank, who_is_not_ready_is_barred, who_is_on_a_board_is_listed,
 };
 use desk_register::who_is_enrolled_has_a_place;
 use slot_tree::Steps;
@@ -20,14 +23,16 @@ use vacancy_fill::{Judge, first};
 impl Judge for Call<'_> {
     ghost use Rattle.fast_core.specs.Search.{Judges};
 
-    ghost judges = { λ call barred. Judges call.desk.now call.moment call.job.now call.searched barred };
+    ghost judges = { λ call barred. Judges call.desk.now call.asked.now call.searched barred };
 
     fn bar(&self, person: PersonNo) -> Option<Bar> {
-        if self.desk.is_on_one(person, self.searched) {
-            Some(Bar::MarkedOff)
-        } else {
-            self.desk.bar(self.moment, self.job, person)
+        let Some(person) = self.desk.crew.candidate(person) else {
+            return Some(Bar::MarkedOff);
+        };
+        if self.desk.lists.is_on_one(person.place, self.searched) {
+            return Some(Bar::MarkedOff);
         }
+        self.desk.bar_of(self.asked, &person)
     }
 }
 
@@ -42,11 +47,11 @@ impl Call<'_> {
 
     // The first place of the board whose person nothing bars; `None` where all are barred.
     fn first_on<L: Ledger>(&self, board: &Code, steps: &mut Steps<L>) -> Option<Link>
-        ensures first { (h : History) → Asks self.now.desk.now self.now.moment self.now.job.now h
-            → HasSearched h self.now.moment self.now.job.now self.now.searched → result ≡ find (λ link. is_free h self.now.moment self.now.job.now link.person) (links board.now 1 (order h board.now)) }
-        ensures steps { (h : History) → Asks self.now.desk.now self.now.moment self.now.job.now h
-            → HasSearched h self.now.moment self.now.job.now self.now.searched
-            → steps.new ≤ steps.old + board_steps (boards_kept self.now.desk.now.lists) (bar_for h self.now.moment self.now.job.now) self.now.moment (board_place (boards h) board.now) }
+        ensures first { (h : History) → Tells self.now.desk.now h → IsJobAsked self.now.asked.now h
+            → HasSearched h self.now.asked.now.moment self.now.asked.now.job.now self.now.searched → result ≡ find (λ link. is_free h self.now.asked.now.moment self.now.asked.now.job.now link.person) (links board.now 1 (order h board.now)) }
+        ensures steps { (h : History) → Tells self.now.desk.now h → IsJobAsked self.now.asked.now h
+            → HasSearched h self.now.asked.now.moment self.now.asked.now.job.now self.now.searched
+            → steps.new ≤ steps.old + board_steps (boards_kept self.now.desk.now.lists) (bar_for h self.now.asked.now.moment self.now.asked.now.job.now) self.now.asked.now.moment (board_place (boards h) board.now) }
     {
         who_is_not_ready_is_barred();
         who_is_kept_on_a_board_is_on_it();
@@ -59,7 +64,7 @@ impl Call<'_> {
         if at >= boards.len() {
             return None;
         }
-        match first(boards, &[at as u8], self, self.moment, steps) {
+        match first(boards, &[at as u8], self, self.asked.moment, steps) {
             Some(found) => Some(Link {
                 board: *board,
                 position: found.position,
@@ -71,26 +76,25 @@ impl Call<'_> {
 }
 
 impl Desk {
-    /// The first place of the job's chain whose person nothing bars at this moment; `None` where all are barred. The steps are nodes
-    /// that searches of boards read. Who was barred on one board isn't judged again on the next.
-    pub fn first_free<L: Ledger>(
-        &self,
-        moment: Minute,
-        job: &Job,
+    /// The first place of the chain of the job that is asked about whose person nothing bars; `None` where all are barred. The steps
+    /// are nodes that searches of boards read. Who was barred on one board isn't judged again on the next.
+    pub fn first_free<'a, L: Ledger>(
+        &'a self,
+        asked: &'a JobAsked<'a>,
         steps: &mut Steps<L>,
     ) -> Option<Link>
-        ensures first { (h : History) → Asks self.now moment job.now h → result ≡ first_free h moment job.now }
-        ensures steps { (h : History) → Asks self.now moment job.now h
-            → steps.new ≤ steps.old + search_steps self.now h moment job.now }
+        ensures first { (h : History) → Tells self.now h → IsJobAsked asked.now h
+            → result ≡ first_free h asked.now.moment asked.now.job.now }
+        ensures steps { (h : History) → Tells self.now h → IsJobAsked asked.now h
+            → steps.new ≤ steps.old + search_steps self.now h asked.now.moment asked.now.job.now }
     {
         order_is_by_rank();
-        let chain = job.chain();
+        let chain = asked.job.chain();
         let mut searched: u64 = 0;
         for board in chain.codes() {
             let call = Call {
                 desk: self,
-                moment,
-                job,
+                asked,
                 searched,
             };
             if let Some(link) = call.first_on(board, steps) {

@@ -10,7 +10,7 @@ use Rattle.duty_events.specs.Lists.{IsLawful}
 use Rattle.denial_rules.specs.declared.bar.Bar.{Bar}
 use Rattle.denial_rules.specs.declared.bar.Bar.TheVariants as bar
 use Rattle.denial_rules.specs.Table.{first_some}
-use Rattle.denial_rules.proofs.TableLemmas.{both-none}
+use Rattle.denial_rules.proofs.TableLemmas.{both-none, first_some-append}
 use Rattle.rest_rules.specs.OffFrom.{works, off_from, OffFromInWords}
 use Rattle.rest_rules.specs.Excess.{excess}
 use Rattle.rest_rules.specs.Rest.{rest_ok, rest_end, RestOk, RestInWords}
@@ -19,11 +19,6 @@ use Rattle.month_hours.specs.Over.{over_month, over_limbo, HoursInWords, LimboIn
 use Rattle.consecutive_days.specs.Run.{run_days, need}
 use Rattle.consecutive_days.specs.Days.{days_ok, DaysInWords}
 use Rattle.law_bars.specs.Law.{rest_row, more_rest_row, undisturbed_row, six_days_row, seven_days_row, month_row, limbo_row, law_rows, law_bar, KeepsLaw, LawInWords}
-
-first_some-append : (xs ys : List (Option Bar)) → first_some (xs ++ ys) ≡ option_or (first_some xs) (first_some ys)
-first_some-append [] ys = refl
-first_some-append (None ∷ xs) ys = first_some-append xs ys
-first_some-append (Some x ∷ xs) ys = refl
 
 -- the first of rest, else the first of the days, else the first of the hours
 pub law_bar-parts : (es : List Event) (home : List ℕ) (moment report duty limbo : ℕ) (rest days hours : Option Bar)

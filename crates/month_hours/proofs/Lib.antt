@@ -1,3 +1,4 @@
 pub mod CappedLemmas
 pub mod PlanLemmas
 pub mod OverLemmas
+pub mod ShareLemmas

@@ -5,17 +5,21 @@
 mod laws;
 mod limbo;
 mod limit;
+mod month_share;
 mod over;
 mod passed;
 mod plan;
+mod plan_months;
 mod work;
 
 pub use laws::{hours_in_words, limbo_when_an_event_comes};
 pub use limbo::capped;
 pub use limit::{LIMBO_LIMIT, Limit, MONTH_LIMIT};
+pub use month_share::MonthShare;
 pub use over::Over;
 pub use passed::{over_limbo, over_month};
 pub use plan::Plan;
+pub use plan_months::{MOST_PLANNED, PlanMonths};
 pub use work::used;
 
 #[cfg(test)]

@@ -1,10 +1,12 @@
-ghost use Rattle.std.specs.Prelude.{◌≡◌, ◌<◌, ◌^◌, ◌≤◌, ◌&&◌, nat_lt};
+ghost use Rattle.std.specs.Prelude.{◌≡◌, ◌<◌, ◌^◌, ◌≤◌, ◌+◌, ◌&&◌, nat_lt};
 ghost use Rattle.duty_events.specs.Lists.{IsLawful};
 ghost use Rattle.month_hours.specs.Plan.{end_of};
-ghost use Rattle.month_hours.specs.Over.{most, so_far, added, over_with, first_over};
+ghost use Rattle.month_hours.specs.Over.{most, so_far, over_with, first_over};
+ghost use Rattle.month_hours.specs.Shares.{added_by, over_share};
 ghost use Rattle.desk_base.specs.Month.{minutes_of};
 
 use crate::limbo::capped;
+use crate::month_share::MonthShare;
 use crate::over::Over;
 use crate::plan::Plan;
 use crate::work::used;
@@ -49,29 +51,39 @@ impl Limit {
         }
     }
 
-    // How many the plan adds.
-    fn added(&self, plan: &Plan, month: Month) -> u32
-        ensures value { result ≡ added self.now plan.now month }
-        ensures most { result ≤ minutes_of month }
+    // How many the share adds.
+    fn added_by(&self, share: &MonthShare) -> u32
+        ensures { result ≡ added_by self.now share.now }
     {
         match self {
-            Limit::Hours => plan.minutes(month),
-            Limit::Limbo => plan.capped_limbo(month),
+            Limit::Hours => share.planned,
+            Limit::Limbo => share.capped,
         }
     }
 
-    /// The month with its total, where it holds a minute of the plan and would pass the limit with it, having so many
+    /// The share's month with its total, where it holds a minute of the plan and would pass the limit with it, having so many
     /// minutes so far.
-    pub fn over_with(&self, so_far: u32, plan: &Plan, month: Month) -> Option<Over>
-        requires { so_far ≤ minutes_of month }
-        ensures { result ≡ over_with self.now so_far plan.now month }
+    pub fn over_share(&self, so_far: u32, share: &MonthShare) -> Option<Over>
+        ensures { so_far + added_by self.now share.now < 2 ^ 32
+            → result ≡ over_share self.now so_far share.now }
     {
-        let total = so_far + self.added(plan, month);
-        if is_over(plan.minutes(month), total, self.most()) {
-            Some(Over { month, total })
+        let total = so_far.saturating_add(self.added_by(share));
+        if is_over(share.planned, total, self.most()) {
+            Some(Over {
+                month: share.month,
+                total,
+            })
         } else {
             None
         }
+    }
+
+    // The same of a month, which has so many minutes so far.
+    fn over_with(&self, so_far: u32, plan: &Plan, month: Month) -> Option<Over>
+        requires { so_far ≤ minutes_of month }
+        ensures { result ≡ over_with self.now so_far plan.now month }
+    {
+        self.over_share(so_far, &MonthShare::of(plan, month))
     }
 
     // The first month that would pass the limit, of those from the report's to that of the plan's last minute.

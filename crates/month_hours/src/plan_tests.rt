@@ -1,9 +1,10 @@
 //! Tables worked by hand: the first month that a plan would bring over a limit.
 ghost use Rattle.std.specs.Prelude.{◌≡◌, ◌+◌, ◌^◌, nat_lt};
 
-use crate::{Limit, Over, Plan, over_limbo, over_month};
+use crate::{Limit, MonthShare, Over, Plan, PlanMonths, over_limbo, over_month};
 use desk_base::{Code, Minute, Month, Span};
 use duty_events::{Event, is_lawful};
+use std::test::Fail;
 
 fn at(text: &[u8]) -> Option<Minute> {
     Minute::read(text)
@@ -183,24 +184,59 @@ fn plans_over_three_months(rt: HostRuntime) {
     assert!(rt; found == over(b"2024-03", 44_640));
 }
 
-// A month that has so many minutes so far, with a plan of twelve hours and two of limbo from 08:00 of its fifth day.
-fn over_with(limit: Limit, so_far: u32) -> Option<Option<Over>> {
-    let month = Month::read(b"2024-03")?;
+// The months of a plan with this report.
+fn months_of(report: &[u8], duty: u16, limbo: u16) -> Option<PlanMonths> {
     let plan = Plan {
-        report: at(b"2024-03-05 08:00")?,
-        duty: 720,
-        limbo: 120,
+        report: at(report)?,
+        duty: u32::from(duty),
+        limbo: u32::from(limbo),
     };
-    if so_far > month.minutes() {
+    if !is_plan(plan.report, plan.duty, plan.limbo) {
         return None;
     }
-    Some(limit.over_with(so_far, &plan, month))
+    Some(PlanMonths::of(&plan))
+}
+
+// A month that has so many minutes so far, with a plan of twelve hours and two of limbo from 08:00 of its fifth day.
+fn over_share(limit: Limit, so_far: u32) -> Option<Option<Over>> {
+    let months = months_of(b"2024-03-05 08:00", 720, 120)?;
+    let share = months.shares().first()?;
+    Some(limit.over_share(so_far, share))
 }
 
 #[test]
 fn months_by_what_they_have_so_far(rt: HostRuntime) {
-    assert!(rt; over_with(Limit::Hours, 15_720) == Some(None));
-    assert!(rt; over_with(Limit::Hours, 15_721) == over(b"2024-03", 16_561));
-    assert!(rt; over_with(Limit::Limbo, 1_680) == Some(None));
-    assert!(rt; over_with(Limit::Limbo, 1_681) == over(b"2024-03", 1_801));
+    assert!(rt; over_share(Limit::Hours, 15_720) == Some(None));
+    assert!(rt; over_share(Limit::Hours, 15_721) == over(b"2024-03", 16_561));
+    assert!(rt; over_share(Limit::Limbo, 1_680) == Some(None));
+    assert!(rt; over_share(Limit::Limbo, 1_681) == over(b"2024-03", 1_801));
+}
+
+// The month with so many minutes of a plan, and so many of its capped limbo.
+fn share(month: &[u8], planned: u32, capped: u32) -> Option<MonthShare> {
+    Some(MonthShare {
+        month: Month::read(month)?,
+        planned,
+        capped,
+    })
+}
+
+#[test]
+fn months_of_a_plan(rt: HostRuntime) -> Result<(), Fail> {
+    let months = months_of(b"2024-02-29 23:00", 44_700, 1_801).ok_or("no plan")?;
+    let shares = months.shares();
+    assert_eq!(rt; shares.len(), 3);
+    assert_eq!(rt; shares.first().copied(), share(b"2024-02", 60, 0));
+    assert_eq!(rt; shares.get(1).copied(), share(b"2024-03", 44_640, 0));
+    assert_eq!(rt; shares.get(2).copied(), share(b"2024-04", 1_801, 1_801));
+    let longest = months_of(b"2023-01-31 23:59", 65_535, 65_535).ok_or("no plan")?;
+    assert_eq!(rt; longest.shares().len(), 5);
+    assert_eq!(rt;
+        longest.shares().get(4).copied(),
+        share(b"2023-05", 2_909, 2_909)
+    );
+    assert_eq!(rt; longest.plan().duty, 65_535);
+    let none = months_of(b"2024-03-01 00:00", 0, 0).ok_or("no plan")?;
+    assert!(rt; none.shares().is_empty());
+    Ok(())
 }

@@ -4,8 +4,10 @@ use Rattle.std.specs.List.{All}
 use Rattle.std.proofs.lemmas.Bool.{cases_lt}
 use Rattle.std.proofs.lemmas.List.Elements.{All-pop}
 use Rattle.desk_base.specs.Month.{first_minute as month_start, minutes_of}
+use Rattle.desk_base.specs.Day.{day_of}
+use Rattle.desk_base.specs.Minute.{month_of}
 use Rattle.desk_base.specs.Window.{WindowValue, IsWindow, start_of, end_of}
-use Rattle.desk_base.proofs.MonthLemmas.{first_day-next, first_day_mono, first_day-zero, first_day-2100}
+use Rattle.desk_base.proofs.MonthLemmas.{month_of_day_is, first_day-next, first_day_mono, first_day-zero, first_day-2100}
 use Rattle.duty_events.specs.declared.asked.Asked.TheVariants as asked
 use Rattle.duty_events.specs.declared.event.Event.{Event}
 use Rattle.duty_events.specs.declared.limits.TheConstants.{DUTY_LIMIT}
@@ -19,6 +21,8 @@ use Rattle.duty_events.specs.Tours.{sum_so_far}
 use Rattle.duty_events.proofs.AskedLemmas.{asked_minutes-nil, asked_minutes-push}
 use Rattle.duty_events.proofs.ListLemmas.{lawful-induction, last_event-push}
 use Rattle.month_hours.specs.Capped.{is_limbo, capped_minutes}
+use Rattle.month_hours.specs.declared.plan.Plan.{Plan}
+use Rattle.month_hours.specs.Plan.{end_of as end_of_plan}
 use Rattle.month_hours.specs.Steps.{capped_between}
 use Rattle.month_hours.specs.Used.{used}
 use Rattle.month_hours.proofs.CappedLemmas.{capped_minutes-nil, capped_minutes-push}
@@ -43,6 +47,14 @@ window-ends w is = (
   omega (arith, is.some, first_day-zero, first_day_mono 0 (w.first + w.months) (omega arith)),
   omega (arith, first_day-2100, first_day_mono (w.first + w.months) 1560 is.ends),
 )
+
+-- a month of a plan that ends by the window's end comes before that
+pub month-in : (p : Plan) (w : WindowValue) (i : ℕ) → IsWindow w → end_of_plan p ≤ end_of w → month_of p.report + i < month_of (end_of_plan p - 1) + 1
+    → month_of p.report + i < w.first + w.months
+month-in p w i is ends by =
+    let last = end_of_plan p - 1 in
+    let before = month-before (month_of last) (w.first + w.months) last (omega (arith, (month_of_day_is (day_of last)).begun)) (omega (arith, ends, (window-ends w is).0)) in
+    omega (arith, by, before)
 
 -- ---- minutes before a window
 

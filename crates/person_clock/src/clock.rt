@@ -8,6 +8,7 @@ ghost use Rattle.duty_events.specs.Allowed.{first_minute, last_minute};
 ghost use Rattle.duty_events.specs.Lists.{stage_of, last_event, latest, reached};
 ghost use Rattle.duty_events.specs.Places.{place_of};
 ghost use Rattle.month_hours.specs.Capped.{capped};
+ghost use Rattle.month_hours.specs.Plan.{end_of as end_of_plan};
 ghost use Rattle.month_hours.specs.Used.{used};
 ghost use Rattle.rest_rules.specs.Rest.{rest_end, EndsRest};
 ghost use Rattle.law_bars.specs.Law.{law_bar};
@@ -20,7 +21,7 @@ use crate::rest_clock::RestClock;
 use denial_rules::Bar;
 use desk_base::{Code, Minute, Month, NoMemory, Window};
 use duty_events::{Event, Stage, may_follow, may_follow_in_words};
-use month_hours::Plan;
+use month_hours::{Plan, PlanMonths};
 use std::marker::Model;
 use tour_build::{Interval, MonthSums, TourTotals, capped_between, worked_between};
 
@@ -164,18 +165,33 @@ impl PersonClock {
         ensures { (es : List Event) → Stands self.now es
             → result ≡ law_bar es self.now.home moment report duty limbo }
     {
+        let plan = Plan {
+            report,
+            duty: u32::from(duty),
+            limbo: u32::from(limbo),
+        };
+        self.window.start();
+        self.law_of(moment, &PlanMonths::of(&plan))
+    }
+
+    /// The same of a plan whose months were told apart once for all persons who are asked about: its report, its minutes on duty
+    /// and those of limbo are the job's.
+    pub fn law_of(&self, moment: Minute, plan: &PlanMonths) -> Option<Bar>
+        requires off { stage_now self.now ≡ stage.Off }
+        requires moment { minute_of (last_now self.now) ≤ moment }
+        requires report { moment ≤ plan.now.report }
+        requires end { end_of_plan plan.now ≤ end_of self.now.window }
+        ensures { (es : List Event) → Stands self.now es
+            → result ≡ law_bar es self.now.home moment plan.now.report plan.now.duty plan.now.limbo }
+    {
+        let report = plan.plan().report;
         if let Some(bar) = rest_bar(&self.rest, moment, report) {
             return Some(bar);
         }
         if let Some(bar) = days_bar(&self.days, self.home, report) {
             return Some(bar);
         }
-        let plan = Plan {
-            report,
-            duty: u32::from(duty),
-            limbo: u32::from(limbo),
-        };
-        hours_bar(&self.window, &self.used, &self.capped, &plan)
+        hours_bar(&self.window, &self.used, &self.capped, plan)
     }
 
     /// How many minutes of a month of the window are worked.

@@ -1,5 +1,4 @@
-ghost use Rattle.std.specs.Prelude.{◌≡◌, ◌+◌, ◌-◌, ◌<◌, ◌≤◌, ◌^◌, ℕ, List, [], ◌∷◌};
-ghost use Rattle.desk_base.specs.Month.{minutes_of};
+ghost use Rattle.std.specs.Prelude.{◌≡◌, ◌+◌, ◌<◌, ◌≤◌, List, [], ◌∷◌};
 ghost use Rattle.desk_base.specs.Window.{end_of as window_end};
 ghost use Rattle.duty_events.specs.declared.event.Event.{Event};
 ghost use Rattle.month_hours.specs.declared.limit.Limit.{Limit};
@@ -10,10 +9,9 @@ ghost use Rattle.denial_rules.specs.Table.{first_some};
 ghost use Rattle.law_bars.specs.Law.{month_row, limbo_row};
 ghost use Rattle.person_clock.specs.Hours.{AreSoFar};
 
-use crate::minutes::minute_or;
 use denial_rules::Bar;
-use desk_base::{Minute, Month, Window};
-use month_hours::{Limit, Over, Plan};
+use desk_base::{Month, Window};
+use month_hours::{Limit, Over, PlanMonths};
 use tour_build::MonthSums;
 
 /// The first bar of a month's hours, from a job of so many minutes on duty from the report on, and so many of limbo behind
@@ -22,7 +20,7 @@ pub(crate) fn hours_bar(
     window: &Window,
     used: &MonthSums,
     capped: &MonthSums,
-    plan: &Plan,
+    plan: &PlanMonths,
 ) -> Option<Bar>
     requires { end_of plan.now ≤ window_end window.now }
     ensures { (es : List Event) → AreSoFar limit.Hours window.now used.now es
@@ -46,41 +44,29 @@ pub(crate) fn hours_bar(
 }
 
 // The first month of a plan that would pass the limit, with so many minutes so far in each month of the window.
-fn first_over(limit: &Limit, window: &Window, sums: &MonthSums, plan: &Plan) -> Option<Over>
+fn first_over(limit: &Limit, window: &Window, sums: &MonthSums, plan: &PlanMonths) -> Option<Over>
     requires { end_of plan.now ≤ window_end window.now }
     ensures { (es : List Event) → AreSoFar limit.now window.now sums.now es
         → result ≡ first_over limit.now es plan.now }
 {
-    let first = Month::of(plan.report).number();
-    let end = Month::of(last_minute(window, plan)).number() + 1;
-    for number in first..end {
-        let month = Month::new(number)?;
-        let so_far = so_far(window, sums, month);
-        if let Some(over) = limit.over_with(so_far, plan, month) {
+    window.months();
+    for share in plan.shares() {
+        let so_far = so_far(window, sums, share.month);
+        if let Some(over) = limit.over_share(so_far, share) {
             return Some(over);
         }
     }
     None
 }
 
-// The last minute of a plan that ends by the window's end.
-fn last_minute(window: &Window, plan: &Plan) -> Minute
-    requires { end_of plan.now ≤ window_end window.now }
-    ensures value { result ≡ end_of plan.now - 1 }
-    ensures within { result < window_end window.now }
-{
-    minute_or(plan.end().saturating_sub(1), window.start())
-}
-
 // How many minutes a month has that isn't behind the window: none before it.
 fn so_far(window: &Window, sums: &MonthSums, month: Month) -> u32
-    ensures most { result ≤ minutes_of month }
-    ensures value { (limit : Limit) (es : List Event) → AreSoFar limit window.now sums.now es
+    ensures { (limit : Limit) (es : List Event) → AreSoFar limit window.now sums.now es
         → month < window.now.first + window.now.months → result ≡ so_far limit es month }
 {
     if month < window.first() {
         0
     } else {
-        sums.of(window, month).min(month.minutes())
+        sums.of(window, month)
     }
 }

@@ -5,9 +5,8 @@ ghost use Rattle.pool_board.specs.Places.{at_place, FindsReadyPlace};
 ghost use Rattle.pool_board.specs.Board.{board_of, IsSameSort};
 
 use crate::MembersFull;
-use crate::hints::Hints;
 use crate::slots::{find, make_room};
-use desk_base::{Code, Minute, NoMemory, PersonNo};
+use desk_base::{Code, Minute, NoMemory, PersonHints, PersonNo};
 use slot_tree::{SlotTree, Steps};
 use std::alloc::Global;
 use std::marker::Model;
@@ -24,7 +23,7 @@ pub struct Board {
     extra: bool,
     listed: u16,
     tree: SlotTree,
-    hints: Hints,
+    hints: PersonHints,
 }
 
 impl Model for Board {
@@ -48,7 +47,7 @@ impl Board {
             extra,
             listed: 0,
             tree: SlotTree::new(alloc, 10)?,
-            hints: Hints::new(alloc)?,
+            hints: PersonHints::new(alloc)?,
         })
     }
 
@@ -77,7 +76,7 @@ impl Board {
         }
         make_room(&mut self.tree, &mut self.hints);
         let slot = self.tree.append(person, ready);
-        self.hints.set(person, slot);
+        self.hints.set(person, slot as usize);
         self.listed += 1;
         Ok(())
     }
@@ -90,7 +89,7 @@ impl Board {
         ensures ready { (other : ℕ) → other ≢ person
             → ready_of other self.new.members ≡ ready_of other self.old.members }
     {
-        if let Some(at) = find(&self.tree, self.hints.of(person), person) {
+        if let Some(at) = find(&self.tree, &self.hints, person) {
             self.tree.clear(at.slot);
             self.listed -= 1;
         }
@@ -104,11 +103,11 @@ impl Board {
             ≡ without person (persons self.old.members) ++ person ∷ [] }
         ensures ready { (who : ℕ) → ready_of who self.new.members ≡ ready_of who self.old.members }
     {
-        if let Some(at) = find(&self.tree, self.hints.of(person), person) {
+        if let Some(at) = find(&self.tree, &self.hints, person) {
             self.tree.clear(at.slot);
             make_room(&mut self.tree, &mut self.hints);
             let slot = self.tree.append(person, at.ready);
-            self.hints.set(person, slot);
+            self.hints.set(person, slot as usize);
         }
     }
 
@@ -121,7 +120,7 @@ impl Board {
         ensures others { (other : ℕ) → other ≢ person
             → ready_of other self.new.members ≡ ready_of other self.old.members }
     {
-        if let Some(at) = find(&self.tree, self.hints.of(person), person) {
+        if let Some(at) = find(&self.tree, &self.hints, person) {
             self.tree.set(at.slot, ready);
         }
     }
@@ -130,7 +129,7 @@ impl Board {
     pub fn has(&self, person: PersonNo) -> bool
         ensures { result ≡ is_listed person self.now.members }
     {
-        find(&self.tree, self.hints.of(person), person).is_some()
+        find(&self.tree, &self.hints, person).is_some()
     }
 
     /// The place of a person; `None` exactly where the person isn't listed.
@@ -138,7 +137,7 @@ impl Board {
         ensures at { IfSome result (λ place. at_place (persons self.now.members) place ≡ Some person) }
         ensures listed { is_some result ≡ is_listed person self.now.members }
     {
-        let at = find(&self.tree, self.hints.of(person), person)?;
+        let at = find(&self.tree, &self.hints, person)?;
         Some(self.tree.before(at.slot) as u16 + 1)
     }
 

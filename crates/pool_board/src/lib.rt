@@ -2,7 +2,6 @@
 #![tactic(auto)]
 
 mod board;
-mod hints;
 mod members_full;
 mod slots;
 

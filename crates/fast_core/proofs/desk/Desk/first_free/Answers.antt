@@ -11,52 +11,52 @@ use Rattle.fast_core.proofs.SearchLemmas.{chain_steps-next, searched-more}
 use Rattle.fast_core.proofs.desk.Desk.first_free.Goals as goal
 
 pub returns-in-Some-clause-first : goal.returns-in-Some-clause-first
-returns-in-Some-clause-first g c h asks =
-    let m = c.args.moment in
-    let job = c.args.job.now in
+returns-in-Some-clause-first g c h tells asked =
+    let m = c.args.asked.now.moment in
+    let job = c.args.asked.now.job.now in
     sym (find-chain-here (λ link. is_free h m job link.person) h c.codes-board-items.result.now c.loop-board.board-index c.board-item.result c.in-Some.link c.loop-board-test.true c.board-item.is
-    (sym (c.first_on.ensures.first h asks (c.loop-board.invariant.searched h asks)) ∙ c.in-Some.is))
-    ∙ c.loop-board.invariant.first h asks
+    (sym (c.first_on.ensures.first h tells asked (c.loop-board.invariant.searched h tells asked)) ∙ c.in-Some.is))
+    ∙ c.loop-board.invariant.first h tells asked
     ∙ ap (λ codes. find (λ link. is_free h m job link.person) (chain h codes)) (c.codes-board-items.ensures.value ∙ c.chain-chain.ensures)
 
 pub returns-in-Some-clause-steps : goal.returns-in-Some-clause-steps
-returns-in-Some-clause-steps g c h asks =
-    let m = c.args.moment in
-    let job = c.args.job.now in
+returns-in-Some-clause-steps g c h tells asked =
+    let m = c.args.asked.now.moment in
+    let job = c.args.asked.now.job.now in
     let kept = boards_kept c.args.self.now.lists in
     omega (
       arith,
-      c.loop-board.invariant.steps h asks,
-      c.first_on.ensures.steps h asks (c.loop-board.invariant.searched h asks),
+      c.loop-board.invariant.steps h tells asked,
+      c.first_on.ensures.steps h tells asked (c.loop-board.invariant.searched h tells asked),
       chain_steps-next kept (bar_for h m job) m (boards h) c.codes-board-items.result.now c.loop-board.board-index c.board-item.result c.loop-board-test.true c.board-item.is,
       ap (chain_steps kept (bar_for h m job) m (boards h)) (c.codes-board-items.ensures.value ∙ c.chain-chain.ensures),
     )
 
 pub loop-board-preserved : goal.loop-board-preserved
 loop-board-preserved g c =
-    let m = c.args.moment in
-    let job = c.args.job.now in
+    let m = c.args.asked.now.moment in
+    let job = c.args.asked.now.job.now in
     record {
-      searched = λ h asks.
+      searched = λ h tells asked.
           searched-more h m job c.loop-board.searched c.with_board-searched.result c.board-item.result (λ p. (c.order_is_by_rank.ensures.by_rank h c.board-item.result).those p)
-          c.with_board-searched.type_inv (c.loop-board.invariant.searched h asks) (c.with_board-searched.ensures h asks.tells)
-          (sym c.in_default.is ∙ c.first_on.ensures.first h asks (c.loop-board.invariant.searched h asks));
-      first = λ h asks.
+          c.with_board-searched.type_inv (c.loop-board.invariant.searched h tells asked) (c.with_board-searched.ensures h tells)
+          (sym c.in_default.is ∙ c.first_on.ensures.first h tells asked (c.loop-board.invariant.searched h tells asked));
+      first = λ h tells asked.
           sym (find-chain-past (λ link. is_free h m job link.person) h c.codes-board-items.result.now c.loop-board.board-index c.board-item.result c.loop-board-test.true c.board-item.is
-          (sym (c.first_on.ensures.first h asks (c.loop-board.invariant.searched h asks)) ∙ c.in_default.is))
-          ∙ c.loop-board.invariant.first h asks;
-      steps = λ h asks. omega (
+          (sym (c.first_on.ensures.first h tells asked (c.loop-board.invariant.searched h tells asked)) ∙ c.in_default.is))
+          ∙ c.loop-board.invariant.first h tells asked;
+      steps = λ h tells asked. omega (
         arith,
-        c.loop-board.invariant.steps h asks,
-        c.first_on.ensures.steps h asks (c.loop-board.invariant.searched h asks),
+        c.loop-board.invariant.steps h tells asked,
+        c.first_on.ensures.steps h tells asked (c.loop-board.invariant.searched h tells asked),
         chain_steps-next (boards_kept c.args.self.now.lists) (bar_for h m job) m (boards h) c.codes-board-items.result.now c.loop-board.board-index c.board-item.result c.loop-board-test.true c.board-item.is,
       );
     }
 
 pub returns-clause-first : goal.returns-clause-first
-returns-clause-first g c h asks =
-    let m = c.args.moment in
-    let job = c.args.job.now in
+returns-clause-first g c h tells asked =
+    let m = c.args.asked.now.moment in
+    let job = c.args.asked.now.job.now in
     sym (ap (λ codes. find (λ link. is_free h m job link.person) (chain h codes)) (drop_of_length-le c.codes-board-items.result.now c.loop-board-test.false))
-    ∙ c.loop-board.invariant.first h asks
+    ∙ c.loop-board.invariant.first h tells asked
     ∙ ap (λ codes. find (λ link. is_free h m job link.person) (chain h codes)) (c.codes-board-items.ensures.value ∙ c.chain-chain.ensures)

@@ -5,17 +5,19 @@ use Rattle.desk_model.specs.Register.{boards}
 use Rattle.desk_model.specs.Boards.{chain}
 use Rattle.desk_model.specs.Bars.{is_free}
 use Rattle.desk_lists.specs.Lists.{boards_kept}
-use Rattle.fast_core.specs.Search.{Asks, HasSearched, bar_for, chain_steps}
+use Rattle.fast_core.specs.Desk.{Tells}
+use Rattle.fast_core.specs.Judged.{IsJobAsked}
+use Rattle.fast_core.specs.Search.{HasSearched, bar_for, chain_steps}
 use Rattle.fast_core.proofs.desk.Desk.first_free.Given as goal
 
 -- the boards so far have nobody, and each was searched
 abbrev pub invariant-loop-board : goal.invariant-loop-board
 invariant-loop-board g l = record {
-  first : (h : History) → Asks l.self l.moment l.job h
-      → find (λ link. is_free h l.moment l.job link.person) (chain h (drop l.board-index l.board-items))
-      ≡ find (λ link. is_free h l.moment l.job link.person) (chain h l.board-items);
-  searched : (h : History) → Asks l.self l.moment l.job h → HasSearched h l.moment l.job l.searched;
-  steps : (h : History) → Asks l.self l.moment l.job h
-      → l.steps + chain_steps (boards_kept l.self.lists) (bar_for h l.moment l.job) l.moment (boards h) (drop l.board-index l.board-items)
-      ≤ l.fn.steps + chain_steps (boards_kept l.self.lists) (bar_for h l.moment l.job) l.moment (boards h) l.board-items;
+  first : (h : History) → Tells l.self h → IsJobAsked l.asked h
+      → find (λ link. is_free h l.asked.moment l.asked.job.now link.person) (chain h (drop l.board-index l.board-items))
+      ≡ find (λ link. is_free h l.asked.moment l.asked.job.now link.person) (chain h l.board-items);
+  searched : (h : History) → Tells l.self h → IsJobAsked l.asked h → HasSearched h l.asked.moment l.asked.job.now l.searched;
+  steps : (h : History) → Tells l.self h → IsJobAsked l.asked h
+      → l.steps + chain_steps (boards_kept l.self.lists) (bar_for h l.asked.moment l.asked.job.now) l.asked.moment (boards h) (drop l.board-index l.board-items)
+      ≤ l.fn.steps + chain_steps (boards_kept l.self.lists) (bar_for h l.asked.moment l.asked.job.now) l.asked.moment (boards h) l.board-items;
 }

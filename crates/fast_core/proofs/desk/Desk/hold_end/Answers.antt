@@ -4,10 +4,10 @@ use Rattle.desk_model.specs.Held.{hold_end}
 use Rattle.fast_core.proofs.desk.Desk.hold_end.Goals as goal
 
 pub loop-board-preserved : goal.loop-board-preserved
-loop-board-preserved c h tells =
+loop-board-preserved c h p tells at =
     let codes = c.codes-board-items.result.now in
     let i = c.loop-board.board-index in
     let b = c.board-item.result in
-    let next : hold_end h (drop i codes) c.args.person ≡ hold_end h (b ∷ drop (i + 1) codes) c.args.person =
-    at_drop_more (λ bs. hold_end h bs c.args.person) codes i b c.loop-board-test.true ∙ ap (λ a. hold_end h (a ∷ drop (i + 1) codes) c.args.person) (sym c.board-item.is) in
-    omega (arith, c.loop-board.invariant h tells, next, c.a_hold_is_by_boards.ensures.more h c.args.person b (drop (i + 1) codes), c.hold_by.ensures h tells, c.later-end.ensures)
+    let next : hold_end h (drop i codes) p ≡ hold_end h (b ∷ drop (i + 1) codes) p =
+    at_drop_more (λ bs. hold_end h bs p) codes i b c.loop-board-test.true ∙ ap (λ a. hold_end h (a ∷ drop (i + 1) codes) p) (sym c.board-item.is) in
+    omega (arith, c.loop-board.invariant h p tells at, next, c.a_hold_is_by_boards.ensures.more h p b (drop (i + 1) codes), c.hold_by.ensures h p tells at, c.later-end.ensures)

@@ -1,0 +1,31 @@
+-- Whom a desk judges, and for what, beside what a history says of them.
+use Rattle.std.specs.Prelude.{◌≡◌, ℕ, Option, None, Some}
+use Rattle.std.specs.Option.{option_copied}
+use Rattle.month_hours.specs.Plan.{plan_of}
+use Rattle.desk_model.specs.History.{History}
+use Rattle.desk_model.specs.Register.{person_of, persons}
+use Rattle.desk_answers.specs.Asked.{IsAsked}
+use Rattle.desk_register.specs.Among.{place_among}
+use Rattle.desk_register.specs.Persons.{IsPerson}
+use Rattle.desk_register.specs.Vacancies.{IsVacancy}
+use Rattle.desk_duty.specs.Clocks.{IsClock}
+use Rattle.fast_core.specs.declared.candidate.Candidate.{Candidate}
+use Rattle.fast_core.specs.declared.job_asked.JobAsked.{JobAsked}
+
+-- the vacancy is asked about in the history, and what is found of it is the history's
+pub record IsJobAsked (a : JobAsked) (h : History) : Type 0 where
+  pub asked : IsAsked h a.moment a.job.now
+  pub plan : a.plan ≡ plan_of a.job.now.report a.job.now.duty a.job.now.limbo
+  pub vacancy : IsVacancy (option_copied a.vacancy) h a.job.now.vac
+
+-- it is this enrolled person, by what the history says of them
+pub record IsCandidate (c : Candidate) (h : History) (p : ℕ) : Type 0 where
+  pub number : c.number ≡ p
+  pub place : place_among (persons h) p ≡ Some c.place
+  pub kept : IsPerson (Some c.kept.now) h p
+  pub clock : IsClock c.clock.now h p
+
+-- nobody else is one
+abbrev pub IsCandidateOf : Option Candidate → History → ℕ → Type 0
+IsCandidateOf None h p = person_of h p ≡ None
+IsCandidateOf (Some c) h p = IsCandidate c h p
