@@ -3,7 +3,8 @@
 # folder says: what it shows in `about`, one line, which is printed where it differs; its words in `args`, one a line;
 # its input in `stdin`, a file or a folder; what it must write in `stdout`; how it must end in `status`; and what must
 # stand on standard error in `stderr`, which is nothing where there is no such file. Where a file `output` names a
-# device, the program writes to that. The last line is 'N passed, M failed'.
+# device, the program writes to that. Files `*.in` are those of callers, beside which the program runs; it must make just the
+# files `*.out` that the folder has, with the same in them. The last line is 'N passed, M failed'.
 program=$(realpath "$1") || exit 2
 cd "$(dirname "$0")" || exit 2
 work=$(mktemp -d) || exit 2
@@ -19,7 +20,10 @@ for folder in */; do
     output=$work/stdout
     [ ! -f "$folder/output" ] || output=$(cat "$folder/output")
     : > "$work/stdout"
-    "$program" "$@" < "$folder/stdin" > "$output" 2> "$work/stderr"
+    rm -f "$work"/*.in "$work"/*.out
+    for file in "$folder"/*.in; do [ ! -f "$file" ] || cp "$file" "$work"; done
+    here=$(pwd)/$folder
+    (cd "$work" && "$program" "$@" < "$here/stdin" > "$output" 2> "$work/stderr")
     status=$?
     wrong=
     about=$(cat "$folder/about")
@@ -29,6 +33,9 @@ for folder in */; do
     stderr=$folder/stderr
     [ -f "$stderr" ] || stderr=/dev/null
     cmp -s "$work/stderr" "$stderr" || wrong="$wrong stderr"
+    for file in "$work"/*.out "$folder"/*.out; do
+        [ ! -f "$file" ] || cmp -s "$work/${file##*/}" "$folder/${file##*/}" || wrong="$wrong ${file##*/}"
+    done
     if [ -z "$wrong" ]; then
         passed=$((passed + 1))
     else

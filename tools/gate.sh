@@ -1,7 +1,7 @@
 #!/bin/sh
 # gate.sh: the gate. It proves everything from nothing, tries the edits that must fail and runs the tests (`rt ci`);
-# then it runs the examples on the program that this has built, reads again what it writes, and compares the table of promises
-# with the sources.
+# then it runs the examples on the program that this has built, reads again what it writes, has it serve callers over pipes, and
+# compares the table of promises with the sources.
 # The last line has the figures. All that is printed is also kept in build/gate.log.
 cd "$(dirname "$0")/.." || exit 2
 log=build/gate.log
@@ -18,15 +18,18 @@ kept rt ci || failed=1
 proofs=$(tail -n 1 "$log")
 examples='not run'
 journals='not run'
+callers='not run'
 if [ $failed = 0 ]; then
     kept sh examples/compare.sh crates/crewdesk_main/out/crewdesk_main || failed=1
     examples=$(tail -n 1 "$log")
     kept sh tools/journals.sh crates/crewdesk_main/out/crewdesk_main || failed=1
     journals=$(tail -n 1 "$log")
+    kept sh tools/callers.sh crates/crewdesk_main/out/crewdesk_main || failed=1
+    callers=$(tail -n 1 "$log")
 fi
 kept sh tools/promises.sh || failed=1
 promises=$(tail -n 1 "$log")
 rm -f build/gate.status
 [ $failed = 0 ] || echo "build/gate.log says what failed"
-echo "gate: $proofs; examples: $examples; journals: $journals; promises: $promises"
+echo "gate: $proofs; examples: $examples; journals: $journals; callers: $callers; promises: $promises"
 [ $failed = 0 ]

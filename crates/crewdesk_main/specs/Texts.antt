@@ -13,16 +13,17 @@ line text = text ++ 10 ∷ []
 -- the forms of the command line, one a line
 abbrev pub help_text : List ℕ
 help_text =
-    line (codes "crewdesk replay     reads a day file from standard input and writes its journal to standard output")
-    ++ line (codes "crewdesk tally      reads a day file from standard input and writes its tally to standard output")
-    ++ line (codes "crewdesk audit      reads a journal from standard input and writes whether it is legal, or what is wrong in it")
-    ++ line (codes "crewdesk continue   reads a journal, a line + and commands from standard input and writes the journal that goes on with them")
-    ++ line (codes "crewdesk record P   reads a journal from standard input and writes the records of the tours of person P as JSON")
-    ++ line (codes "crewdesk excess     reads a journal from standard input and writes the records of all tours that were too long as JSON")
-    ++ line (codes "crewdesk gen N K    makes a day of N commands from the number K and writes the tally of its answers")
-    ++ line (codes "crewdesk gen N K 2  does so by the second edition of the rules")
-    ++ line (codes "crewdesk --help     prints these lines")
-    ++ line (codes "crewdesk --version  prints the program's name and version")
+    line (codes "crewdesk replay          reads a day file from standard input and writes its journal to standard output")
+    ++ line (codes "crewdesk tally           reads a day file from standard input and writes its tally to standard output")
+    ++ line (codes "crewdesk serve NAME ...  reads a day file from standard input, serves the caller of each name from NAME.in to NAME.out, and writes the journal of all")
+    ++ line (codes "crewdesk audit           reads a journal from standard input and writes whether it is legal, or what is wrong in it")
+    ++ line (codes "crewdesk continue        reads a journal, a line + and commands from standard input and writes the journal that goes on with them")
+    ++ line (codes "crewdesk record P        reads a journal from standard input and writes the records of the tours of person P as JSON")
+    ++ line (codes "crewdesk excess          reads a journal from standard input and writes the records of all tours that were too long as JSON")
+    ++ line (codes "crewdesk gen N K         makes a day of N commands from the number K and writes the tally of its answers")
+    ++ line (codes "crewdesk gen N K 2       does so by the second edition of the rules")
+    ++ line (codes "crewdesk --help          prints these lines")
+    ++ line (codes "crewdesk --version       prints the program's name and version")
 
 -- the program's name and version
 abbrev pub version_text : List ℕ

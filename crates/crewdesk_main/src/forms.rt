@@ -14,16 +14,17 @@ use std::alloc::Global;
 
 // The forms of the command line, one a line.
 const HELP: &str = "\
-crewdesk replay     reads a day file from standard input and writes its journal to standard output
-crewdesk tally      reads a day file from standard input and writes its tally to standard output
-crewdesk audit      reads a journal from standard input and writes whether it is legal, or what is wrong in it
-crewdesk continue   reads a journal, a line + and commands from standard input and writes the journal that goes on with them
-crewdesk record P   reads a journal from standard input and writes the records of the tours of person P as JSON
-crewdesk excess     reads a journal from standard input and writes the records of all tours that were too long as JSON
-crewdesk gen N K    makes a day of N commands from the number K and writes the tally of its answers
-crewdesk gen N K 2  does so by the second edition of the rules
-crewdesk --help     prints these lines
-crewdesk --version  prints the program's name and version
+crewdesk replay          reads a day file from standard input and writes its journal to standard output
+crewdesk tally           reads a day file from standard input and writes its tally to standard output
+crewdesk serve NAME ...  reads a day file from standard input, serves the caller of each name from NAME.in to NAME.out, and writes the journal of all
+crewdesk audit           reads a journal from standard input and writes whether it is legal, or what is wrong in it
+crewdesk continue        reads a journal, a line + and commands from standard input and writes the journal that goes on with them
+crewdesk record P        reads a journal from standard input and writes the records of the tours of person P as JSON
+crewdesk excess          reads a journal from standard input and writes the records of all tours that were too long as JSON
+crewdesk gen N K         makes a day of N commands from the number K and writes the tally of its answers
+crewdesk gen N K 2       does so by the second edition of the rules
+crewdesk --help          prints these lines
+crewdesk --version       prints the program's name and version
 ";
 
 const VERSION: &str = "crewdesk 0.1.0\n";
