@@ -1,15 +1,19 @@
 //! A caller's line.
-ghost use Rattle.std.specs.Prelude.{◌≡◌, ◌≢◌, ◌⊎◌, IfOk, IfErr, IsErrOf};
+ghost use Rattle.std.specs.Prelude.{◌≡◌, ◌≢◌, ◌⊎◌, [], ◌∷◌, IfOk, IfErr, IsErrOf};
+ghost use Rattle.desk_base.specs.Parts.{parts_by};
+ghost use Rattle.record_rows.specs.Rows.{records_of};
 ghost use Rattle.desk_model.specs.Statement.{StatedValue};
 ghost use Rattle.desk_text.specs.CommandLine.{IsCommandLine, HasFail};
 ghost use Rattle.desk_text.specs.declared.read_fail.ReadFail.{ReadFail as Fail};
 
+use crate::command_record::read_record;
 use crate::last_minute::LastMinute;
+use crate::line_fields::fields_of_line;
 use crate::read_fail::ReadFail;
 use crate::record_row::read_row;
 use csv::ByteRecord;
 use desk_model::Stated;
-use record_rows::Rows;
+use record_rows::{Rows, is_plain};
 use std::alloc::Global;
 
 /// The command that a caller's line states, and the minute at which it was stated. The line has to be one record, as
@@ -24,7 +28,31 @@ pub fn read_command(alloc: Global, line: &[u8]) -> Result<Stated, ReadFail>
     ensures tells { (fail : Fail) → HasFail line.now fail
         → (IsErrOf result fail) ⊎ (IsErrOf result ReadFail.NoMemory) }
 {
-    read_only_record(alloc, line)
+    read_line(alloc, line)
+}
+
+// Reads a line. Most are plain, and need no reader of records, which is dear to make for each.
+fn read_line(alloc: Global, line: &[u8]) -> Result<Stated, ReadFail>
+    ensures some { IfOk result (IsCommandLine line.now) }
+    ensures fail { IfErr result (λ fail. fail ≢ ReadFail.NoMemory → HasFail line.now fail) }
+{
+    if is_plain(line) {
+        read_plain(line)
+    } else {
+        read_only_record(alloc, line)
+    }
+}
+
+// Reads a line that is one record, whose fields stand between its commas.
+fn read_plain(line: &[u8]) -> Result<Stated, ReadFail>
+    requires { records_of line.now ≡ parts_by 44 line.now ∷ [] }
+    ensures some { IfOk result (IsCommandLine line.now) }
+    ensures fail { IfErr result (λ fail. fail ≢ ReadFail.NoMemory → HasFail line.now fail) }
+{
+    match read_record(&mut LastMinute::new(), fields_of_line(line).as_slice()) {
+        Ok(stated) => Ok(stated),
+        Err(field) => Err(ReadFail::Malformed(field)),
+    }
 }
 
 // Reads the line's first record, and sees that it has no second one.

@@ -10,7 +10,7 @@ use Rattle.record_rows.specs.Rows.{HasLeft, TookFirst, IsBetween}
 use Rattle.record_rows.proofs.RecordLemmas.{next_record-leaves, next_record-shorter, records_from-turns}
 
 -- the first of the records that are left, and those behind it
-records_from-some : (s : State) (bytes : List ℕ) (p : Read) (fields : List (List ℕ)) (after : State) (rest : List ℕ) → IsBetween s
+pub records_from-some : (s : State) (bytes : List ℕ) (p : Read) (fields : List (List ℕ)) (after : State) (rest : List ℕ) → IsBetween s
     → next_record default_config s [] [] bytes ≡ Some p → fields ≡ p.0 → p.1 ≡ after → p.2 ≡ rest
     → records_from default_config (length bytes + 1) s bytes ≡ fields ∷ records_from default_config (length rest + 1) after rest
 unfolding records_from
@@ -22,7 +22,7 @@ records_from-some s bytes p fields after rest between same fields_are state_is r
     rw (next, fields_are, sym state_is, sym rest_is) (ap (records_next (records_from default_config (length bytes))) same ∙ ap (λ more. p.0 ∷ more) turns)
 
 -- and none where there is none
-records_from-none : (s : State) (bytes : List ℕ) → next_record default_config s [] [] bytes ≡ None → records_from default_config (length bytes + 1) s bytes ≡ []
+pub records_from-none : (s : State) (bytes : List ℕ) → next_record default_config s [] [] bytes ≡ None → records_from default_config (length bytes + 1) s bytes ≡ []
 unfolding records_from
 records_from-none s bytes none =
     let next : length bytes + 1 ≡ suc (length bytes) = omega arith in

@@ -2,9 +2,11 @@
 #![tactic(auto)]
 
 mod fields;
+mod plain;
 mod rows;
 
 pub use fields::{FIELD_LIMIT, first_fields};
+pub use plain::is_plain;
 pub use rows::Rows;
 
 #[cfg(test)]

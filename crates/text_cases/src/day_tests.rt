@@ -210,7 +210,7 @@ fn lines_of_callers(rt: HostRuntime) {
     for line in commands {
         assert!(rt; fails_so(rt.alloc(), line, None));
     }
-    let wrong: [(&[u8], u8); 8] = [
+    let wrong: [(&[u8], u8); 13] = [
         (b"", 0),
         (b"\r\n", 0),
         (b"2024-03-04 00:01,next,12\n2024-03-04 00:01,next,12", 0),
@@ -219,6 +219,17 @@ fn lines_of_callers(rt: HostRuntime) {
         (b"2024-03-04 0:01,next,12", 1),
         (b"2024-03-04 00:01,next,012", 3),
         (b"2024-03-04 00:01,next,12,", 4),
+        (b",", 1),
+        (b"\xef2024-03-04 00:01,next,12", 1),
+        (b"2024-03-04 00:01,next,12\"", 3),
+        (
+            b"2024-03-04 00:01,vacancy,1,E,-,HOM,2024-03-04 08:00,600,0,P1,x,y,z",
+            11,
+        ),
+        (
+            b"2024-03-04 00:01,vacancy,1,E,-,HOM,2024-03-04 08:00,600,0,P1,\"x\",y,z",
+            11,
+        ),
     ];
     for (line, place) in wrong {
         assert!(rt; fails_so(rt.alloc(), line, Some(ReadFail::Malformed(place))));
