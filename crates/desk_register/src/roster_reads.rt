@@ -1,4 +1,4 @@
-ghost use Rattle.std.specs.Prelude.{◌≡◌, ◌≤◌, ◌<◌, ◌+◌, ℕ, nat_eq, if◌then◌else◌, Option, None, Some, OnOk, is_some, IfOk, IfSome, List, [], ◌∷◌, ◌++◌, length};
+ghost use Rattle.std.specs.Prelude.{◌≡◌, ◌≤◌, ◌<◌, ◌+◌, ℕ, nat_eq, if◌then◌else◌, Option, true, None, Some, OnOk, is_some, IfOk, IfSome, List, [], ◌∷◌, ◌++◌, length};
 ghost use Rattle.std.specs.Option.{option_copied, option_map};
 ghost use Rattle.desk_register.specs.Among.{place_among};
 ghost use Rattle.desk_register.specs.Persons.{person_under, person_numbers};
@@ -8,7 +8,7 @@ use crate::add_last::add_last;
 use crate::enrolled::Enrolled;
 use crate::kept_person::KeptPerson;
 use crate::roster::Roster;
-use desk_base::{NoMemory, PersonNo};
+use desk_base::{NoMemory, PersonHints, PersonNo};
 use desk_model::PERSON_LIMIT;
 use indexmap::IndexMap;
 use std::alloc::Global;
@@ -20,7 +20,8 @@ impl Roster {
         ensures keys { IfOk result (λ r. person_numbers r ≡ []) }
     {
         let kept = IndexMap::with_capacity(alloc, PERSON_LIMIT)?;
-        Ok(Roster { kept })
+        let hints = PersonHints::new(alloc)?;
+        Ok(Roster { kept, hints })
     }
 
     /// What is kept of this person; `None` where nobody has the number.
@@ -39,12 +40,26 @@ impl Roster {
         self.kept.get_index_of(&person)
     }
 
+    // What is kept of this person, if theirs is the place.
+    fn look(&self, place: usize, person: PersonNo) -> Option<&KeptPerson>
+        ensures kept { IfSome result (λ x. person_under self.now person ≡ Some x.now) }
+        ensures place { is_some result ≡ true → place_among (person_numbers self.now) person ≡ Some place }
+    {
+        self.kept.len();
+        let (number, kept) = self.kept.get_index(place)?;
+        if *number == person { Some(kept) } else { None }
+    }
+
     /// The place of this person among all, below 1,000, and what is kept of them; `None` where nobody has the number.
     pub fn find(&self, person: PersonNo) -> Option<Enrolled<'_>>
         ensures place { option_map (λ x. x.place) result ≡ place_among (person_numbers self.now) person }
         ensures kept { option_map (λ x. x.kept.now) result ≡ person_under self.now person }
         ensures range { IfSome result (λ x. x.place < PERSON_LIMIT) }
     {
+        let hint = self.hints.of(person);
+        if let Some(kept) = self.look(hint, person) {
+            return Some(Enrolled { place: hint, kept });
+        }
         let (place, _, kept) = self.kept.get_full(&person)?;
         Some(Enrolled { place, kept })
     }
@@ -62,6 +77,7 @@ impl Roster {
         ensures get { (q : ℕ) → person_under self.new q ≡ (if nat_eq person q then Some kept else person_under self.old q) }
         ensures keys { person_numbers self.new ≡ person_numbers self.old ++ person ∷ [] }
     {
+        self.hints.set(person, self.kept.len());
         add_last(&mut self.kept, person, kept);
     }
 }

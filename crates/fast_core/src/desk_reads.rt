@@ -137,7 +137,8 @@ impl<L: Ledger> Reads for Looks<'_, L> {
     }
 
     fn first_free(&self, work: &mut Steps<L>, moment: Minute, job: &Job) -> Option<Link> {
-        self.desk.first_free(&self.desk.job_asked(moment, job), work)
+        self.desk
+            .first_free(&self.desk.job_asked(moment, job), work)
     }
 
     fn place_in(&self, _work: &mut Steps<L>, boards: &Chain, person: PersonNo) -> Option<Link> {

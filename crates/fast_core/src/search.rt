@@ -12,9 +12,7 @@ use crate::job_asked::JobAsked;
 use denial_rules::Bar;
 use desk_base::{Code, PersonNo};
 use desk_lists::who_is_kept_on_a_board_is_on_it;
-use desk_model::{
-    Link, order_is_by_rank, who_is_not_ready_is_barred, who_is_on_a_board_is_listed,
-};
+use desk_model::{Link, order_is_by_rank, who_is_not_ready_is_barred, who_is_on_a_board_is_listed};
 use desk_register::who_is_enrolled_has_a_place;
 use slot_tree::Steps;
 use std::sync::ledger::Ledger;

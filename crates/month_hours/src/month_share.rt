@@ -1,8 +1,9 @@
 ghost use Rattle.std.specs.Prelude.{◌≡◌};
 ghost use Rattle.month_hours.specs.Shares.{share_of};
 
-use crate::plan::Plan;
+use crate::plan::{Plan, capped_from};
 use desk_base::Month;
+use duty_events::shared;
 
 /// What a month has of a plan.
 #[derive(Clone, Copy, Debug, PartialEq, Eq)]
@@ -19,10 +20,14 @@ impl MonthShare {
     pub(crate) fn of(plan: &Plan, month: Month) -> MonthShare
         ensures { result ≡ share_of plan.now month }
     {
+        let report = plan.report.number();
+        let end = plan.end();
+        let first = month.first().number();
+        let many = month.minutes();
         MonthShare {
             month,
-            planned: plan.minutes(month),
-            capped: plan.capped_limbo(month),
+            planned: shared(report, end, first, many),
+            capped: shared(capped_from(report, plan.duty), end, first, many),
         }
     }
 }

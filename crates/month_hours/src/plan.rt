@@ -1,9 +1,8 @@
-ghost use Rattle.std.specs.Prelude.{◌≡◌, ◌+◌, ◌<◌, ◌≤◌, ◌^◌, max};
-ghost use Rattle.desk_base.specs.Month.{minutes_of};
-ghost use Rattle.month_hours.specs.Plan.{end_of, planned, planned_capped};
+ghost use Rattle.std.specs.Prelude.{◌≡◌, ◌+◌, ◌<◌, ◌^◌, max};
+ghost use Rattle.month_hours.specs.Plan.{end_of};
 
-use desk_base::{Minute, Month};
-use duty_events::{DUTY_LIMIT, shared};
+use desk_base::Minute;
+use duty_events::DUTY_LIMIT;
 
 /// So many minutes on duty from a report on, and behind them so many of limbo.
 #[derive(Clone, Copy, Debug, PartialEq, Eq)]
@@ -22,32 +21,10 @@ impl Plan {
         let limbo = self.limbo;
         self.report.number() + u64::from(duty) + u64::from(limbo)
     }
-
-    /// How many minutes of the month are the plan's.
-    pub fn minutes(&self, month: Month) -> u32
-        ensures value { result ≡ planned self.now month }
-        ensures most { result ≤ minutes_of month }
-    {
-        shared(
-            self.report.number(),
-            self.end(),
-            month.first().number(),
-            month.minutes(),
-        )
-    }
-
-    /// How many minutes of the month are the plan's limbo that comes twelve hours after the report or later.
-    pub fn capped_limbo(&self, month: Month) -> u32
-        ensures value { result ≡ planned_capped self.now month }
-        ensures most { result ≤ minutes_of month }
-    {
-        let from = capped_from(self.report.number(), self.duty);
-        shared(from, self.end(), month.first().number(), month.minutes())
-    }
 }
 
 // The first minute behind the time on duty that comes twelve hours after the report or later.
-fn capped_from(report: u64, duty: u32) -> u64
+pub(crate) fn capped_from(report: u64, duty: u32) -> u64
     requires { report < 2 ^ 28 }
     ensures { result ≡ max (report + duty) (report + DUTY_LIMIT) }
 {

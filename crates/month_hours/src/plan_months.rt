@@ -51,7 +51,12 @@ impl PlanMonths {
         ensures { result ≡ plan.now }
     {
         let first = Month::of(plan.report);
-        let mut shares = [MonthShare::of(plan, first); MOST_MONTHS];
+        let none = MonthShare {
+            month: first,
+            planned: 0,
+            capped: 0,
+        };
+        let mut shares = [none; MOST_MONTHS];
         let mut many = 0;
         for number in first.number()..end_month(plan) {
             let month = Month::new(number).unwrap_or(first);

@@ -129,17 +129,17 @@ look-swapped number l place asked within apart = go (number_at number l place ==
         let has : number_at number l at.place ≡ asked = ap number at.is ∙ look-has number l asked offer looked in
         elim (cases_lt at.place (length l - 1)) [
           | inl early ↦
-            let stays = swapped-else number l place within at.place early (λ same. grind (arith, nat_tests, has, other, same)) in
-            let before : NoneBefore number (swap_remove l place blank) asked at.place = λ i less same.
-                grind (arith, nat_tests, less, early, number_at-swapped number l place within i (omega (arith, less, early)), apart i at.place, apart at.place (length l - 1), has, same) in
-            look-at number (swap_remove l place blank) asked at.place (omega (arith, early, short)) (ap number stays ∙ has) before ∙ ap Some (stays ∙ at.is)
+              let stays = swapped-else number l place within at.place early (λ same. grind (arith, nat_tests, has, other, same)) in
+              let before : NoneBefore number (swap_remove l place blank) asked at.place = λ i less same.
+              grind (arith, nat_tests, less, early, number_at-swapped number l place within i (omega (arith, less, early)), apart i at.place, apart at.place (length l - 1), has, same) in
+              look-at number (swap_remove l place blank) asked at.place (omega (arith, early, short)) (ap number stays ∙ has) before ∙ ap Some (stays ∙ at.is)
           | inr last ↦
-            let end : length l - 1 ≡ at.place = omega (arith, last, at.within) in
-            let inside : place < length l - 1 = grind (arith, nat_tests, end, within, other, has) in
-            let moves = swapped-here number l place within inside in
-            let before : NoneBefore number (swap_remove l place blank) asked place = λ i less same.
-                grind (arith, nat_tests, less, inside, end, number_at-swapped number l place within i (omega (arith, less, inside)), apart i at.place, has, same) in
-            look-at number (swap_remove l place blank) asked place (omega (arith, inside, short)) (ap number moves ∙ ap (number_at number l) end ∙ has) before ∙ ap Some (moves ∙ ap (λ n. get_or l n blank) end ∙ at.is)
+              let end : length l - 1 ≡ at.place = omega (arith, last, at.within) in
+              let inside : place < length l - 1 = grind (arith, nat_tests, end, within, other, has) in
+              let moves = swapped-here number l place within inside in
+              let before : NoneBefore number (swap_remove l place blank) asked place = λ i less same.
+              grind (arith, nat_tests, less, inside, end, number_at-swapped number l place within i (omega (arith, less, inside)), apart i at.place, has, same) in
+              look-at number (swap_remove l place blank) asked place (omega (arith, inside, short)) (ap number moves ∙ ap (number_at number l) end ∙ has) before ∙ ap Some (moves ∙ ap (λ n. get_or l n blank) end ∙ at.is)
         ]
 
     go : (gone : Bool) (found : Option InFlight) → (number_at number l place == asked) ≡ gone → look number l asked ≡ found → look number (swap_remove l place blank) asked ≡ cond gone None found
