@@ -9,4 +9,6 @@ mod meeting_tests;
 #[cfg(test)]
 mod openings;
 #[cfg(test)]
+mod serve_tests;
+#[cfg(test)]
 mod session_tests;

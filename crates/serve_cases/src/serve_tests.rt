@@ -1,0 +1,130 @@
+//! Lines in memory that are served behind a day file.
+use crate::openings::{LOOK, has_puts, lines_of};
+use caller_lines::{CallerLine, MemoryLine};
+use desk_io::{MemorySink, MemorySource, Status};
+use serve_desk::serve;
+use std::alloc::Global;
+use std::sync::Wait;
+use std::test::Fail;
+use std::thread::Threads;
+
+// A desk with two engineers on the pool P1, and two vacancies.
+const DAY: &[u8] = b"\
+2024-03-04 00:00,open,2024-03,1,15
+2024-03-04 00:01,board,P1,pool,HOM
+2024-03-04 00:01,enrol,101,E,HOM,-
+2024-03-04 00:01,enrol,102,E,HOM,-
+2024-03-04 00:02,list,101,P1
+2024-03-04 00:02,list,102,P1
+2024-03-04 00:03,vacancy,1,E,-,HOM,2024-03-04 08:00,600,0,P1
+2024-03-04 00:03,vacancy,2,E,-,HOM,2024-03-04 08:00,600,0,P1
+";
+
+// Its journal.
+const JOURNAL: &[u8] = b"\
+2024-03-04 00:00,open,2024-03,1,15
+0|2024-03-04 00:01,board,P1,pool,HOM|2024-03-04 00:01|done
+0|2024-03-04 00:01,enrol,101,E,HOM,-|2024-03-04 00:01|done
+0|2024-03-04 00:01,enrol,102,E,HOM,-|2024-03-04 00:01|done
+0|2024-03-04 00:02,list,101,P1|2024-03-04 00:02|done
+0|2024-03-04 00:02,list,102,P1|2024-03-04 00:02|done
+0|2024-03-04 00:03,vacancy,1,E,-,HOM,2024-03-04 08:00,600,0,P1|2024-03-04 00:03|done
+0|2024-03-04 00:03,vacancy,2,E,-,HOM,2024-03-04 08:00,600,0,P1|2024-03-04 00:03|done
+";
+
+// Serves lines behind a day file, where the source and the sink fail at the calls of these numbers, from 1: the status, and what was
+// written.
+fn served<R: Threads + Wait + Sync>(
+    rt: &R,
+    alloc: Global,
+    day: &[u8],
+    failing: (u64, u64),
+    lines: &mut Vec<Box<dyn CallerLine + Send>>,
+) -> Option<(Status, MemorySink)> {
+    let read_fails = vec![in alloc; failing.0].ok()?;
+    let write_fails = vec![in alloc; failing.1].ok()?;
+    let mut source = MemorySource::new(day.to_vec(alloc).ok()?, 100, read_fails);
+    let mut sink = MemorySink::new(alloc, 4_096, 100, write_fails).ok()?;
+    let status = serve(rt, alloc, &mut source, lines, &mut sink);
+    Some((status, sink))
+}
+
+#[test]
+fn two_lines_behind_a_day_file(rt: HostRuntime) -> Result<(), Fail> {
+    let alloc = rt.alloc();
+    let mut lines: Vec<Box<dyn CallerLine + Send>> = Vec::new(alloc);
+    for command in [b"2024-03-04 00:04,next,1", b"2024-03-04 00:04,next,2"] {
+        let given = lines_of(alloc, &[command.as_slice()])?;
+        let line = MemoryLine::new(alloc, given, Vec::new(alloc), 1_000);
+        lines.push(Box::new(alloc, line.ok().ok_or("memory")?)?)?;
+    }
+    let (status, sink) = served(&rt, alloc, DAY, (0, 0), &mut lines).ok_or("no memory")?;
+    assert!(rt; status == Status::Fine);
+    let [one, two] = lines.as_slice() else {
+        panic!(rt; "there are two lines")
+    };
+    let firsts: [&[u8]; 2] = [
+        b"1|2024-03-04 00:04,next,1|2024-03-04 00:04|offered 101 P1 1\n",
+        b"2|2024-03-04 00:04,next,2|2024-03-04 00:04|offered 101 P1 1\n",
+    ];
+    let seconds: [&[u8]; 2] = [
+        b"1|2024-03-04 00:04,next,1|2024-03-04 00:04|offered 102 P1 2\n",
+        b"2|2024-03-04 00:04,next,2|2024-03-04 00:04|offered 102 P1 2\n",
+    ];
+    let written = sink.bytes().strip_prefix(JOURNAL).ok_or("another day")?;
+    let one_first = [firsts[0], seconds[1]].concat(alloc)?;
+    let two_first = [firsts[1], seconds[0]].concat(alloc)?;
+    if has_puts(one, &firsts[..1]) {
+        assert!(rt; has_puts(two, &seconds[1..]) && written == one_first.as_slice());
+    } else {
+        assert!(rt; has_puts(one, &seconds[..1]) && has_puts(two, &firsts[1..]));
+        assert!(rt; written == two_first.as_slice());
+    }
+    Ok(())
+}
+
+// Nobody, and one more than there are seats: nothing is read, and nobody is asked.
+#[test]
+fn no_number_of_lines(rt: HostRuntime) -> Result<(), Fail> {
+    let alloc = rt.alloc();
+    for count in [0, 64] {
+        let mut lines: Vec<Box<dyn CallerLine + Send>> = Vec::new(alloc);
+        for _ in 0..count {
+            let line = MemoryLine::new(alloc, lines_of(alloc, &[LOOK])?, Vec::new(alloc), 100);
+            lines.push(Box::new(alloc, line.ok().ok_or("memory")?)?)?;
+        }
+        let (status, sink) = served(&rt, alloc, DAY, (1, 1), &mut lines).ok_or("no memory")?;
+        assert!(rt; status == Status::Usage && sink.bytes().is_empty());
+        for line in &lines {
+            assert!(rt; line.put_count() == 0);
+        }
+    }
+    Ok(())
+}
+
+// How a run ends, what it writes, and how many replies its one line has.
+#[test]
+fn ways_to_end(rt: HostRuntime) -> Result<(), Fail> {
+    let alloc = rt.alloc();
+    let wrong = b"2024-03-04 00:00,open,2024-03,1,15\nunlist\n";
+    let first = b"2024-03-04 00:00,open,2024-03,1,15\n";
+    let ways: [(&[u8], (u64, u64), Status, &[u8], u32); 5] = [
+        (DAY, (1, 0), Status::ReadFault, b"", 0),
+        (LOOK, (0, 0), Status::NoOpening, b"", 0),
+        (wrong, (0, 0), Status::Unreadable, b"unreadable 2 1\n", 0),
+        (wrong, (0, 1), Status::Unreadable, b"", 0),
+        (first, (0, 1), Status::WriteFault, b"", 1),
+    ];
+    for (day, failing, ends, text, replies) in ways {
+        let mut lines: Vec<Box<dyn CallerLine + Send>> = Vec::new(alloc);
+        let line = MemoryLine::new(alloc, lines_of(alloc, &[LOOK])?, Vec::new(alloc), 100);
+        lines.push(Box::new(alloc, line.ok().ok_or("memory")?)?)?;
+        let (status, sink) = served(&rt, alloc, day, failing, &mut lines).ok_or("no memory")?;
+        assert!(rt; status == ends);
+        assert!(rt; sink.bytes() == text);
+        for line in &lines {
+            assert!(rt; line.put_count() == replies);
+        }
+    }
+    Ok(())
+}
