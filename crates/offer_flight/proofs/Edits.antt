@@ -1,5 +1,5 @@
 -- What is found after an offer is put in or taken out, and the order after it.
-use Rattle.std.proofs.Common.{◌≡◌, ℕ, zero, suc, ◌+◌, ◌-◌, ◌<◌, ◌≤◌, cond, ◌==◌, None, Some, List, [], ◌∷◌, ◌++◌, ◌≢◌, length, get_or, set, take, refl, ap, subst, ◌∙◌, arith}
+use Rattle.std.proofs.Common.{◌≡◌, ℕ, zero, suc, ◌+◌, ◌-◌, ◌<◌, ◌≤◌, cond, ◌==◌, None, Some, List, [], ◌∷◌, ◌++◌, ◌≢◌, length, get_or, set, refl, ap, subst, ◌∙◌, arith}
 use Rattle.std.specs.List.{insert, remove, swap_remove}
 use Rattle.std.proofs.lemmas.Bool.Decides.{nat_tests}
 use Rattle.std.proofs.Math.ListN.{length-set}

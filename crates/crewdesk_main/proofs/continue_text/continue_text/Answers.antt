@@ -1,5 +1,7 @@
-use Rattle.std.proofs.Common.{inl, inr, subst, arith}
+use Rattle.std.proofs.Common.{◌≡◌, ◌⊎◌, inl, inr, subst, arith}
 use Rattle.std.specs.Io.KnownBytes.{Appends}
+use Rattle.desk_io.specs.declared.status.Status.{Status}
+use Rattle.desk_io.specs.declared.status.Status.TheVariants as status
 use Rattle.desk_io.specs.Giving.{AddsFront}
 use Rattle.audit_desk.specs.Found.{Finds}
 use Rattle.day_replay.specs.Ends.{WritesOrFails}
@@ -25,6 +27,18 @@ returns-in-Ok-clause-no_opening g c = λ none. elim c.go_on.ensures.only [
   | inr (inr (inr (inl is))) ↦ absurd cc
   | inr (inr (inr (inr is))) ↦ absurd cc
 ]
+
+-- a command line that goes on with commands is neither wrong nor ends by a fault of the input
+no_form : (s : Status) → (s ≡ status.Fine) ⊎ ((s ≡ status.WriteFault) ⊎ ((s ≡ status.TooLong) ⊎ ((s ≡ status.Unreadable) ⊎ (s ≡ status.NoMemory))))
+    → (s ≡ status.Usage → ⊥) × (s ≡ status.ReadFault → ⊥)
+no_form s (inl is) = (λ usage. cc, λ fault. cc)
+no_form s (inr (inl is)) = (λ usage. cc, λ fault. cc)
+no_form s (inr (inr (inl is))) = (λ usage. cc, λ fault. cc)
+no_form s (inr (inr (inr (inl is)))) = (λ usage. cc, λ fault. cc)
+no_form s (inr (inr (inr (inr is)))) = (λ usage. cc, λ fault. cc)
+
+pub returns-in-Ok-clause-form : goal.returns-in-Ok-clause-form
+returns-in-Ok-clause-form g c = no_form c.go_on.result c.go_on.ensures.only
 
 pub returns-in-Ok-clause-unreadable : goal.returns-in-Ok-clause-unreadable
 returns-in-Ok-clause-unreadable g c = λ told.

@@ -1,4 +1,4 @@
-use Rattle.std.proofs.Common.{◌<◌, arith}
+use Rattle.std.proofs.Common.{arith}
 use Rattle.offer_flight.specs.Kept.{person_of}
 use Rattle.offer_flight.proofs.Looks.{look-none}
 use Rattle.offer_flight.proofs.places.scan.Goals as goal

@@ -1,4 +1,4 @@
-use Rattle.std.proofs.Common.{◌≡◌, None, Some, is_some, length, refl, sym, ap, ◌∙◌, arith}
+use Rattle.std.proofs.Common.{is_some, length, refl, sym, ap, ◌∙◌, arith}
 use Rattle.std.proofs.lemmas.Bool.{false≢true}
 use Rattle.offer_flight.specs.Flight.{of_vacancy, of_person}
 use Rattle.offer_flight.proofs.Maps.{at_vacancy, some_person, of_vacancy-taken_out, of_person-taken_out, kept-taken_out}
