@@ -1,9 +1,7 @@
 -- What is found after an offer is put in or taken out, and the order after it.
-use Rattle.std.proofs.Common.{◌≡◌, ℕ, zero, suc, ◌+◌, ◌-◌, ◌<◌, ◌≤◌, cond, ◌==◌, None, Some, List, [], ◌∷◌, ◌++◌, ◌≢◌, length, get_or, set, refl, ap, subst, ◌∙◌, arith}
-use Rattle.std.specs.List.{insert, remove, swap_remove}
+use Rattle.std.proofs.Common.{◌≡◌, ℕ, zero, suc, ◌+◌, ◌-◌, ◌<◌, ◌≤◌, cond, ◌==◌, None, Some, List, [], ◌∷◌, length, refl, ap, subst, arith}
+use Rattle.std.specs.List.{insert, remove}
 use Rattle.std.proofs.lemmas.Bool.Decides.{nat_tests}
-use Rattle.std.proofs.Math.ListN.{length-set}
-use Rattle.std.proofs.lemmas.List.{length-take, get_or-take, get_or-set_same, get_or-set_other}
 use Rattle.std.proofs.lemmas.List.Edits.{length-insert, get_or-insert_below, get_or-insert_at, get_or-insert_above, length-remove, get_or-remove_below, get_or-remove_above}
 use Rattle.offer_flight.specs.declared.in_flight.InFlight.{InFlight}
 use Rattle.offer_flight.specs.Kept.{blank, number_at, IsRising, AreApart, IsPlace}
@@ -89,48 +87,3 @@ module _ (number : InFlight → ℕ) (l : List InFlight) (place : ℕ) (within :
   apart-remove apart i j order before same =
       let long = length-remove l place within in
       grind (arith, remove-below i, remove-above i, remove-below j, remove-above j, apart i j, apart i (j + 1), apart (i + 1) (j + 1), same)
-
--- what is put in at the end
-pub insert-end : (l : List InFlight) (x : InFlight) → insert l (length l) x ≡ l ++ x ∷ []
-insert-end [] x = refl
-insert-end (y ∷ l) x = ap (λ xs. y ∷ xs) (insert-end l x)
-
--- ---- the last in the place of another
-
-module _ (number : InFlight → ℕ) (l : List InFlight) (place : ℕ) (within : place < length l) where
-  pub length-swapped : length (swap_remove l place blank) ≡ length l - 1
-  length-swapped = simp (length-take, length-set) (omega arith)
-
-  pub swapped-here : place < length l - 1 → get_or (swap_remove l place blank) place blank ≡ get_or l (length l - 1) blank
-  swapped-here before =
-      let last = get_or l (length l - 1) blank in
-      get_or-take (length l - 1) (set l place last) place blank before ∙ get_or-set_same l place last blank within
-
-  pub swapped-else : (i : ℕ) → i < length l - 1 → i ≢ place → get_or (swap_remove l place blank) i blank ≡ get_or l i blank
-  swapped-else i before other =
-      let last = get_or l (length l - 1) blank in
-      get_or-take (length l - 1) (set l place last) i blank before ∙ get_or-set_other l place i last blank other
-
-  here-number : place < length l - 1 → number_at number (swap_remove l place blank) place ≡ number_at number l (length l - 1)
-  here-number before = ap number (swapped-here before)
-
-  else-number : (i : ℕ) → i < length l - 1 → i ≢ place → number_at number (swap_remove l place blank) i ≡ number_at number l i
-  else-number i before other = ap number (swapped-else i before other)
-
-  -- the number at a place: the last one's there, else the old one
-  pub number_at-swapped : (i : ℕ) → i < length l - 1 → (i ≡ place → number_at number (swap_remove l place blank) i ≡ number_at number l (length l - 1))
-      × (i ≢ place → number_at number (swap_remove l place blank) i ≡ number_at number l i)
-  number_at-swapped i before = (λ same. rw same (here-number (omega (arith, same, before))), else-number i before)
-
-  pub apart-swapped : AreApart number l → AreApart number (swap_remove l place blank)
-  apart-swapped apart i j order before same =
-      let short = length-swapped in
-      grind (
-        arith,
-        number_at-swapped i,
-        number_at-swapped j,
-        apart i j,
-        apart i (length l - 1),
-        apart j (length l - 1),
-        same,
-      )

@@ -1,20 +1,19 @@
 -- Offers that are kept in two lists are one map, and what is found after one is put in or taken out.
-use Rattle.std.proofs.Common.{◌≡◌, ◌≢◌, ℕ, suc, ◌<◌, ◌-◌, Bool, true, false, cond, ◌==◌, nat_eq, Option, None, Some, List, [], ◌∷◌, ◌++◌, length, length-append, get_or, inl, inr, map, refl, sym, ap, subst, ◌∙◌, arith}
-use Rattle.std.specs.List.{insert, remove, swap_remove, AllByRecursion, IsDistinct}
-use Rattle.std.proofs.lemmas.Bool.{cases_lt}
+use Rattle.std.proofs.Common.{◌≡◌, ◌≢◌, ℕ, suc, ◌<◌, Bool, true, false, cond, ◌==◌, nat_eq, None, Some, List, [], ◌∷◌, length, get_or, map, refl, sym, ap, subst, ◌∙◌, arith}
+use Rattle.std.specs.List.{insert, remove, AllByRecursion, IsDistinct}
 use Rattle.std.proofs.lemmas.Bool.Decides.{nat_tests}
 use Rattle.std.proofs.lemmas.List.Edits.{length-insert, length-remove}
 use Rattle.offer_flight.specs.declared.flight.TheConstants.{OFFERS}
 use Rattle.offer_flight.specs.declared.in_flight.InFlight.{InFlight}
 use Rattle.offer_flight.specs.Flight.{of_vacancy, of_person, IsOneMap}
 use Rattle.offer_flight.specs.Kept.{blank, vac_of, person_of, number_at, IsRising, AreApart, IsPlace, AreKept}
-use Rattle.offer_flight.proofs.Looks.{look, NoneBefore, look-none, look-at, look-has, none-look, place-found}
-use Rattle.offer_flight.proofs.Edits.{look-insert, look-remove, rising-apart, rising-insert, apart-insert, rising-remove, apart-remove, insert-end, length-swapped, swapped-here, swapped-else, number_at-swapped, apart-swapped}
+use Rattle.offer_flight.proofs.Looks.{look, NoneBefore, look-at, look-has, none-look, place-found}
+use Rattle.offer_flight.proofs.Edits.{look-insert, look-remove, rising-apart, rising-insert, apart-insert, rising-remove, apart-remove}
 
 -- ---- one map
 
 -- what stands in a list whose numbers differ is found by its number
-pub look-own : (number : InFlight → ℕ) (l : List InFlight) (place : ℕ) → place < length l → AreApart number l → look number l (number_at number l place) ≡ Some (get_or l place blank)
+look-own : (number : InFlight → ℕ) (l : List InFlight) (place : ℕ) → place < length l → AreApart number l → look number l (number_at number l place) ≡ Some (get_or l place blank)
 look-own number l place within apart = look-at number l (number_at number l place) place within refl (λ i early same. apart i place early within same)
 
 -- what is found stands somewhere
@@ -62,12 +61,15 @@ distinct number (x ∷ l) apart = (
 
 -- ---- an offer more
 
--- the place that was searched for, in a list that is the kept one and what a contract sees
+-- the places that were searched for, in lists that are the kept ones, whose first is what a contract sees
 module _
-    (v p seen w : List InFlight) (room more : ℕ) (view : v ≡ seen) (kept : AreKept v room p more) (made : InFlight) (free : of_vacancy seen made.vac ≡ None) (idle : of_person seen made.person ≡ None)
-    (place : ℕ) (is_v : w ≡ v) (at : IsPlace vac_of w made.vac place) where
+    (v p seen w u : List InFlight) (room more : ℕ) (view : v ≡ seen) (kept : AreKept v room p more) (made : InFlight) (free : of_vacancy seen made.vac ≡ None) (idle : of_person seen made.person ≡ None)
+    (place again : ℕ) (is_v : w ≡ v) (is_p : u ≡ p) (at : IsPlace vac_of w made.vac place) (at_too : IsPlace person_of u made.person again) where
   here : IsPlace vac_of v made.vac place
   here = subst (λ l. IsPlace vac_of l made.vac place) is_v at
+
+  there : IsPlace person_of p made.person again
+  there = subst (λ l. IsPlace person_of l made.person again) is_p at_too
 
   none_of_vacancy : NoneBefore vac_of v made.vac (length v)
   none_of_vacancy = none-look vac_of v made.vac (ap (λ l. of_vacancy l made.vac) view ∙ free)
@@ -89,14 +91,14 @@ module _
   pub of_person-put_in : (person : ℕ) → of_person (insert v place made) person ≡ cond (made.person == person) (Some made) (of_person seen person)
   of_person-put_in person = person-put_in person ∙ ap (λ l. cond (made.person == person) (Some made) (of_person l person)) view
 
-  pub kept-put_in : length seen < OFFERS → AreKept (insert v place made) room (p ++ made ∷ []) more
+  pub kept-put_in : length seen < OFFERS → AreKept (insert v place made) room (insert p again made) more
   kept-put_in fewer = record {
     rising = rising-insert vac_of v place made here.within kept.rising here none_of_vacancy;
     apart = apart-insert person_of v place made here.within kept.apart none_of_person;
-    again = subst (AreApart person_of) (insert-end p made) (apart-insert person_of p (length p) made (omega arith) kept.again none_again);
-    same = λ person. ap (λ l. of_person l person) (sym (insert-end p made)) ∙ look-insert person_of p (length p) made person none_again
+    again = rising-insert person_of p again made there.within kept.again there none_again;
+    same = λ person. look-insert person_of p again made person (λ i early. none_again i (omega (arith, early, there.within)))
         ∙ ap (cond (made.person == person) (Some made)) (kept.same person) ∙ sym (person-put_in person);
-    long = omega (arith, length-append p (made ∷ []), length-insert v place made here.within, kept.long);
+    long = omega (arith, length-insert p again made there.within, length-insert v place made here.within, kept.long);
     few = omega (arith, length-insert v place made here.within, fewer, ap length view);
     fits = kept.fits;
     fits_too = kept.fits_too;
@@ -104,61 +106,19 @@ module _
 
 -- ---- an offer less
 
--- the last in the place of another
-look-swapped : (number : InFlight → ℕ) (l : List InFlight) (place asked : ℕ) → place < length l → AreApart number l
-    → look number (swap_remove l place blank) asked ≡ cond (number_at number l place == asked) None (look number l asked)
-look-swapped number l place asked within apart = go (number_at number l place == asked) (look number l asked) refl refl
-  where
-    short : length (swap_remove l place blank) ≡ length l - 1
-    short = length-swapped number l place within
-
-    none_there : (number_at number l place == asked) ≡ true → NoneBefore number (swap_remove l place blank) asked (length (swap_remove l place blank))
-    none_there is i before same =
-        let old = number_at-swapped number l place within i (omega (arith, before, short)) in
-        grind (arith, nat_tests, short, before, old, apart place i, apart i place, apart place (length l - 1), is, same)
-
-    none_left : look number l asked ≡ None → NoneBefore number (swap_remove l place blank) asked (length (swap_remove l place blank))
-    none_left looked i before same =
-        let old = number_at-swapped number l place within i (omega (arith, before, short)) in
-        let none = none-look number l asked looked in
-        grind (arith, nat_tests, short, before, old, none i, none (length l - 1), same)
-
-    some : (offer : InFlight) → (number_at number l place == asked) ≡ false → look number l asked ≡ Some offer → look number (swap_remove l place blank) asked ≡ Some offer
-    some offer other looked =
-        let at = found-stands number l asked offer looked in
-        let has : number_at number l at.place ≡ asked = ap number at.is ∙ look-has number l asked offer looked in
-        elim (cases_lt at.place (length l - 1)) [
-          | inl early ↦
-              let stays = swapped-else number l place within at.place early (λ same. grind (arith, nat_tests, has, other, same)) in
-              let before : NoneBefore number (swap_remove l place blank) asked at.place = λ i less same.
-              grind (arith, nat_tests, less, early, number_at-swapped number l place within i (omega (arith, less, early)), apart i at.place, apart at.place (length l - 1), has, same) in
-              look-at number (swap_remove l place blank) asked at.place (omega (arith, early, short)) (ap number stays ∙ has) before ∙ ap Some (stays ∙ at.is)
-          | inr last ↦
-              let end : length l - 1 ≡ at.place = omega (arith, last, at.within) in
-              let inside : place < length l - 1 = grind (arith, nat_tests, end, within, other, has) in
-              let moves = swapped-here number l place within inside in
-              let before : NoneBefore number (swap_remove l place blank) asked place = λ i less same.
-              grind (arith, nat_tests, less, inside, end, number_at-swapped number l place within i (omega (arith, less, inside)), apart i at.place, has, same) in
-              look-at number (swap_remove l place blank) asked place (omega (arith, inside, short)) (ap number moves ∙ ap (number_at number l) end ∙ has) before ∙ ap Some (moves ∙ ap (λ n. get_or l n blank) end ∙ at.is)
-        ]
-
-    go : (gone : Bool) (found : Option InFlight) → (number_at number l place == asked) ≡ gone → look number l asked ≡ found → look number (swap_remove l place blank) asked ≡ cond gone None found
-    go true found is looked = look-none number (swap_remove l place blank) asked (none_there is)
-    go false None is looked = look-none number (swap_remove l place blank) asked (none_left looked)
-    go false (Some offer) is looked = some offer is looked
-
--- the places that were searched for, the second of which is the person's
 module _
-    (v p seen w : List InFlight) (room more : ℕ) (view : v ≡ seen) (kept : AreKept v room p more) (done : InFlight) (vac : ℕ) (found : Some done ≡ of_vacancy seen vac)
-    (place : ℕ) (is_v : w ≡ v) (at : IsPlace vac_of w vac place) where
+    (v p seen w u : List InFlight) (room more : ℕ) (view : v ≡ seen) (kept : AreKept v room p more) (done : InFlight) (vac : ℕ) (found : Some done ≡ of_vacancy seen vac)
+    (place again : ℕ) (is_v : w ≡ v) (is_p : u ≡ p) (at : IsPlace vac_of w vac place) (at_too : IsPlace person_of u done.person again) where
   of_v : of_vacancy v vac ≡ Some done
   of_v = ap (λ l. of_vacancy l vac) view ∙ sym found
 
   pub at_vacancy : (place < length v) × (get_or v place blank ≡ done)
   at_vacancy = place-found vac_of v vac place kept.rising (subst (λ l. IsPlace vac_of l vac place) is_v at) done of_v
 
-  pub some_person : of_person p done.person ≡ Some done
-  some_person = kept.same done.person ∙ found-too vac_of person_of v vac done kept.apart of_v
+  pub at_person : (again < length p) × (get_or p again blank ≡ done)
+  at_person =
+      place-found person_of p done.person again kept.again (subst (λ l. IsPlace person_of l done.person again) is_p at_too) done
+      (kept.same done.person ∙ found-too vac_of person_of v vac done kept.apart of_v)
 
   person-taken_out : (person : ℕ) → of_person (remove v place) person ≡ cond (done.person == person) None (of_person v person)
   person-taken_out person = look-remove person_of v place person at_vacancy.0 kept.apart ∙ ap (λ o. cond (person_of o == person) None (of_person v person)) at_vacancy.1
@@ -172,15 +132,15 @@ module _
   pub of_person-taken_out : (person : ℕ) → of_person (remove v place) person ≡ cond (done.person == person) None (of_person seen person)
   of_person-taken_out person = person-taken_out person ∙ ap (λ l. cond (done.person == person) None (of_person l person)) view
 
-  pub kept-taken_out : (again : ℕ) → again < length p → number_at person_of p again ≡ done.person → AreKept (remove v place) room (swap_remove p again blank) more
-  kept-taken_out again within is = record {
+  pub kept-taken_out : AreKept (remove v place) room (remove p again) more
+  kept-taken_out = record {
     rising = rising-remove vac_of v place at_vacancy.0 kept.rising;
     apart = apart-remove person_of v place at_vacancy.0 kept.apart;
-    again = apart-swapped person_of p again within kept.again;
-    same = λ person. look-swapped person_of p again person within kept.again
-        ∙ ap (λ n. cond (n == person) None (of_person p person)) is
+    again = rising-remove person_of p again at_person.0 kept.again;
+    same = λ person. look-remove person_of p again person at_person.0 (rising-apart person_of p kept.again)
+        ∙ ap (λ o. cond (person_of o == person) None (of_person p person)) at_person.1
         ∙ ap (cond (done.person == person) None) (kept.same person) ∙ sym (person-taken_out person);
-    long = omega (arith, length-swapped person_of p again within, length-remove v place at_vacancy.0, kept.long);
+    long = omega (arith, length-remove p again at_person.0, length-remove v place at_vacancy.0, kept.long);
     few = omega (arith, length-remove v place at_vacancy.0, kept.few);
     fits = kept.fits;
     fits_too = kept.fits_too;

@@ -1,4 +1,4 @@
--- How offers are kept, and no rule: in one list by rising vacancy, and again in one in no order, where each is found by a hint.
+-- How offers are kept, and no rule: in one list by rising vacancy, and again in one by rising person.
 use Rattle.std.specs.Prelude.{◌≡◌, ◌≢◌, ℕ, ◌<◌, ◌≤◌, List, length, slice_index_or}
 use Rattle.offer_flight.specs.declared.flight.TheConstants.{OFFERS}
 use Rattle.offer_flight.specs.declared.in_flight.InFlight.{InFlight}
@@ -34,7 +34,7 @@ pub record IsPlace (number : InFlight → ℕ) (offers : List InFlight) (asked p
 pub record AreKept (vacancies : List InFlight) (room : ℕ) (persons : List InFlight) (more : ℕ) : Type 0 where
   pub rising : IsRising vac_of vacancies
   pub apart : AreApart person_of vacancies
-  pub again : AreApart person_of persons
+  pub again : IsRising person_of persons
   pub same : (person : ℕ) → of_person persons person ≡ of_person vacancies person
   pub long : length persons ≡ length vacancies
   pub few : length vacancies ≤ OFFERS

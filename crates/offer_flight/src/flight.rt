@@ -3,8 +3,8 @@ ghost use Rattle.std.specs.List.{IsDistinct};
 ghost use Rattle.offer_flight.specs.Flight.{of_vacancy, of_person, persons_of, IsOneMap};
 
 use crate::InFlight;
-use crate::places::{copy_of, place_of_person, place_of_vacancy, put_in, take_out};
-use desk_base::{NoMemory, PersonHints, PersonNo, VacNo};
+use crate::places::{copy_of, place_of_person, place_of_vacancy, put_in};
+use desk_base::{NoMemory, PersonNo, VacNo};
 use std::alloc::Global;
 use std::marker::Model;
 
@@ -17,7 +17,6 @@ pub const OFFERS: usize = 1_000;
 pub struct Flight {
     by_vacancy: Vec<InFlight>,
     by_person: Vec<InFlight>,
-    hints: PersonHints,
 }
 
 impl Model for Flight {
@@ -41,7 +40,6 @@ impl Flight {
         Ok(Flight {
             by_vacancy: Vec::with_capacity(alloc, OFFERS)?,
             by_person: Vec::with_capacity(alloc, OFFERS)?,
-            hints: PersonHints::new(alloc)?,
         })
     }
 
@@ -52,7 +50,6 @@ impl Flight {
         Ok(Flight {
             by_vacancy: copy_of(alloc, &self.by_vacancy)?,
             by_person: copy_of(alloc, &self.by_person)?,
-            hints: self.hints.copy(alloc)?,
         })
     }
 
@@ -76,9 +73,9 @@ impl Flight {
         ensures count { length self.new ≡ length self.old + 1 }
     {
         let place = place_of_vacancy(&self.by_vacancy, made.vac);
-        self.hints.set(made.person, self.by_person.len());
+        let again = place_of_person(&self.by_person, made.person);
         put_in(&mut self.by_vacancy, place, &made);
-        self.by_person.push_reserved(made);
+        put_in(&mut self.by_person, again, &made);
     }
 
     /// Takes out the open offer of a vacancy, and answers it; `None` where it has none, and then nothing changes.
@@ -93,9 +90,9 @@ impl Flight {
     {
         let done = self.of_vacancy(vac)?;
         let place = place_of_vacancy(&self.by_vacancy, vac);
-        let again = place_of_person(&self.by_person, &self.hints, done.person)?;
+        let again = place_of_person(&self.by_person, done.person);
         self.by_vacancy.remove(place);
-        take_out(&mut self.by_person, &mut self.hints, again);
+        self.by_person.remove(again);
         Some(done)
     }
 
@@ -112,8 +109,13 @@ impl Flight {
     pub fn of_person(&self, person: PersonNo) -> Option<InFlight>
         ensures { result ≡ of_person self.now person }
     {
-        let place = place_of_person(&self.by_person, &self.hints, person)?;
-        Some(self.by_person[place])
+        let place = place_of_person(&self.by_person, person);
+        let found = self.by_person.get(place)?;
+        if found.person == person {
+            Some(*found)
+        } else {
+            None
+        }
     }
 
     /// An offer is its vacancy's just where it is its person's, so that no person and no vacancy stands twice; and those to
