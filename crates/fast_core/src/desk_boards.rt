@@ -9,7 +9,6 @@ ghost use Rattle.desk_register.specs.Among.{place_among, board_place};
 ghost use Rattle.desk_model.specs.Offers.{is_of};
 ghost use Rattle.desk_lists.specs.Places.{has_board};
 ghost use Rattle.fast_core.specs.Desk.{Tells};
-ghost use Rattle.fast_core.specs.Search.{was_searched};
 
 use crate::desk::Desk;
 use desk_base::{Code, PersonNo};
@@ -46,16 +45,6 @@ impl Desk {
             return false;
         };
         self.lists.is_on(place, at)
-    }
-
-    /// Whether the person is on one of the boards that the word has, each as a bit by its place among all.
-    pub fn is_on_one(&self, person: PersonNo, boards: u64) -> bool
-        ensures { (h : History) → Tells self.now h → result ≡ was_searched self.now h boards person }
-    {
-        match self.person_place(person) {
-            Some(place) => self.lists.is_on_one(place, boards),
-            None => false,
-        }
     }
 
     /// The word with this board, too.
