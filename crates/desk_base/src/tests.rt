@@ -1,5 +1,5 @@
 //! The clauses say that texts are those of civil dates; these are dates that another calendar computed.
-use crate::{Code, Day, Minute, Month, NoMemory, PersonNo, VacNo, Window};
+use crate::{Code, Day, Minute, Month, NoMemory, PersonHints, PersonNo, VacNo, Window};
 use std::alloc::AllocError;
 use std::test::Fail;
 
@@ -162,5 +162,21 @@ fn codes_and_numbers(rt: HostRuntime) -> Result<(), Fail> {
         assert!(rt; VacNo::new(number).map(|v| v.number()) == is_number.then_some(number));
     }
     assert!(rt; NoMemory::from(AllocError) == NoMemory);
+    Ok(())
+}
+
+// Two persons whose numbers are 4,096 apart share a hint.
+#[test]
+fn a_hint_is_where_a_person_was_put_last(rt: HostRuntime) -> Result<(), Fail> {
+    let person = PersonNo::new(7).ok_or("no person")?;
+    let far = PersonNo::new(4_103).ok_or("no person")?;
+    let mut hints = PersonHints::new(rt.alloc())?;
+    assert!(rt; hints.of(person) == 0);
+    hints.set(person, 499);
+    assert!(rt; hints.of(person) == 499);
+    let copy = hints.copy(rt.alloc())?;
+    hints.set(far, 12);
+    assert!(rt; hints.of(person) == 12);
+    assert!(rt; copy.of(person) == 499);
     Ok(())
 }
