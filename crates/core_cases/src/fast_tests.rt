@@ -1,7 +1,7 @@
 //! A desk that looks up beside one that searches all that was stated, and tables that are full.
 use crate::commands::{enrol, list, set_up, take};
 use desk_base::{Code, Minute, Month, PersonNo, VacNo, Window};
-use desk_model::{Chain, Cmd, Edition, Job, Opening, Reply};
+use desk_model::{Chain, Cmd, DeskCore, Edition, Job, Opening, Reply};
 use fast_core::FastCore;
 use qualifications::{Craft, Quals};
 use std::test::Fail;
