@@ -92,7 +92,7 @@ fn ends_surely(alloc: Global, list: &[&str]) -> Option<Status> {
 fn help_and_version_stand_alone(rt: HostRuntime) {
     let alloc = rt.alloc();
     for word in ["--help", "--version"] {
-        assert!(rt; tells_its_name(alloc, &[word], 1_024) == Some((Status::Fine, true)));
+        assert!(rt; tells_its_name(alloc, &[word], 2_048) == Some((Status::Fine, true)));
         assert!(rt; tells_its_name(alloc, &[word], 0) == Some((Status::WriteFault, false)));
         assert!(rt; ends_surely(alloc, &[word, word]) == Some(Status::Usage));
     }
