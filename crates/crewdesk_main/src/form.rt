@@ -1,11 +1,11 @@
 ghost use Rattle.std.specs.Prelude.{◌≡◌, IfSome};
 ghost use Rattle.crewdesk_main.specs.Words.{form_of, numbered_form, gen_form, record_form, number_in, HasNumbers};
 
-use day_replay::DayForm;
 use crate::read_number::read_number;
 use crate::tour_form::TourForm;
 use crate::words::is_alone;
 use day_gen::{SET_UP, most_commands};
+use day_replay::DayForm;
 use desk_base::PersonNo;
 use desk_model::Edition;
 

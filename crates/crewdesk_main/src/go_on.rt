@@ -12,9 +12,8 @@ ghost use Rattle.day_replay.specs.Ends.{WritesOrFails, writes};
 ghost use Rattle.crewdesk_main.specs.GoesOn.{EndsByTheCommands, FindsWrongField, GoesOn};
 ghost use Rattle.day_replay.specs.Replay.{goes_on};
 
-use day_replay::write_entries;
 use crate::limits::ENTRY_LIMIT;
-use day_replay::tell_wrong;
+use day_replay::{tell_wrong, write_entries};
 use desk_io::{Sink, Status, put_all};
 use desk_model::{DeskCore, Stated};
 use desk_text::{MoreFault, read_more};

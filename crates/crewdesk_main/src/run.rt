@@ -10,8 +10,8 @@ use crate::audit_form::audit_journal;
 use crate::continue_form::continue_journal;
 use crate::form::Form;
 use crate::generate::tally_generated;
-use day_replay::replay_day;
 use crate::tours::tell_tours;
+use day_replay::replay_day;
 use desk_io::{Sink, Source, Status};
 use std::alloc::Global;
 

@@ -57,7 +57,7 @@ IsServed-attends gate more after i seat later known line served a had has knows 
     let none : a.before.calls ≡ 0 = ap (λ s. s.calls) before in
     let mine = own-more gate.start.book.entries more after a.serves.entries (i + 1) begins
     (own-served gate.start.book.entries after (i + 1) a.before a.behind a.serves.entries (ap (λ s. s.number) before ∙ omega arith) (ap (λ s. s.known) before) a.serves.made.number
-        a.serves.made.own_calls (subst (λ s. Knows after s) (sym behind) knows)) in
+    a.serves.made.own_calls (subst (λ s. Knows after s) (sym behind) knows)) in
     record {
       answers = a.serves.answers;
       texts = a.serves.texts;

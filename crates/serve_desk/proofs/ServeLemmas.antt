@@ -54,7 +54,7 @@ ServesHistory-served o commands h lines later Writes is replay behind =
       count = served.count;
       each = λ i line within.
           let mine : own served.more (i + 1) ≡ own after.entries (i + 1) =
-              sym (ap (λ es. own es (i + 1)) begins ∙ filter-append (λ e. e.caller == i + 1) day.entries served.more ∙ ap (λ es. es ++ own served.more (i + 1)) (own-day day.entries commands (i + 1) (omega arith) replay.given)) in
+          sym (ap (λ es. own es (i + 1)) begins ∙ filter-append (λ e. e.caller == i + 1) day.entries served.more ∙ ap (λ es. es ++ own served.more (i + 1)) (own-day day.entries commands (i + 1) (omega arith) replay.given)) in
           subst (λ es. IsServed CALLS_PER_LINE es (slice_index_or lines i line) (slice_index_or later i line)) mine (served.each i line within);
       written = behind.written;
     }

@@ -13,8 +13,16 @@ pub unreachable-requires : goal.unreachable-requires
 unreachable-requires g c =
     let h = history_of (g.C.DeskCore.opening c.args.book.now.core) c.args.book.now.entries.items in
     let at = c.loop-stated.stated-index in
-    omega (arith, c.requires, c.loop-stated.invariant.room, c.in_default.ensures.full.0 refl, ap (λ x. length x.entries) c.loop-stated.invariant.history,
-    goes_on-length h (take at c.args.commands.now), length-take-le at c.args.commands.now (omega (arith, c.loop-stated-test.true)), c.loop-stated-test.true)
+    omega (
+      arith,
+      c.requires,
+      c.loop-stated.invariant.room,
+      c.in_default.ensures.full.0 refl,
+      ap (λ x. length x.entries) c.loop-stated.invariant.history,
+      goes_on-length h (take at c.args.commands.now),
+      length-take-le at c.args.commands.now (omega (arith, c.loop-stated-test.true)),
+      c.loop-stated-test.true,
+    )
 
 pub loop-stated-preserved : goal.loop-stated-preserved
 loop-stated-preserved g c =
