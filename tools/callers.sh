@@ -49,16 +49,23 @@ caller() {
 }
 
 names=
+callers=
 for number in 1 2 3 4 5 6 7 8; do
     names="$names c$number"
     mkfifo "c$number.in" "c$number.out" || exit 2
     : > "c$number.got"
     caller "$number" &
+    callers="$callers $!"
 done
 # shellcheck disable=SC2086
 timeout 60 "$program" serve $names < "$day" > journal 2> stderr
 check $? 0 'its status'
-wait
+# Who still stands at a pipe that the program never opened is sent away.
+# shellcheck disable=SC2086
+(sleep 5 && kill $callers) > /dev/null 2>&1 &
+# shellcheck disable=SC2086
+wait $callers 2> /dev/null
+kill $! 2> /dev/null
 check "$(cat stderr)" '' 'standard error'
 check "$("$program" audit < journal 2>&1)" "legal $(($(wc -l < journal) - 1))" 'an audit of its journal'
 for number in 1 2 3 4 5 6 8; do
