@@ -1,5 +1,5 @@
 //! Lines in memory that are served behind a day file.
-use crate::openings::{LOOK, has_puts, lines_of};
+use crate::openings::{LOOK, has_puts, lines_of, looks};
 use caller_lines::{CallerLine, MemoryLine};
 use desk_io::{MemorySink, MemorySource, Status};
 use serve_desk::serve;
@@ -44,7 +44,7 @@ fn served<R: Threads + Wait + Sync>(
     let read_fails = vec![in alloc; failing.0].ok()?;
     let write_fails = vec![in alloc; failing.1].ok()?;
     let mut source = MemorySource::new(day.to_vec(alloc).ok()?, 100, read_fails);
-    let mut sink = MemorySink::new(alloc, 4_096, 100, write_fails).ok()?;
+    let mut sink = MemorySink::new(alloc, 1_000_000, 65_536, write_fails).ok()?;
     let status = serve(rt, alloc, &mut source, lines, &mut sink);
     Some((status, sink))
 }
@@ -127,4 +127,38 @@ fn ways_to_end(rt: HostRuntime) -> Result<(), Fail> {
         }
     }
     Ok(())
+}
+
+// A line of 5,001 commands, one that fails at its third read, and one whose first put fails: how many replies each has, and how many
+// entries the journal has of each.
+#[test]
+fn spent_and_failing_lines(rt: HostRuntime) -> Result<(), Fail> {
+    let alloc = rt.alloc();
+    let first = b"2024-03-04 00:00,open,2024-03,1,15\n";
+    let mut lines: Vec<Box<dyn CallerLine + Send>> = Vec::new(alloc);
+    for (count, failing) in [(5_001, 0), (3, 5), (1, 2)] {
+        let failing = vec![in alloc; failing]?;
+        let line = MemoryLine::new(alloc, looks(alloc, count)?, failing, 1_000_000);
+        lines.push(Box::new(alloc, line.ok().ok_or("memory")?)?)?;
+    }
+    let (status, sink) = served(&rt, alloc, first, (0, 0), &mut lines).ok_or("no memory")?;
+    assert!(rt; status == Status::Fine);
+    let [one, two, three] = lines.as_slice() else {
+        panic!(rt; "there are three lines")
+    };
+    assert!(rt; one.put_count() == 5_001 && one.was_put(5_001, b"spent\n"));
+    assert!(rt; two.put_count() == 2 && three.put_count() == 0);
+    assert!(rt; lines_by(sink.bytes(), b'1') == 5_000);
+    assert!(rt; lines_by(sink.bytes(), b'2') == 2);
+    assert!(rt; lines_by(sink.bytes(), b'3') == 1);
+    Ok(())
+}
+
+// How many lines of a journal begin with this caller's digit, behind the first.
+fn lines_by(journal: &[u8], caller: u8) -> usize {
+    journal
+        .split(|byte| *byte == b'\n')
+        .skip(1)
+        .filter(|line| line.first() == Some(&caller))
+        .count()
 }
