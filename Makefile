@@ -1,7 +1,7 @@
 # make        proves the crates, a line for each, and leaves the program at build/crewdesk
 # make run    does so where needed, and replays an example
 # make try    replays the same example in seconds, for who only wants to look: it proves nothing, and says so
-# make memory refuses that run each allocation in turn; it proves nothing, and takes minutes
+# make memory refuses runs of the program each request for memory in turn; it proves nothing, and takes a C compiler
 # make test   the gate: proofs, must-fail edits, tests, examples, and the table of promises
 PROGRAM := build/crewdesk
 DAY := examples/a_denial_for_rest/stdin
@@ -21,8 +21,8 @@ try:
 	@echo "This run is not proved: 'make run' proves the program first." >&2
 	@cd crates/crewdesk_main && rt try -- replay < ../../$(DAY)
 
-memory:
-	@sh tools/refused_memory.sh
+memory: $(PROGRAM)
+	@sh tools/refused_memory.sh $(PROGRAM)
 
 test:
 	@sh tools/gate.sh

@@ -1,49 +1,74 @@
 #!/bin/sh
-# refused_memory.sh: runs the program on examples again and again, and refuses it each allocation in turn, the words' among them: a
-# replay, an audit, the records of tours, and a caller who is served. Each run must end with status 6 and `no memory`, and write
-# nothing; or with status 0 and all that is written without a refusal; or, of the caller, with status 0 and the reply `no memory` to a
-# line that was not taken. It stops where 8 runs on end are as without a refusal. It proves nothing and takes some minutes, so it is
-# no part of the gate.
-cd "$(dirname "$0")/../crates/crewdesk_main" || exit 2
-examples=$(realpath ../../examples)
+# refused_memory.sh PROGRAM: runs the program on examples again and again, and refuses it each request for memory in turn, the words'
+# among them: a replay, an audit, the records of tours, and a caller who is served. Each run must end with status 6 and `no memory`, and
+# write nothing; or with status 0 and all that is written without a refusal; or, of the caller, with status 0 and the reply `no memory`
+# to a line that was not taken. It stops where 64 runs on end are as without a refusal. It needs a C compiler and a linker that loads
+# before others what LD_PRELOAD names, so it is no part of the gate.
+program=$(realpath "$1") || exit 2
+examples=$(realpath "$(dirname "$0")/../examples") || exit 2
 work=$(mktemp -d) || exit 2
 trap 'rm -rf "$work"' EXIT
 
-# Runs the program with these words on an input and refuses it the allocation of a number; it ends as the program does.
-try() {
-    number=$1 input=$2
-    shift 2
-    rm -f "$work/east.out"
-    rt try --fail-alloc "$number" -- "$@" < "$input" > "$work/stdout" 2> "$work/stderr"
+# The C library's requests, the one of the number REFUSED refused.
+cat > "$work/refuse.c" <<'C'
+#define _GNU_SOURCE
+#include <dlfcn.h>
+#include <errno.h>
+#include <stdlib.h>
+
+static long asked;
+
+static int is_refused(void) {
+    const char *number = getenv("REFUSED");
+    return number && __atomic_add_fetch(&asked, 1, __ATOMIC_SEQ_CST) == atol(number);
 }
 
-# What a run wrote, and whether it is all that it writes without a refusal.
+void *malloc(size_t size) {
+    static void *(*next)(size_t);
+    if (!next) next = (void *(*)(size_t))dlsym(RTLD_NEXT, "malloc");
+    if (!is_refused()) return next(size);
+    errno = ENOMEM;
+    return NULL;
+}
+
+void *realloc(void *old, size_t size) {
+    static void *(*next)(void *, size_t);
+    if (!next) next = (void *(*)(void *, size_t))dlsym(RTLD_NEXT, "realloc");
+    if (!is_refused()) return next(old, size);
+    errno = ENOMEM;
+    return NULL;
+}
+C
+cc -shared -fPIC -o "$work/refuse.so" "$work/refuse.c" -ldl || exit 2
+
+# What a run wrote is all that it writes without a refusal.
 is_whole() {
     cmp -s "$work/stdout" "$1" && { [ -z "$2" ] || cmp -s "$work/east.out" "$2"; }
 }
 
-# An example's form: its expected output, the expected replies, if there are any, the input and the words.
+# The expected output, the expected replies of a caller, if there is one, the input and the words.
 refuse() {
     whole=$1 replies=$2 input=$3
     shift 3
     number=1 same=0 refused=0
-    while [ $same -lt 8 ]; do
-        try "$number" "$input" "$@"
+    while [ $same -lt 64 ]; do
+        rm -f "$work/east.out"
+        REFUSED=$number LD_PRELOAD=$work/refuse.so "$program" "$@" < "$input" > "$work/stdout" 2> "$work/stderr"
         status=$?
         if [ $status = 0 ] && is_whole "$whole" "$replies"; then
             same=$((same + 1))
-        elif [ $status = 6 ] && [ ! -s "$work/stdout" ] && grep -qx 'no memory' "$work/stderr"; then
+        elif [ $status = 6 ] && [ ! -s "$work/stdout" ] && [ "$(cat "$work/stderr")" = 'no memory' ] && [ ! -s "$work/east.out" ]; then
             same=0 refused=$((refused + 1))
         elif [ $status = 0 ] && [ -n "$replies" ] && grep -qx 'no memory' "$work/east.out"; then
             same=0 refused=$((refused + 1))
         else
-            echo "$*: allocation $number was refused: status $status" >&2
+            echo "$*: request $number was refused: status $status" >&2
             cat "$work/stdout" "$work/stderr" >&2
             exit 1
         fi
         number=$((number + 1))
     done
-    echo "$1: $refused of $((number - 1)) allocations, each refused in turn, were wanting"
+    echo "$1: of $((number - 1)) requests, each refused in turn, $refused were wanted"
 }
 
 refuse "$examples/first_offer/stdout" '' "$examples/first_offer/stdin" replay
