@@ -1,14 +1,13 @@
 -- The history of a day file's commands and of the calls of lines behind them.
-use Rattle.std.proofs.Common.{◌≡◌, ℕ, Option, ◌+◌, ◌<◌, ◌≤◌, ◌==◌, Bool, true, false, cond, List, [], ◌∷◌, ◌++◌, length, map, take, drop, filter, slice_index_or, refl, sym, ap, subst, ◌∙◌, arith}
+use Rattle.std.proofs.Common.{◌≡◌, ℕ, Option, ◌+◌, ◌<◌, ◌==◌, false, cond, List, [], ◌∷◌, ◌++◌, length, map, take, drop, slice_index_or, refl, sym, ap, subst, ◌∙◌, arith}
 use Rattle.std.specs.List.{All}
 use Rattle.std.proofs.Math.Logic.{∥∥₁_elim}
 use Rattle.std.proofs.lemmas.Grind.{common_steps}
 use Rattle.std.proofs.lemmas.List.Elements.{filter-append}
 use Rattle.desk_model.specs.Entry.{EntryValue}
-use Rattle.desk_model.specs.Fits.{IsStated}
 use Rattle.desk_model.specs.History.{History, opened}
 use Rattle.desk_model.specs.Journal.{journal}
-use Rattle.desk_model.specs.Legal.{IsLegal, given}
+use Rattle.desk_model.specs.Legal.{given}
 use Rattle.desk_model.specs.Opening.{OpeningValue, IsOpening}
 use Rattle.desk_model.specs.Statement.{StatedValue}
 use Rattle.desk_text.specs.DayFile.{IsDayFile}

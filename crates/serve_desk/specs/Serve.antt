@@ -1,8 +1,6 @@
 -- What serving lines behind a day file makes of the source, the lines and the sink.
 use Rattle.std.specs.Prelude.{◌≡◌, ◌⊎◌, ℕ, ◌+◌, ◌<◌, Option, List, length, map, take, drop, slice_index_or}
 use Rattle.std.specs.List.{All}
-use Rattle.desk_io.specs.Faults.{Rose}
-use Rattle.desk_model.specs.Entry.{EntryValue}
 use Rattle.desk_model.specs.History.{History}
 use Rattle.desk_model.specs.Journal.{journal}
 use Rattle.desk_model.specs.Legal.{IsLegal, given}

@@ -1,8 +1,7 @@
-use Rattle.std.proofs.Common.{◌≡◌, ◌∙◌, sym, ap, refl, arith, length, take}
+use Rattle.std.proofs.Common.{◌∙◌, sym, ap, refl, arith, length, take}
 use Rattle.std.proofs.lemmas.List.{length-take-le}
 use Rattle.desk_model.specs.History.{history_of, with_entry}
 use Rattle.desk_model.specs.Legal.{next}
-use Rattle.day_replay.specs.Replay.{goes_on}
 use Rattle.day_replay.proofs.HistoryLemmas.{goes_on-none, goes_on-next, goes_on-length}
 use Rattle.serve_desk.proofs.serving.answer_all.Goals as goal
 
