@@ -1,5 +1,5 @@
 -- Which status comes where, of a journal that is read as it stands.
-use Rattle.std.proofs.Common.{◌≡◌, ◌≢◌, ◌∙◌, ℕ, ◌<◌, ◌≤◌, List, [], ◌++◌, length, refl, sym, ap, subst, arith, length-append, inl, inr, Option, Some, None}
+use Rattle.std.proofs.Common.{◌≡◌, ◌≢◌, ℕ, ◌≤◌, List, [], length, refl, ap, subst, arith, length-append, inl, inr, Option, Some, None}
 use Rattle.std.specs.Prelude.{◌⊎◌}
 use Rattle.desk_io.specs.Input.{TookMore}
 use Rattle.desk_io.specs.declared.status.Status.{Status}
@@ -7,9 +7,9 @@ use Rattle.desk_io.specs.declared.status.Status.TheVariants.{Fine, Usage, ReadFa
 use Rattle.desk_model.specs.History.{History}
 use Rattle.audit_desk.specs.declared.journal.TheConstants.{BYTE_LIMIT}
 use Rattle.audit_desk.specs.Found.{HasNoOpening}
-use Rattle.day_replay.specs.Ends.{WasRead, TellsMore, EndsAs, Tells as Holds}
+use Rattle.day_replay.specs.Ends.{WasRead, TellsMore, EndsAs}
 use Rattle.crewdesk_main.specs.Lines.{HasTooManyLines, HasFewLines}
-use Rattle.crewdesk_main.specs.Records.{StartsWith, HasNoEntry, Tells, TellsLine, EndsByTheLines}
+use Rattle.crewdesk_main.specs.Records.{Tells, TellsLine, EndsByTheLines}
 use Rattle.crewdesk_main.proofs.OneJournalLemmas.{StartsWith-no_line, StartsWith-opening}
 
 -- what was read of a source that told its bytes holds of them

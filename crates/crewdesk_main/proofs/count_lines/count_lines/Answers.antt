@@ -1,4 +1,4 @@
-use Rattle.std.proofs.Common.{◌≡◌, ◌∙◌, ◌==◌, ◌-◌, Some, None, length, slice_get, count_by, sym, ap, arith}
+use Rattle.std.proofs.Common.{◌∙◌, length, sym, ap, arith}
 use Rattle.memchr.proofs.lemmas.CallerLemmas.{length-places}
 use Rattle.memchr.specs.Find.{is_byte}
 use Rattle.crewdesk_main.proofs.LineLemmas.{line_count-last, line_count-none}
