@@ -26,7 +26,7 @@ pub fn answer<C: DeskCore, R: Wait>(
     desk: &Desk<C>,
     seat: Seat<Book<C>>,
     heard: u32,
-    lines: &mut EntryLines,
+    entry_lines: &mut EntryLines,
     line: &mut Box<dyn CallerLine + Send>,
 ) -> Answered<C>
     requires seat { IsSeatOf desk.now seat }
@@ -49,7 +49,7 @@ pub fn answer<C: DeskCore, R: Wait>(
             seat,
             ends: Some(Why::LineFault),
         },
-        said => reply(rt, desk, seat, heard, said, lines, line),
+        said => reply(rt, desk, seat, heard, said, entry_lines, line),
     }
 }
 
@@ -60,7 +60,7 @@ fn reply<C: DeskCore, R: Wait>(
     seat: Seat<Book<C>>,
     heard: u32,
     said: Said,
-    lines: &mut EntryLines,
+    entry_lines: &mut EntryLines,
     line: &mut Box<dyn CallerLine + Send>,
 ) -> Answered<C>
     requires seat { IsSeatOf desk.now seat }
@@ -92,7 +92,7 @@ fn reply<C: DeskCore, R: Wait>(
             seat,
             ends: put_on(line, write_malformed(field).as_slice(), None),
         },
-        Said::Command(stated) => call(rt, desk, seat, stated, lines, line),
+        Said::Command(stated) => call(rt, desk, seat, stated, entry_lines, line),
         Said::End | Said::LineFault => unreachable!(),
     }
 }
@@ -103,7 +103,7 @@ fn call<C: DeskCore, R: Wait>(
     desk: &Desk<C>,
     seat: Seat<Book<C>>,
     stated: Stated,
-    lines: &mut EntryLines,
+    entry_lines: &mut EntryLines,
     line: &mut Box<dyn CallerLine + Send>,
 ) -> Answered<C>
     requires { IsSeatOf desk.now seat }
@@ -120,7 +120,7 @@ fn call<C: DeskCore, R: Wait>(
     match outcome {
         Ok(receipt) => Answered {
             seat,
-            ends: put_on(line, lines.write(&receipt.entry), None),
+            ends: put_on(line, entry_lines.write(&receipt.entry), None),
         },
         Err(SeatSpent) => Answered {
             seat,

@@ -39,9 +39,9 @@ pub fn session<C: DeskCore, R: Wait>(
 {
     let left = desk.left(&seat);
     let mut seat = seat;
-    let mut lines = EntryLines::new();
+    let mut entry_lines = EntryLines::new();
     for heard in 0..LINE_LIMIT + 1 {
-        let answered = answer(rt, alloc, desk, seat, heard, &mut lines, line);
+        let answered = answer(rt, alloc, desk, seat, heard, &mut entry_lines, line);
         seat = answered.seat;
         match answered.ends {
             None => {}
