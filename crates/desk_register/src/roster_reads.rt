@@ -45,6 +45,7 @@ impl Roster {
         ensures kept { IfSome result (λ x. person_under self.now person ≡ Some x.now) }
         ensures place { is_some result ≡ true → place_among (person_numbers self.now) person ≡ Some place }
     {
+        // Nobody is kept twice.
         self.kept.len();
         let (number, kept) = self.kept.get_index(place)?;
         if *number == person { Some(kept) } else { None }

@@ -170,6 +170,7 @@ impl PersonClock {
             duty: u32::from(duty),
             limbo: u32::from(limbo),
         };
+        // A window lies in the years 2000 to 2099.
         self.window.start();
         self.law_of(moment, &PlanMonths::of(&plan))
     }

@@ -49,6 +49,7 @@ fn first_over(limit: &Limit, window: &Window, sums: &MonthSums, plan: &PlanMonth
     ensures { (es : List Event) → AreSoFar limit.now window.now sums.now es
         → result ≡ first_over limit.now es plan.now }
 {
+    // A window lies in the years 2000 to 2099.
     window.months();
     for share in plan.shares() {
         let so_far = so_far(window, sums, share.month);
