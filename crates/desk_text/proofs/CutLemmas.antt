@@ -1,16 +1,13 @@
 -- Texts cut at a mark, and behind a head.
 use Rattle.std.proofs.Common.{◌≡◌, ◌≢◌, ◌∙◌, ℕ, ◌+◌, ◌-◌, ◌<◌, ◌==◌, true, false, Option, None, Some, IfSome, IfNone, Bor, nat_eq, List, [], ◌∷◌, ◌++◌, length, get_or, take, drop, refl, sym, ap, arith, length-append}
-use Rattle.std.specs.List.{All, join_with_byte, position_or_len}
+use Rattle.std.specs.List.{All, join_with_byte}
 use Rattle.std.specs.Cmp.Lexicographic.{pointwise}
 use Rattle.std.proofs.lemmas.Bool.{eq-eqb, false≢true, false_from_ne_true}
-use Rattle.std.proofs.lemmas.Grind.{get_or_default_zero}
 use Rattle.std.proofs.lemmas.Bool.Decides.{Decides-eqb}
 use Rattle.std.proofs.Math.Seq.{take-append_seam}
 use Rattle.std.specs.Option.{MatchOption}
 use Rattle.std.proofs.lemmas.List.{take-append-drop, drop_at}
-use Rattle.std.proofs.lemmas.List.Splits.{slice_split_at, slice_split_first, slice_split_none, length-slice_split, join_with_byte-slice_split}
-use Rattle.std.proofs.lemmas.List.Sums.{position_or_len_is}
-use Rattle.memchr.specs.Find.{IsFirstByte, is_byte}
+use Rattle.std.proofs.lemmas.List.Splits.{slice_split_at, length-slice_split, join_with_byte-slice_split}
 use Rattle.std.proofs.lemmas.Slice.Eq.{slice_eq-Decides}
 use Rattle.desk_base.specs.Parts.{parts_by}
 
@@ -45,22 +42,6 @@ cut-one mark a b x y ha hb e =
 -- there are parts behind a mark
 pub some-parts : (mark : ℕ) (back : List ℕ) → [] ≡ parts_by mark back → ⊥
 some-parts mark back none = omega (arith, length-slice_split (λ b. b == mark) back, ap length none)
-
--- ---- the first mark
-
--- the bytes before the first mark are the first part
-pub parts_by-found : (mark at : ℕ) (bytes : List ℕ) → IsFirstByte (is_byte mark) bytes (Some at)
-    → parts_by mark bytes ≡ take at bytes ∷ parts_by mark (drop (at + 1) bytes)
-parts_by-found mark at bytes found =
-    let here : position_or_len (λ b. b == mark) bytes ≡ at = position_or_len_is (λ b. b == mark) bytes at 0 (omega (arith, found.0.high))
-    (λ k before. false_from_ne_true _ (found.0.before k (omega arith) before)) (λ within. found.1) in
-    slice_split_first (λ b. b == mark) bytes 0 (omega (arith, here, found.0.high))
-    ∙ ap (λ n. take n bytes ∷ parts_by mark (drop (n + 1) bytes)) here
-
--- where there is no mark, all bytes are
-pub parts_by-absent : (mark : ℕ) (bytes : List ℕ) → IsFirstByte (is_byte mark) bytes None → parts_by mark bytes ≡ bytes ∷ []
-parts_by-absent mark bytes none =
-    slice_split_none (λ b. b == mark) bytes (λ k d within. ap (λ b. b == mark) (get_or_default_zero bytes k d within) ∙ false_from_ne_true _ (none k (omega arith) within))
 
 -- ---- heads
 

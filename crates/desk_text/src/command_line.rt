@@ -8,12 +8,10 @@ ghost use Rattle.desk_text.specs.declared.read_fail.ReadFail.{ReadFail as Fail};
 
 use crate::command_record::read_record;
 use crate::last_minute::LastMinute;
-use crate::line_fields::fields_of_line;
 use crate::read_fail::ReadFail;
 use crate::record_row::read_row;
-use csv::ByteRecord;
 use desk_model::Stated;
-use record_rows::{Rows, is_plain};
+use record_rows::{Row, Rows, fields_of_line, is_plain};
 use std::alloc::Global;
 
 /// The command that a caller's line states, and the minute at which it was stated. The line has to be one record, as
@@ -61,7 +59,7 @@ fn read_only_record(alloc: Global, line: &[u8]) -> Result<Stated, ReadFail>
     ensures fail { IfErr result (λ fail. fail ≢ ReadFail.NoMemory → HasFail line.now fail) }
 {
     let mut rows = Rows::of(alloc, line);
-    let mut row = ByteRecord::new(alloc);
+    let mut row = Row::new(alloc);
     if !rows.next(&mut row)? {
         return Err(ReadFail::Malformed(0));
     }

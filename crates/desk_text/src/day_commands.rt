@@ -1,16 +1,14 @@
 //! The commands of records.
 ghost use Rattle.std.specs.Prelude.{◌≡◌, ◌<◌, ◌≤◌, ◌+◌, ◌^◌, ◌++◌, ◌∷◌, [], ℕ, List, length, MatchOption, IfOk};
-ghost use Rattle.csv.specs.Records.{fields_of};
-ghost use Rattle.record_rows.specs.Rows.{HasLeft};
+ghost use Rattle.record_rows.specs.Rows.{HasLeft, row_fields};
 ghost use Rattle.desk_text.specs.DayCommands.{StatesOrWrong};
 
 use crate::last_minute::LastMinute;
 use crate::record_row::read_row;
 use crate::wrong_place::WrongPlace;
-use csv::ByteRecord;
 use desk_base::NoMemory;
 use desk_model::Stated;
-use record_rows::Rows;
+use record_rows::{Row, Rows};
 use std::alloc::Global;
 
 /// What records state, up to the first that states no command.
@@ -28,12 +26,12 @@ impl DayCommands {
         &mut self,
         record_no: u32,
         last: &mut LastMinute,
-        row: &ByteRecord,
+        row: &Row,
     ) -> Result<(), NoMemory>
         ensures { IfOk result (λ _. (first : ℕ) (records : List (List (List ℕ)))
             → record_no ≡ length records + first
             → StatesOrWrong first self.old.wrong self.old.commands.items records
-            → StatesOrWrong first self.new.wrong self.new.commands.items (records ++ fields_of row.now ∷ [])) }
+            → StatesOrWrong first self.new.wrong self.new.commands.items (records ++ row_fields row.now ∷ [])) }
     {
         if self.wrong.is_none() {
             match read_row(last, row) {
@@ -47,13 +45,13 @@ impl DayCommands {
 
 /// Reads the records that are left, the first of which has this number, with room for so many commands at first. It is `None`
 /// where there are more than `most`.
-pub fn read_commands(
+pub fn read_commands<'a>(
     alloc: Global,
     room: usize,
     first: u32,
     most: u32,
-    rows: &mut Rows,
-    row: &mut ByteRecord,
+    rows: &mut Rows<'a>,
+    row: &mut Row<'a>,
 ) -> Result<Option<DayCommands>, NoMemory>
     requires { first + most ≤ 2 ^ 32 }
     ensures { IfOk result (λ read. (left : List (List (List ℕ))) → HasLeft rows.old left

@@ -10,9 +10,8 @@ use crate::day_commands::read_commands;
 use crate::day_fault::DayFault;
 use crate::limits::{COMMAND_LIMIT, RECORD_LIMIT, SHORTEST_RECORD};
 use crate::record_row::read_opening_row;
-use csv::ByteRecord;
 use desk_model::{Opening, Stated};
-use record_rows::Rows;
+use record_rows::{Row, Rows};
 use std::alloc::Global;
 
 /// A day file: how the desk was opened, and what it was told and asked then, in order.
@@ -47,7 +46,7 @@ fn read_records(alloc: Global, bytes: &[u8]) -> Result<DayFile, DayFault>
         → HasFault bytes.now fault) }
 {
     let mut rows = Rows::of(alloc, bytes);
-    let mut row = ByteRecord::new(alloc);
+    let mut row = Row::new(alloc);
     if !rows.next(&mut row)? {
         return Err(DayFault::NoOpening);
     }

@@ -4,9 +4,9 @@ ghost use Rattle.desk_model.specs.Opening.{OpeningValue};
 ghost use Rattle.desk_text.specs.OpeningRecord.{IsOpeningLine};
 
 use crate::cut::before;
-use crate::line_fields::fields_of_line;
 use crate::opening_record::opening_of;
 use desk_model::Opening;
+use record_rows::fields_of_line;
 
 /// The opening of the journal's first line, `M,open,month,months,answer` with its line feed, in the second edition with a sixth
 /// field, `2`; `None` for every other text: the line is the one spelling of its opening.

@@ -21,7 +21,6 @@ mod form;
 mod journal_opening;
 mod last_minute;
 mod limits;
-mod line_fields;
 mod line_text;
 mod more_commands;
 mod more_fault;

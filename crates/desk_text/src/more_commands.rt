@@ -8,9 +8,8 @@ ghost use Rattle.desk_text.specs.declared.more_fault.MoreFault.{MoreFault as Fau
 use crate::day_commands::read_commands;
 use crate::limits::SHORTEST_RECORD;
 use crate::more_fault::MoreFault;
-use csv::ByteRecord;
 use desk_model::Stated;
-use record_rows::Rows;
+use record_rows::{Row, Rows};
 use std::alloc::Global;
 
 /// The commands that the records of the bytes state, of which there is room for so many. The records are those that `csv`
@@ -36,7 +35,7 @@ fn read_rows(alloc: Global, bytes: &[u8], room: u32) -> Result<Vec<Stated>, More
         → HasMoreFault bytes.now room fault) }
 {
     let mut rows = Rows::of(alloc, bytes);
-    let mut row = ByteRecord::new(alloc);
+    let mut row = Row::new(alloc);
     let at_first = (bytes.len() / SHORTEST_RECORD).min(room as usize);
     let Some(told) = read_commands(alloc, at_first, 1, room, &mut rows, &mut row)? else {
         return Err(MoreFault::TooMany);

@@ -9,11 +9,11 @@ ghost use Rattle.desk_text.specs.declared.statement.Statement.{Statement as Stat
 use crate::command_record::read_record;
 use crate::cut::{before, cut};
 use crate::last_minute::LastMinute;
-use crate::line_fields::fields_of_line;
 use crate::spelled_reply::read_reply;
 use crate::statement::Statement;
 use desk_base::read_decimal;
 use desk_model::{Entry, LAST_CALLER, Stated};
+use record_rows::fields_of_line;
 
 /// The entry of a line of the journal, `caller|command|moment|reply` with its line feed; `None` for every other text: the line
 /// is the one spelling of its entry. A command and a reply that the desk would never give it are read all the same.

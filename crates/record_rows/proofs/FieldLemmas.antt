@@ -1,5 +1,6 @@
--- The fields of a record at their places.
-use Rattle.std.proofs.Common.{◌≡◌, ◌≤◌, ◌+◌, ℕ, zero, suc, List, [], ◌∷◌, ◌++◌, take, Some, None, refl, ap, arith, rules}
+-- The fields of a record at their places, and the first of them.
+use Rattle.std.proofs.Common.{◌≡◌, ◌∙◌, ◌≤◌, ◌+◌, ℕ, zero, suc, List, [], ◌∷◌, ◌++◌, length, take, Some, None, refl, sym, ap, arith, rules}
+use Rattle.std.proofs.Math.Seq.{take-append_seam}
 use Rattle.csv.specs.Records.{field_at}
 
 -- a field at a place stands behind those before it
@@ -22,3 +23,7 @@ field-none [] (suc place) (suc most) le none = refl
 field-none (first ∷ rest) zero most le none = let none = none in cc
 field-none (first ∷ rest) (suc place) zero le none = absurd (omega (arith, le))
 field-none (first ∷ rest) (suc place) (suc most) le none = ap (λ fields. first ∷ fields) (field-none rest place most (omega (arith, le)) none)
+
+-- the front of a record's fields, when it has 12
+pub take-front : (front rest fields : List (List ℕ)) → front ++ rest ≡ fields → length front ≡ 12 → front ≡ take 12 fields
+take-front front rest fields parts full = sym (take-append_seam front rest) ∙ ap (λ n. take n (front ++ rest)) full ∙ ap (λ l. take 12 l) parts

@@ -1,4 +1,5 @@
 pub mod RecordLemmas
 pub mod ReadLemmas
 pub mod FieldLemmas
+pub mod FoundLemmas
 mod PlainLemmas

@@ -5,8 +5,8 @@ use Rattle.csv.specs.Machine.{Read, next_record}
 use Rattle.csv.specs.Reading.{is_flexible, Reached, ReadRecord, default_config, records_from, records_next, took_first, reader_state}
 use Rattle.csv.specs.declared.parser.State.{State}
 use Rattle.csv.proofs.ReadFacts.{rows-more, rows-end}
-use Rattle.record_rows.specs.declared.rows.Rows.{Rows}
-use Rattle.record_rows.specs.Rows.{HasLeft, TookFirst, IsBetween}
+use Rattle.csv.specs.declared.reader.Reader.{Reader}
+use Rattle.record_rows.specs.Rows.{ReaderHas, ReaderTook, IsBetween}
 use Rattle.record_rows.proofs.RecordLemmas.{next_record-leaves, next_record-shorter, records_from-turns}
 
 -- the first of the records that are left, and those behind it
@@ -29,18 +29,18 @@ records_from-none s bytes none =
     rw (next) (ap (records_next (records_from default_config (length bytes))) none)
 
 -- a read that finds a record took the first of those that are left, and one that finds none had none left
-pub read-left : (a b : Rows) (found : Bool) (fields : List (List ℕ)) (left : List (List (List ℕ))) → HasLeft a left
-    → ReadRecord (λ (s : Bor (List ℕ)). Some s.now) a.rdr b.rdr found fields → took_first b.rdr ≡ true → is_flexible b.rdr ≡ is_flexible a.rdr
-    → MatchBool found (TookFirst left fields b) (left ≡ [])
+pub read-left : (a b : Reader (Bor (List ℕ))) (found : Bool) (fields : List (List ℕ)) (left : List (List (List ℕ))) → ReaderHas a left
+    → ReadRecord (λ (s : Bor (List ℕ)). Some s.now) a b found fields → took_first b ≡ true → is_flexible b ≡ is_flexible a
+    → MatchBool found (ReaderTook left fields b) (left ≡ [])
 unfolding Reached
 read-left a b false fields left has read first flexible =
-    sym has.records ∙ records_from-none _ has.bytes (rows-end (λ (s : Bor (List ℕ)). Some s.now) a.rdr b.rdr fields default_config has.bytes has.config has.source read)
+    sym has.records ∙ records_from-none _ has.bytes (rows-end (λ (s : Bor (List ℕ)). Some s.now) a b fields default_config has.bytes has.config has.source read)
 read-left a b true fields left has read first flexible =
-    let more = rows-more (λ (s : Bor (List ℕ)). Some s.now) a.rdr b.rdr fields default_config (reader_state a.rdr) has.bytes has.bytes [] has.config has.source (refl, refl) read in
+    let more = rows-more (λ (s : Bor (List ℕ)). Some s.now) a b fields default_config (reader_state a) has.bytes has.bytes [] has.config has.source (refl, refl) read in
     let (p, next, fields_are, reached) = more.2 in
-    let between : IsBetween (reader_state b.rdr) = rw (sym reached.0) ((next_record-leaves _ [] [] has.bytes).state p next) in
+    let between : IsBetween (reader_state b) = rw (sym reached.0) ((next_record-leaves _ [] [] has.bytes).state p next) in
     record {
-      rest = records_from default_config (length more.0 + 1) (reader_state b.rdr) more.0;
+      rest = records_from default_config (length more.0 + 1) (reader_state b) more.0;
       parts = sym has.records ∙ records_from-some _ has.bytes p fields _ _ has.between next fields_are reached.0 reached.1;
       behind = record {
         trim = read.3 ∙ has.trim;

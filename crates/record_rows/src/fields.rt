@@ -1,15 +1,17 @@
-//! The fields of a record.
+//! The first fields of a record.
 ghost use Rattle.std.specs.Prelude.{◌≡◌, map, take};
 ghost use Rattle.csv.specs.Records.{fields_of};
+ghost use Rattle.desk_base.specs.Parts.{parts_by};
 
 use arrayvec::ArrayVec;
 use csv::ByteRecord;
+use desk_base::split_once;
 
 /// How many fields of a record are given, at most. No record that the desk reads has as many.
 pub const FIELD_LIMIT: usize = 12;
 
-/// The fields of a record, the first 12 of a longer one.
-pub fn first_fields(row: &ByteRecord) -> ArrayVec<&[u8], FIELD_LIMIT>
+// The fields of a record that was read, the first 12 of a longer one.
+pub(crate) fn fields_of_record(row: &ByteRecord) -> ArrayVec<&[u8], FIELD_LIMIT>
     ensures { map (λ field. field.now) result.items ≡ take FIELD_LIMIT (fields_of row.now) }
 {
     let mut fields = ArrayVec::new();
@@ -18,6 +20,23 @@ pub fn first_fields(row: &ByteRecord) -> ArrayVec<&[u8], FIELD_LIMIT>
             Some(field) => fields.push(field),
             None => return fields,
         }
+    }
+    fields
+}
+
+/// The fields of a text between its commas, the first 12 of more.
+pub fn fields_of_line(text: &[u8]) -> ArrayVec<&[u8], FIELD_LIMIT>
+    ensures { map (λ field. field.now) result.items ≡ take FIELD_LIMIT (parts_by 44 text.now) }
+{
+    let mut fields = ArrayVec::new();
+    let mut rest = Some(text);
+    while let Some(bytes) = rest {
+        if fields.is_full() {
+            return fields;
+        }
+        let (field, after) = split_once(bytes, b',');
+        fields.push(field);
+        rest = after;
     }
     fields
 }

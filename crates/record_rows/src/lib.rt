@@ -1,12 +1,15 @@
-//! The records of a text of fields behind commas, read by `csv` one after another.
+//! The records of a text of fields behind commas, one after another: as `csv` reads them, or cut at line feeds and commas where it
+//! would read just those.
 #![tactic(auto)]
 
 mod fields;
 mod plain;
+mod row;
 mod rows;
 
-pub use fields::{FIELD_LIMIT, first_fields};
+pub use fields::{FIELD_LIMIT, fields_of_line};
 pub use plain::is_plain;
+pub use row::Row;
 pub use rows::Rows;
 
 #[cfg(test)]

@@ -2,18 +2,50 @@
 ghost use Rattle.std.specs.Prelude.{◌≡◌, ℕ, List, [], IfOk};
 ghost use Rattle.std.specs.Bool.{MatchBool};
 ghost use Rattle.csv.specs.Records.{fields_of};
-ghost use Rattle.record_rows.specs.Rows.{HasLeft, TookFirst, records_of};
+ghost use Rattle.record_rows.specs.Rows.{HasLeft, ReaderHas, ReaderTook, TookFirst, records_of, row_fields};
 
+use crate::plain::{has_plain_lines, next_line};
+use crate::row::Row;
 use csv::{ByteRecord, Reader, ReaderBuilder};
 use desk_base::NoMemory;
 use std::alloc::Global;
+
+// Where records are read from.
+#[derive(Drop)]
+pub(crate) enum Source<'a> {
+    // What is left of a text whose lines are its records, but for empty ones.
+    Lines(&'a [u8]),
+    // Any text.
+    Reader(Reader<&'a [u8]>),
+}
 
 /// The records of a text that are still to be read. Fields are separated by commas and may be quoted, as `csv` has it;
 /// there is no header row, records may be of any lengths, nothing is trimmed, and empty lines hold no record. A byte order
 /// mark at the front of the text is dropped.
 #[derive(Drop)]
 pub struct Rows<'a> {
-    rdr: Reader<&'a [u8]>,
+    pub(crate) source: Source<'a>,
+}
+
+// A reader of all records of a text.
+fn reader_of<'a>(alloc: Global, text: &'a [u8]) -> Reader<&'a [u8]>
+    ensures { ReaderHas result (records_of text.now) }
+{
+    ReaderBuilder::new()
+        .has_headers(false)
+        .flexible(true)
+        .from_reader(alloc, text)
+}
+
+// Reads the next record. It is false where none is left.
+fn read_next(rdr: &mut Reader<&[u8]>, row: &mut ByteRecord) -> Result<bool, NoMemory>
+    ensures { IfOk result (λ found. (left : List (List (List ℕ))) → ReaderHas rdr.old left
+        → MatchBool found (ReaderTook left (fields_of row.new) rdr.new) (left ≡ [])) }
+{
+    let Ok(found) = rdr.read_byte_record(row) else {
+        return Err(NoMemory);
+    };
+    Ok(found)
 }
 
 impl<'a> Rows<'a> {
@@ -21,21 +53,32 @@ impl<'a> Rows<'a> {
     pub fn of(alloc: Global, text: &'a [u8]) -> Rows<'a>
         ensures { HasLeft result (records_of text.now) }
     {
-        let rdr = ReaderBuilder::new()
-            .has_headers(false)
-            .flexible(true)
-            .from_reader(alloc, text);
-        Rows { rdr }
+        let source = if has_plain_lines(text) {
+            Source::Lines(text)
+        } else {
+            Source::Reader(reader_of(alloc, text))
+        };
+        Rows { source }
     }
 
     /// Reads the next record into `row`. It is false where none is left.
-    pub fn next(&mut self, row: &mut ByteRecord) -> Result<bool, NoMemory>
+    pub fn next(&mut self, row: &mut Row<'a>) -> Result<bool, NoMemory>
         ensures { IfOk result (λ found. (left : List (List (List ℕ))) → HasLeft self.old left
-            → MatchBool found (TookFirst left (fields_of row.new) self.new) (left ≡ [])) }
+            → MatchBool found (TookFirst left (row_fields row.new) self.new) (left ≡ [])) }
     {
-        let Ok(found) = self.rdr.read_byte_record(row) else {
-            return Err(NoMemory);
-        };
-        Ok(found)
+        match &mut self.source {
+            Source::Lines(left) => match next_line(left) {
+                Some((line, behind)) => {
+                    *left = behind;
+                    row.line = Some(line);
+                    Ok(true)
+                }
+                None => Ok(false),
+            },
+            Source::Reader(rdr) => {
+                row.line = None;
+                read_next(rdr, &mut row.read)
+            }
+        }
     }
 }

@@ -1,18 +1,17 @@
-use crate::{Rows, first_fields};
-use csv::ByteRecord;
+use crate::{Row, Rows};
 use desk_base::NoMemory;
 use std::alloc::Global;
 
 // The records of a text, each as its fields with `;` between them, with `/` behind each record.
 fn told(alloc: Global, text: &[u8]) -> Result<Vec<u8>, NoMemory> {
     let mut rows = Rows::of(alloc, text);
-    let mut row = ByteRecord::new(alloc);
+    let mut row = Row::new(alloc);
     let mut told = Vec::new(alloc);
     for _ in 0..100 {
         if !rows.next(&mut row)? {
             return Ok(told);
         }
-        for field in first_fields(&row).as_slice() {
+        for field in row.first_fields().as_slice() {
             told.extend_from_slice(field)?;
             told.push(b';')?;
         }
@@ -23,7 +22,7 @@ fn told(alloc: Global, text: &[u8]) -> Result<Vec<u8>, NoMemory> {
 
 #[test]
 fn records_of_a_text(rt: HostRuntime) {
-    let table: [(&[u8], &[u8]); 23] = [
+    let table: [(&[u8], &[u8]); 25] = [
         (b"", b""),
         (b"a,b\n", b"a;b;/"),
         (b"a,b", b"a;b;/"),
@@ -31,6 +30,8 @@ fn records_of_a_text(rt: HostRuntime) {
         (b"a,b\r\nc\r\n", b"a;b;/c;/"),
         (b"a\rb", b"a;/b;/"),
         (b"\n\n\r\n\r\ra\n\n\nb\n\n", b"a;/b;/"),
+        (b"\n\na\n\n\nb\n\n", b"a;/b;/"),
+        (b"\n", b""),
         (b" \n", b" ;/"),
         (b",\n", b";;/"),
         (b"\"a\",b\n", b"a;b;/"),
@@ -58,10 +59,14 @@ fn records_of_a_text(rt: HostRuntime) {
 
 #[test]
 fn a_long_record_gives_its_first_12_fields(rt: HostRuntime) {
-    assert_eq!(rt;
-        told(rt.alloc(), b"1,2,3,4,5,6,7,8,9,10,11,12,13,14\n15\n")
-            .expect(&rt, "memory")
-            .as_slice(),
-        b"1;2;3;4;5;6;7;8;9;10;11;12;/15;/".as_slice()
-    );
+    let texts: [&[u8]; 2] = [
+        b"1,2,3,4,5,6,7,8,9,10,11,12,13,14\n15\n",
+        b"\"1\",2,3,4,5,6,7,8,9,10,11,12,13,14\n15\n",
+    ];
+    for text in texts {
+        assert_eq!(rt;
+            told(rt.alloc(), text).expect(&rt, "memory").as_slice(),
+            b"1;2;3;4;5;6;7;8;9;10;11;12;/15;/".as_slice()
+        );
+    }
 }

@@ -1,7 +1,8 @@
 use Rattle.std.proofs.Common.{◌∙◌, ◌+◌, ◌==◌, ◌∷◌, ◌++◌, [], Some, None, get_or, take, drop, sym, ap}
 use Rattle.std.proofs.lemmas.List.Splits.{slice_split_none}
 use Rattle.memchr.specs.Find.{IsFirstByte, is_byte}
-use Rattle.desk_text.proofs.CutLemmas.{parts-one, text-parts, some-parts, parts_by-found, parts_by-absent}
+use Rattle.record_rows.proofs.FoundLemmas.{parts_by-found, parts_by-absent}
+use Rattle.desk_text.proofs.CutLemmas.{parts-one, text-parts, some-parts}
 use Rattle.audit_desk.proofs.LineLemmas.{take-feed, first-is, no-feed}
 use Rattle.audit_desk.proofs.lines.first_line.Goals as goal
 

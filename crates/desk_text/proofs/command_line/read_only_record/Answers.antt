@@ -1,5 +1,5 @@
 use Rattle.std.proofs.Common.{◌∙◌, ◌∷◌, length, inl, inr, refl, ap, arith}
-use Rattle.csv.specs.Records.{fields_of}
+use Rattle.record_rows.specs.Rows.{row_fields}
 use Rattle.desk_text.proofs.command_line.read_only_record.Goals as goal
 
 pub returns-then-not-branch-clause-fail : goal.returns-then-not-branch-clause-fail
@@ -18,8 +18,8 @@ returns-in-Ok-clause-some c =
     let first = rw c.if-not-branch.false at (c.in_ok-next.ensures _ c.of-rows.ensures) in
     let none = rw c.if-branch.false at (c.in_ok-next-2.ensures _ first.behind) in
     record {
-      fields = fields_of c.next.new.row;
-      one = first.parts ∙ ap (λ rest. fields_of c.next.new.row ∷ rest) none;
+      fields = row_fields c.next.new.row;
+      one = first.parts ∙ ap (λ rest. row_fields c.next.new.row ∷ rest) none;
       states = c.in-Ok.ensures.some;
     }
 
@@ -28,8 +28,8 @@ returns-clause-fail c = λ told.
     let first = rw c.if-not-branch.false at (c.in_ok-next.ensures _ c.of-rows.ensures) in
     let none = rw c.if-branch.false at (c.in_ok-next-2.ensures _ first.behind) in
     inr record {
-      fields = fields_of c.next.new.row;
-      one = first.parts ∙ ap (λ rest. fields_of c.next.new.row ∷ rest) none;
+      fields = row_fields c.next.new.row;
+      one = first.parts ∙ ap (λ rest. row_fields c.next.new.row ∷ rest) none;
       wrong = λ s states. let is = c.in-Err.ensures.only s states in cc;
       field_is = c.in-Err.ensures.wrong;
     }

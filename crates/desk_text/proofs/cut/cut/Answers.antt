@@ -1,7 +1,8 @@
 use Rattle.std.proofs.Common.{◌∙◌, ◌+◌, Some, get_or, drop, [], ap, sym}
 use Rattle.std.proofs.lemmas.List.{take_rest}
 use Rattle.memchr.specs.Find.{IsFirstByte, is_byte}
-use Rattle.desk_text.proofs.CutLemmas.{parts-one, parts-text, text-parts, some-parts, parts_by-found, parts_by-absent}
+use Rattle.record_rows.proofs.FoundLemmas.{parts_by-found, parts_by-absent}
+use Rattle.desk_text.proofs.CutLemmas.{parts-one, parts-text, text-parts, some-parts}
 use Rattle.desk_text.proofs.cut.cut.Goals as goal
 
 pub returns-clause-some : goal.returns-clause-some

@@ -1,6 +1,6 @@
 use Rattle.std.proofs.Common.{◌∙◌, map, ap, subst}
 use Rattle.std.proofs.lemmas.Result.{IfErr-weaker}
-use Rattle.csv.specs.Records.{fields_of}
+use Rattle.record_rows.specs.Rows.{row_fields}
 use Rattle.desk_text.specs.RecordForms.{IsWrongAt}
 use Rattle.desk_text.proofs.FormLemmas.{wrong-take}
 use Rattle.desk_text.proofs.record_row.read_row.Goals as goal
@@ -8,4 +8,4 @@ use Rattle.desk_text.proofs.record_row.read_row.Goals as goal
 pub returns-clause-wrong : goal.returns-clause-wrong
 returns-clause-wrong c =
     let fields = ap (map (λ field. field.now)) c.as_slice.ensures.value ∙ c.first_fields.ensures in
-    IfErr-weaker c.read_record.result _ _ (λ place wrong. wrong-take (fields_of c.args.row.now) place (subst (λ list. IsWrongAt list place) fields wrong)) c.read_record.ensures.wrong
+    IfErr-weaker c.read_record.result _ _ (λ place wrong. wrong-take (row_fields c.args.row.now) place (subst (λ list. IsWrongAt list place) fields wrong)) c.read_record.ensures.wrong

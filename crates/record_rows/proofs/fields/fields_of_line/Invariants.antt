@@ -3,7 +3,7 @@ use Rattle.std.specs.Option.{option_copied}
 use Rattle.std.specs.Borrow.{Bor}
 use Rattle.std.proofs.Common.{List}
 use Rattle.desk_base.specs.Parts.{parts_by, parts_after}
-use Rattle.desk_text.proofs.line_fields.fields_of_line.Given as goal
+use Rattle.record_rows.proofs.fields.fields_of_line.Given as goal
 
 -- the bytes that are left, and one more where a field is left
 abbrev pub left : Option (Bor (List ℕ)) → ℕ

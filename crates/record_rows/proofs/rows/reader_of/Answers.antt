@@ -1,12 +1,12 @@
 use Rattle.std.proofs.Common.{inl, inr, refl, ◌∙◌}
 use Rattle.csv.specs.Reading.{strip_bom}
 use Rattle.record_rows.specs.Rows.{records_of}
-use Rattle.record_rows.proofs.rows.Rows.of.Goals as goal
+use Rattle.record_rows.proofs.rows.reader_of.Goals as goal
 
 pub returns : goal.returns
 unfolding records_of
 returns c =
-    let fr = c.from_reader-rdr.ensures in
+    let fr = c.from_reader.ensures in
     let e = c.flexible.ensures in
     let h = c.has_headers.ensures in
     record {

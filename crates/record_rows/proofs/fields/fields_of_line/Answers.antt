@@ -3,8 +3,8 @@ use Rattle.std.specs.Option.{option_copied}
 use Rattle.std.proofs.lemmas.List.{length-map}
 use Rattle.std.proofs.lemmas.Bool.{eqb-true}
 use Rattle.desk_base.specs.Parts.{parts_after}
-use Rattle.desk_text.proofs.FirstFieldsLemmas.{take-front}
-use Rattle.desk_text.proofs.line_fields.fields_of_line.Goals as goal
+use Rattle.record_rows.proofs.FieldLemmas.{take-front}
+use Rattle.record_rows.proofs.fields.fields_of_line.Goals as goal
 
 pub returns-then-is_full : goal.returns-then-is_full
 returns-then-is_full c = take-front _ (parts_after 44 (option_copied c.loop-rest.rest)) _ c.loop-rest.invariant.parts
