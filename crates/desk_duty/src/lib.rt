@@ -6,6 +6,3 @@ mod keep;
 mod told;
 
 pub use duty::Duty;
-
-#[cfg(test)]
-mod tests;

@@ -14,6 +14,3 @@ pub use laws::who_is_kept_on_a_board_is_on_it;
 pub use listings::with_board;
 pub use lists::Lists;
 pub use named::{NEVER, Named};
-
-#[cfg(test)]
-mod tests;

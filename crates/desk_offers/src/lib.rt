@@ -11,6 +11,3 @@ mod start;
 mod told;
 
 pub use offers::Offers;
-
-#[cfg(test)]
-mod tests;

@@ -28,6 +28,3 @@ pub use place_set::PlaceSet;
 pub use register::Register;
 pub use roster::Roster;
 pub use vacancies::Vacancies;
-
-#[cfg(test)]
-mod tests;

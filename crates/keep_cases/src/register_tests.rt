@@ -1,7 +1,7 @@
 //! What is kept, entry by entry, of a day worked by hand.
-use crate::Register;
 use desk_base::{Code, Minute, PersonNo, VacNo};
 use desk_model::{Chain, Cmd, Entry, Job, Reply, Stated, VacState};
+use desk_register::Register;
 use duty_events::Event;
 use qualifications::{Craft, Quals};
 use std::alloc::Global;

@@ -1,7 +1,7 @@
 //! What is kept, entry by entry, of offers and declines worked by hand, and of as many offers as there is room for.
-use crate::Offers;
 use desk_base::{Code, Minute, PersonNo, VacNo};
 use desk_model::{Cmd, Entry, Reply, Stated};
+use desk_offers::Offers;
 use offer_flight::InFlight;
 use std::test::Fail;
 

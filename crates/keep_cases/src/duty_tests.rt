@@ -1,6 +1,6 @@
 //! The clocks of two persons, by a day worked by hand.
-use crate::Duty;
 use desk_base::{Code, Minute, Month, PersonNo, Window};
+use desk_duty::Duty;
 use desk_model::{Cmd, Entry, Reply, Stated};
 use duty_events::{Event, Stage};
 use qualifications::{Craft, Quals};

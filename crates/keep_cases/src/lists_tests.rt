@@ -1,6 +1,6 @@
 //! The boards of two persons, by a day worked by hand.
-use crate::{Lists, NEVER, Named};
 use desk_base::{Code, Minute, PersonNo, VacNo};
+use desk_lists::{Lists, NEVER, Named};
 use desk_model::{Cmd, Entry, Reply, Stated};
 use duty_events::Event;
 use std::test::Fail;
