@@ -1,7 +1,8 @@
-ghost use Rattle.std.specs.Prelude.{◌≡◌, ◌<◌, ◌^◌, ℕ, decimal, IfSome};
+ghost use Rattle.std.specs.Prelude.{◌≡◌, ◌<◌, ◌≤◌, ◌^◌, ℕ, decimal, length, IfSome};
 ghost use Rattle.desk_base.specs.Decimal.{IsPlain};
 
-use std::str;
+// How many digits a number below 2^32 has, at most.
+const MOST_DIGITS: usize = 10;
 
 /// The number that a text spells in decimal, without a sign or a leading zero; `None` for any other text, and
 /// for a number from 2^32 on.
@@ -11,19 +12,25 @@ pub fn read_decimal(text: &[u8]) -> Option<u32>
         → result ≡ Some number }
 {
     match text {
-        [b'+', ..] | [b'0', _, ..] => None,
-        _ => parsed(text),
+        [] | [b'0', _, ..] => None,
+        _ if text.len() > MOST_DIGITS => None,
+        _ => number_of_digits(text),
     }
 }
 
-// The number of a text of digits; a sign and leading zeros pass too.
-fn parsed(text: &[u8]) -> Option<u32>
+// The number of a text of 1 to 10 digits; leading zeros pass too.
+fn number_of_digits(text: &[u8]) -> Option<u32>
+    requires { length text.now ≤ MOST_DIGITS }
     ensures some { IfSome result (λ number. IsPlain text.now → text.now ≡ decimal number) }
     ensures only { (number : ℕ) → number < 2 ^ 32 → text.now ≡ decimal number
         → result ≡ Some number }
 {
-    match str::from_utf8(text) {
-        Ok(digits) => digits.parse::<u32>().ok(),
-        Err(_) => None,
+    let mut number: u64 = 0;
+    for byte in text {
+        if !byte.is_ascii_digit() {
+            return None;
+        }
+        number = 10 * number + u64::from(*byte - b'0');
     }
+    u32::try_from(number).ok()
 }

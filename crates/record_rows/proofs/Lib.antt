@@ -2,4 +2,5 @@ pub mod RecordLemmas
 pub mod ReadLemmas
 pub mod FieldLemmas
 pub mod FoundLemmas
+mod CommaLemmas
 mod PlainLemmas

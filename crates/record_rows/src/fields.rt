@@ -5,7 +5,6 @@ ghost use Rattle.desk_base.specs.Parts.{parts_by};
 
 use arrayvec::ArrayVec;
 use csv::ByteRecord;
-use desk_base::split_once;
 
 /// How many fields of a record are given, at most. No record that the desk reads has as many.
 pub const FIELD_LIMIT: usize = 12;
@@ -29,14 +28,18 @@ pub fn fields_of_line(text: &[u8]) -> ArrayVec<&[u8], FIELD_LIMIT>
     ensures { map (λ field. field.now) result.items ≡ take FIELD_LIMIT (parts_by 44 text.now) }
 {
     let mut fields = ArrayVec::new();
-    let mut rest = Some(text);
-    while let Some(bytes) = rest {
-        if fields.is_full() {
-            return fields;
+    let mut start = 0;
+    for (at, byte) in text.iter().enumerate() {
+        if *byte == b',' {
+            if fields.is_full() {
+                return fields;
+            }
+            fields.push(&text[start..at]);
+            start = at + 1;
         }
-        let (field, after) = split_once(bytes, b',');
-        fields.push(field);
-        rest = after;
+    }
+    if !fields.is_full() {
+        fields.push(&text[start..]);
     }
     fields
 }

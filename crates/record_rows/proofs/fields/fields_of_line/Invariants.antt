@@ -1,20 +1,12 @@
-use Rattle.std.proofs.Common.{◌≡◌, ◌++◌, ◌+◌, ◌≤◌, length, map, ℕ, Option, Some, None}
-use Rattle.std.specs.Option.{option_copied}
-use Rattle.std.specs.Borrow.{Bor}
-use Rattle.std.proofs.Common.{List}
-use Rattle.desk_base.specs.Parts.{parts_by, parts_after}
+use Rattle.std.proofs.Common.{◌≡◌, ◌++◌, ◌-◌, ◌≤◌, ◌==◌, false, length, map, take, drop}
+use Rattle.std.specs.List.{All}
+use Rattle.desk_base.specs.Parts.{parts_by}
 use Rattle.record_rows.proofs.fields.fields_of_line.Given as goal
 
--- the bytes that are left, and one more where a field is left
-abbrev pub left : Option (Bor (List ℕ)) → ℕ
-left None = 0
-left (Some bytes) = length bytes.now + 1
-
-abbrev pub invariant-loop-rest : goal.invariant-loop-rest
-invariant-loop-rest l = record {
-  parts : map (λ field. field.now) l.fields.items ++ parts_after 44 (option_copied l.rest) ≡ parts_by 44 l.fn.text;
+abbrev pub invariant-loop-at : goal.invariant-loop-at
+invariant-loop-at l = record {
+  parts : map (λ field. field.now) l.fields.items ++ parts_by 44 (drop l.start l.text) ≡ parts_by 44 l.fn.text;
   few : length l.fields.items ≤ 12;
+  within : l.start ≤ l.at;
+  unmarked : All (λ b. (b == 44) ≡ false) (take (l.at - l.start) (drop l.start l.text));
 }
-
-abbrev pub decreases-loop-rest : goal.decreases-loop-rest
-decreases-loop-rest l = left l.rest
