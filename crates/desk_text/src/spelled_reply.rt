@@ -18,6 +18,10 @@ pub fn read_reply(text: &[u8]) -> Option<Reply>
     ensures some { IfSome result (SpellsReply text.now) }
     ensures only { (reply : ReplyValue) → SpellsReply text.now reply → result ≡ Some reply }
 {
+    // Most replies are this one, so it is looked for first.
+    if text == b"done".as_slice() {
+        return Some(Reply::Done);
+    }
     if let Some((head, kept)) = ReplyHead::split(text) {
         return read_kept(head, kept);
     }
