@@ -2,7 +2,7 @@ ghost use Rattle.std.specs.Prelude.{◌≡◌, ℕ, IfOk, List, [], ◌∷◌, S
 ghost use Rattle.desk_model.specs.Opening.{OpeningValue};
 ghost use Rattle.desk_model.specs.History.{History, opened};
 ghost use Rattle.desk_model.specs.Register.{persons, boards};
-ghost use Rattle.desk_model.specs.Offers.{open_offer, on_offer};
+ghost use Rattle.desk_model.specs.Offers.{open_offer};
 ghost use Rattle.desk_model.specs.Held.{hold_end};
 ghost use Rattle.desk_register.specs.Among.{place_among, board_place};
 ghost use Rattle.desk_offers.specs.OpenOffers.{IsOffer};
@@ -10,7 +10,7 @@ ghost use Rattle.desk_offers.specs.Keeps.{Keeps};
 
 use crate::holds::Holds;
 use crate::offers::Offers;
-use desk_base::{Minute, NoMemory, PersonNo, VacNo};
+use desk_base::{Minute, NoMemory, VacNo};
 use offer_flight::{Flight, InFlight};
 use std::alloc::Global;
 
@@ -35,14 +35,6 @@ impl Offers {
         ensures { (h : History) → Keeps self.now h → IsOffer (boards h) h.opening.answer result (open_offer h vac) }
     {
         self.flight.of_vacancy(vac)
-    }
-
-    /// The vacancy that is on offer to a person; `None` where none is.
-    pub fn on_offer(&self, person: PersonNo) -> Option<VacNo>
-        ensures { (h : History) → Keeps self.now h → result ≡ on_offer h person }
-    {
-        let offer = self.flight.of_person(person)?;
-        Some(offer.vac)
     }
 
     /// Until when a person is held by a board, both by their places among all, from 0, in either edition of the rules: 480 minutes

@@ -12,9 +12,10 @@ use Rattle.desk_model.specs.Duty.{closes, is_closed}
 use Rattle.desk_model.specs.Marks.{marks, is_marked_off}
 use Rattle.desk_model.specs.Comes.{Comes, assigned_by, assigned_after}
 use Rattle.desk_model.specs.Assigned.{assigned}
+use Rattle.desk_model.specs.Offers.{on_offer}
 use Rattle.desk_register.specs.Changes.{subject, changed, enrolled}
 use Rattle.desk_register.specs.Done.{IsDone}
-use Rattle.desk_register.specs.Persons.{IsPerson}
+use Rattle.desk_register.specs.Persons.{offered_in, IsPerson}
 use Rattle.desk_register.specs.declared.kept_person.KeptPerson.{KeptPerson}
 use Rattle.desk_register.proofs.PersonLemmas.{same, Tells, IsTold, Follows, subject-told}
 
@@ -25,13 +26,14 @@ assigned-done : (e : EntryValue) (c : Cmd) (p : ℕ) (was : Option ℕ) → IsDo
 assigned-done e c p was is = rw (is.done, is.of) refl
 
 pub person-follows : (h : History) (e : EntryValue) (c : Cmd) (p : ℕ) (k later : Option KeptPerson) → Comes h e → IsDone e c
-    → IsPerson k h p → Follows p c k later → IsPerson later (with_entry h e) p
-person-follows h e c p k later comes is agrees follows = record {
+    → IsPerson k h p → Follows p c k later → offered_in later ≡ on_offer (with_entry h e) p → IsPerson later (with_entry h e) p
+person-follows h e c p k later comes is agrees follows offers = record {
   person = follows.person ∙ ap (λ x. option_or x (enrols p c)) agrees.person ∙ ap (option_or _) (sym (said-done (enrols p) e c is)) ∙ sym (comes.person p);
   quals = follows.quals ∙ ap (unwrap_or (gives p c)) agrees.quals ∙ ap (λ x. unwrap_or x (quals_of h p)) (sym (said-done (gives p) e c is)) ∙ sym (comes.quals p);
   marked_off = follows.marked_off ∙ ap (unwrap_or (marks p c)) agrees.marked_off ∙ ap (λ x. unwrap_or x (is_marked_off h p)) (sym (said-done (marks p) e c is)) ∙ sym (comes.marked p);
   closed = follows.closed ∙ ap (λ x. x || is_some (closes p c)) agrees.closed ∙ ap (λ x. is_closed h p || is_some x) (sym (said-done (closes p) e c is)) ∙ sym (comes.closed p);
   assigned = follows.assigned ∙ ap (assigned_by p c) agrees.assigned ∙ sym (assigned-done e c p (assigned h p) is) ∙ sym (comes.assigned p);
+  on_offer = offers;
 }
 
 -- whom the command changes

@@ -4,6 +4,7 @@ mod AmongLemmas
 mod AgreeLemmas
 pub mod AnswerLemmas
 mod ChangeLemmas
+mod OfferLemmas
 mod RosterLemmas
 mod PlaceLemmas
 mod SaidLemmas

@@ -31,7 +31,7 @@ turner-placed h e c under numbers place next is are place_is found = go (turner 
 -- where nothing has happened yet nothing is kept
 pub persons-none : (o : OpeningValue) (under : ℕ → Option KeptPerson) (numbers : List ℕ) → ((p : ℕ) → under p ≡ None) → numbers ≡ [] → ArePersons under numbers (opened o)
 persons-none o under numbers none empty = record {
-  each = λ p. rw (none p) record { person = refl; quals = refl; marked_off = refl; closed = refl; assigned = refl };
+  each = λ p. rw (none p) record { person = refl; quals = refl; marked_off = refl; closed = refl; assigned = refl; on_offer = refl };
   order = empty;
 }
 

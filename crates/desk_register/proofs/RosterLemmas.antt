@@ -14,19 +14,21 @@ use Rattle.desk_model.specs.declared.vac_state.VacState.TheVariants as state
 use Rattle.desk_model.specs.Entry.{EntryValue}
 use Rattle.desk_model.specs.History.{History, with_entry, is_done}
 use Rattle.desk_model.specs.Register.{enrols_any, person_of, persons}
-use Rattle.desk_model.specs.Offers.{is_of}
+use Rattle.desk_model.specs.Offers.{is_of, on_offer}
 use Rattle.desk_model.specs.Assigned.{assigned}
 use Rattle.desk_model.specs.States.{state_of}
-use Rattle.desk_model.specs.Comes.{Comes}
+use Rattle.desk_model.specs.Comes.{Comes, on_offer_after}
+use Rattle.desk_model.specs.RestsOn.{RestsOn}
 use Rattle.desk_model.specs.Legal.{answer_to, IsNext}
-use Rattle.desk_register.specs.Changes.{subject, changed, freed, put_under, put_enrolled, CanEnrol, taker, loser}
+use Rattle.desk_register.specs.Changes.{subject, changed, freed, with_offer, put_under, put_enrolled, CanEnrol, taker, loser, offeree}
 use Rattle.desk_register.specs.Done.{IsDone}
-use Rattle.desk_register.specs.Persons.{assigned_in, IsPerson, ArePersons}
+use Rattle.desk_register.specs.Persons.{assigned_in, offered_in, IsPerson, ArePersons}
 use Rattle.desk_register.specs.declared.kept_person.KeptPerson.{KeptPerson}
-use Rattle.desk_register.proofs.PersonLemmas.{same, same_number}
+use Rattle.desk_register.proofs.PersonLemmas.{same, same_number, Follows}
 use Rattle.desk_register.proofs.AgreeLemmas.{said-done, person-follows}
 use Rattle.desk_register.proofs.AnswerLemmas.{subject-known, done-answer}
 use Rattle.desk_register.proofs.ChangeLemmas.{OfNumber, IsLost, changes-follow}
+use Rattle.desk_register.proofs.OfferLemmas.{IsSameElse, put-else, IsOpenAsStands, HasOneOffer, offers-keep}
 
 -- a vacancy is assigned to a person exactly where it is taken by them
 abbrev pub TakenIsAssigned : History → Type 0
@@ -86,19 +88,34 @@ known-under : (h : History) (under : ℕ → Option KeptPerson) (who : Option �
 known-under h under None each known = tt
 known-under h under (Some p) each known = unknown-is (under p) h p (each p) ∙ known
 
+-- what is kept goes on as what is said does, whatever is on offer
+same-follows : (q : ℕ) (c : Cmd) (k mid later : Option KeptPerson) → Follows q c k mid → IsSameElse mid later → Follows q c k later
+same-follows q c k mid later follows rest = record {
+  person = rest.person ∙ follows.person;
+  quals = rest.quals ∙ follows.quals;
+  marked_off = rest.marked_off ∙ follows.marked_off;
+  closed = rest.closed ∙ follows.closed;
+  assigned = rest.assigned ∙ follows.assigned;
+}
+
 -- after a command that was done the roster keeps what the longer history says
-pub persons-keep : (h : History) (e : EntryValue) (c : Cmd) (lost : Option ℕ) (under later : ℕ → Option KeptPerson) (numbers after : List ℕ)
-    → Comes h e → TakenIsAssigned h → IsNext h e → IsDone e c → lost ≡ loser h c → ArePersons under numbers h
-    → (CanEnrol (enrols_any c) under numbers → (q : ℕ) → later q ≡ put_under (subject c) (changed c) (put_under lost freed (put_enrolled c under)) q)
+pub persons-keep : (h : History) (e : EntryValue) (c : Cmd) (lost who : Option ℕ) (under later : ℕ → Option KeptPerson) (numbers after : List ℕ)
+    → Comes h e → ((q : ℕ) → on_offer (with_entry h e) q ≡ on_offer_after q e (on_offer h q)) → TakenIsAssigned h → IsOpenAsStands h → HasOneOffer h
+    → RestsOn h e.stated.cmd → IsNext h e → IsDone e c → lost ≡ loser h c → who ≡ offeree h c → ArePersons under numbers h
+    → (CanEnrol (enrols_any c) under numbers
+    → (q : ℕ) → later q ≡ put_under who (with_offer None) (put_under (subject c) (changed c) (put_under lost freed (put_enrolled c under))) q)
     → (CanEnrol (enrols_any c) under numbers → after ≡ numbers ++ cons_option (enrols_any c) [])
     → ArePersons later after (with_entry h e)
-persons-keep h e c lost under later numbers after comes law next is lost_is are later_is after_is =
+persons-keep h e c lost who under later numbers after comes offers law stands one rests next is lost_is who_is are later_is after_is =
     let done = done-answer h e c next is in
     let can = can-enrol h e.moment c under numbers are done in
     let known = known-under h under (subject c) are.each (subject-known h e.moment c done) in
+    let mid : ℕ → Option KeptPerson = put_under (subject c) (changed c) (put_under lost freed (put_enrolled c under)) in
     record {
       each = λ q. person-follows h e c q (under q) (later q) comes is (are.each q)
-          (rw (later_is can q) (changes-follow c lost under numbers q can known (lost-is h c lost under law lost_is (λ p. (are.each p).assigned))));
+          (rw (later_is can q) (same-follows q c (under q) (mid q) (put_under who (with_offer None) mid q)
+          (changes-follow c lost under numbers q can known (lost-is h c lost under law lost_is (λ p. (are.each p).assigned))) (put-else who None mid q)))
+          (ap offered_in (later_is can q) ∙ offers-keep h e c lost who under numbers q stands one rests is can who_is (are.each q).on_offer ∙ sym (offers q));
       order = after_is can ∙ ap (λ ps. ps ++ cons_option (enrols_any c) []) are.order
           ∙ ap (λ o. persons h ++ cons_option o []) (sym (said-done enrols_any e c is)) ∙ sym comes.persons;
     }

@@ -1,5 +1,5 @@
 -- What an entry leaves that was not done, and what its offer makes of a vacancy.
-use Rattle.std.proofs.Common.{◌≡◌, ◌≤◌, length, ℕ, Bool, true, false, cond, nat_eq, List, [], ◌++◌, append-nil, Option, None, Some, is_some, is_none, refl, sym, ap, ◌∙◌, subst}
+use Rattle.std.proofs.Common.{◌≡◌, ◌≤◌, length, ℕ, Bool, true, false, not, cond, nat_eq, List, [], ◌++◌, append-nil, Option, None, Some, is_some, is_none, refl, sym, ap, ◌∙◌, subst}
 use Rattle.std.proofs.lemmas.Bool.{false≢true}
 use Rattle.std.specs.Prelude.{if◌then◌else◌, unwrap_or}
 use Rattle.std.specs.Option.{option_map, option_map_or, option_or, option_and_then}
@@ -16,20 +16,24 @@ use Rattle.desk_model.specs.History.{History, with_entry, is_done, said}
 use Rattle.desk_model.specs.Register.{enrols, enrols_any, gives, makes, makes_any, sets_up, sets_up_any, person_of, persons, vacancy_of, vacancies, boards}
 use Rattle.desk_model.specs.Duty.{closes}
 use Rattle.desk_model.specs.Marks.{marks}
-use Rattle.desk_model.specs.Offers.{is_of, asks_for, offer_in}
+use Rattle.desk_model.specs.Offers.{is_of, asks_for, offer_in, on_offer}
 use Rattle.desk_model.specs.States.{state_of}
 use Rattle.desk_model.specs.TurnedDown.{turns_down}
 use Rattle.desk_model.specs.NextAnswer.{known_answer}
 use Rattle.desk_model.specs.OfferAnswer.{offer_made_answer}
-use Rattle.desk_model.specs.Comes.{Comes, state_after}
+use Rattle.desk_model.specs.Comes.{Comes, state_after, on_offer_after}
+use Rattle.desk_model.specs.RestsOn.{MayOffer}
 use Rattle.desk_model.specs.Legal.{answer_to, is_within, moment, IsNext}
-use Rattle.desk_register.specs.Persons.{ArePersons}
+use Rattle.desk_register.specs.Changes.{with_offer, put_under}
+use Rattle.desk_register.specs.Persons.{offered_in, IsPerson, ArePersons}
 use Rattle.desk_register.specs.Boards.{AreBoards}
 use Rattle.desk_register.specs.Among.{place_among}
 use Rattle.desk_register.specs.Vacancies.{turned_in, has_in, IsVacancy, AreVacancies, offered_vac, offered_person, on_offer_to}
 use Rattle.desk_register.specs.declared.kept_person.KeptPerson.{KeptPerson}
 use Rattle.desk_register.specs.declared.kept_vacancy.KeptVacancy.{KeptVacancy}
 use Rattle.desk_register.proofs.PersonLemmas.{same, same_number, or_false, option_or-none}
+use Rattle.desk_register.proofs.RosterLemmas.{unknown-is}
+use Rattle.desk_register.proofs.OfferLemmas.{IsSameElse, same-else, put-else, stays-on_offer, offers-made, asked-vacancy, offered-reply}
 use Rattle.desk_register.proofs.KeepLemmas.{unmade-is, state-stays, state-offered}
 
 said-refused : {X : Type 0} (f : Cmd → Option X) (e : EntryValue) → is_done e.reply ≡ false → said f e ≡ None
@@ -38,18 +42,44 @@ said-refused f e refused = rw refused refl
 none-more : {X : Type 0} (f : Cmd → Option X) (e : EntryValue) (xs : List X) → is_done e.reply ≡ false → xs ++ cons_option (said f e) [] ≡ xs
 none-more f e xs refused = rw (said-refused f e refused) (append-nil xs)
 
-pub persons-stay : (h : History) (e : EntryValue) (under : ℕ → Option KeptPerson) (numbers : List ℕ) → Comes h e → is_done e.reply ≡ false
+person-stays : (h : History) (e : EntryValue) (p : ℕ) (k later : Option KeptPerson) → Comes h e → is_done e.reply ≡ false
+    → IsSameElse k later → offered_in later ≡ on_offer (with_entry h e) p → IsPerson k h p → IsPerson later (with_entry h e) p
+person-stays h e p k later comes refused rest offers is = record {
+  person = rest.person ∙ is.person ∙ option_or-none (person_of h p) ∙ ap (option_or (person_of h p)) (sym (said-refused (enrols p) e refused)) ∙ sym (comes.person p);
+  quals = rest.quals ∙ is.quals ∙ sym (comes.quals p ∙ rw (said-refused (gives p) e refused) refl);
+  marked_off = rest.marked_off ∙ is.marked_off ∙ sym (comes.marked p ∙ rw (said-refused (marks p) e refused) refl);
+  closed = rest.closed ∙ is.closed ∙ or_false _ ∙ sym (comes.closed p ∙ rw (said-refused (closes p) e refused) refl);
+  assigned = rest.assigned ∙ is.assigned ∙ sym (comes.assigned p ∙ rw refused refl);
+  on_offer = offers;
+}
+
+pub persons-stay : (h : History) (e : EntryValue) (under : ℕ → Option KeptPerson) (numbers : List ℕ) → Comes h e
+    → ((q : ℕ) → on_offer (with_entry h e) q ≡ on_offer_after q e (on_offer h q)) → is_done e.reply ≡ false → offered_vac e ≡ None
     → ArePersons under numbers h → ArePersons under numbers (with_entry h e)
-persons-stay h e under numbers comes refused are = record {
-  each = λ p. let is = are.each p in record {
-    person = is.person ∙ option_or-none (person_of h p) ∙ ap (option_or (person_of h p)) (sym (said-refused (enrols p) e refused)) ∙ sym (comes.person p);
-    quals = is.quals ∙ sym (comes.quals p ∙ rw (said-refused (gives p) e refused) refl);
-    marked_off = is.marked_off ∙ sym (comes.marked p ∙ rw (said-refused (marks p) e refused) refl);
-    closed = is.closed ∙ or_false _ ∙ sym (comes.closed p ∙ rw (said-refused (closes p) e refused) refl);
-    assigned = is.assigned ∙ sym (comes.assigned p ∙ rw refused refl);
-  };
+persons-stay h e under numbers comes offers refused none are = record {
+  each = λ p. person-stays h e p (under p) (under p) comes refused (same-else (under p))
+      ((are.each p).on_offer ∙ sym (offers p ∙ stays-on_offer e p (on_offer h p) refused none)) (are.each p);
   order = are.order ∙ sym (comes.persons ∙ none-more enrols_any e (persons h) refused);
 }
+
+-- one that offers a vacancy: to whom it does is enrolled
+pub persons-offered : (h : History) (e : EntryValue) (vac p : ℕ) (under later : ℕ → Option KeptPerson) (numbers : List ℕ) → Comes h e
+    → ((q : ℕ) → on_offer (with_entry h e) q ≡ on_offer_after q e (on_offer h q))
+    → ((b : List ℕ) (k : ℕ) → asks_for e.stated.cmd ≡ Some vac → e.reply ≡ reply.Offered p b k → MayOffer h vac p b)
+    → is_done e.reply ≡ false → offered_vac e ≡ Some vac → offered_person e ≡ Some p
+    → ((q : ℕ) → later q ≡ put_under (Some p) (with_offer (Some vac)) under q)
+    → ArePersons under numbers h → ArePersons later numbers (with_entry h e)
+persons-offered h e vac p under later numbers comes offers rests refused of to later_is are = record {
+  each = λ q. person-stays h e q (under q) (later q) comes refused (rw (later_is q) (put-else (Some p) (Some vac) under q))
+      (ap offered_in (later_is q) ∙ offers-made e vac p under q (on_offer h q) refused of to known (are.each q).on_offer ∙ sym (offers q)) (are.each q);
+  order = are.order ∙ sym (comes.persons ∙ none-more enrols_any e (persons h) refused);
+}
+  where
+    enrolled : (b : List ℕ) (k : ℕ) → e.reply ≡ reply.Offered p b k → is_none (person_of h p) ≡ false
+    enrolled b k is = ap not (rests b k (asked-vacancy e vac of) is).listed.enrolled
+
+    known : is_none (under p) ≡ false
+    known = let reply_is = offered-reply e.moment p e.reply to in unknown-is (under p) h p (are.each p) ∙ enrolled reply_is.0 reply_is.1.0 reply_is.1.1
 
 pub boards-stay : (h : History) (e : EntryValue) (under : List ℕ → Option BoardSetup) (codes : List (List ℕ)) → Comes h e → is_done e.reply ≡ false
     → AreBoards under codes h → AreBoards under codes (with_entry h e)

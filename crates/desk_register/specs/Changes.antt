@@ -32,6 +32,7 @@ enrolled craft home quals = record {
   marked_off = false;
   closed = false;
   assigned = None;
+  on_offer = None;
 }
 
 -- what a command makes of the enrolled person whom it changes
@@ -49,6 +50,10 @@ changed other k = k
 -- what is kept, once no vacancy is assigned
 abbrev pub freed : KeptPerson → KeptPerson
 freed k = record k { assigned = None }
+
+-- what is kept, once this is on offer to the person
+abbrev pub with_offer : Option ℕ → KeptPerson → KeptPerson
+with_offer vac k = record k { on_offer = vac }
 
 -- what is kept under a number, where it is changed under this one
 abbrev pub put_under : Option ℕ → (KeptPerson → KeptPerson) → (ℕ → Option KeptPerson) → ℕ → Option KeptPerson
@@ -73,3 +78,17 @@ taker other = None
 abbrev pub loser : History → Cmd → Option ℕ
 loser h (cmd.Annul vac) = taker (state_of h vac)
 loser h other = None
+
+-- to whom a vacancy is on offer that stands so
+abbrev pub asked : VacState → Option ℕ
+asked (state.OnOffer p) = Some p
+asked other = None
+
+-- whose open offer a command settles that is done
+abbrev pub offeree : History → Cmd → Option ℕ
+offeree h (cmd.Accept vac person) = Some person
+offeree h (cmd.Decline vac person) = Some person
+offeree h (cmd.NoAnswer vac person) = Some person
+offeree h (cmd.Withdraw vac person) = Some person
+offeree h (cmd.Annul vac) = asked (state_of h vac)
+offeree h other = None

@@ -6,6 +6,7 @@ use Rattle.desk_model.specs.Register.{person_of, quals_of, persons}
 use Rattle.desk_model.specs.Duty.{is_closed}
 use Rattle.desk_model.specs.Marks.{is_marked_off}
 use Rattle.desk_model.specs.Assigned.{assigned}
+use Rattle.desk_model.specs.Offers.{on_offer}
 use Rattle.indexmap.specs.IndexMap.{get, keys}
 use Rattle.desk_register.specs.declared.roster.Roster.{Roster}
 use Rattle.desk_register.specs.declared.kept_person.KeptPerson.{KeptPerson}
@@ -15,6 +16,11 @@ abbrev pub assigned_in : Option KeptPerson → Option ℕ
 assigned_in None = None
 assigned_in (Some k) = k.assigned
 
+-- the vacancy that is kept as on offer
+abbrev pub offered_in : Option KeptPerson → Option ℕ
+offered_in None = None
+offered_in (Some k) = k.on_offer
+
 -- what is kept under a person's number is what the history says of the person; nothing is kept of who isn't enrolled
 pub record IsPerson (k : Option KeptPerson) (h : History) (p : ℕ) : Type 0 where
   pub person : option_map (λ x. x.person) k ≡ person_of h p
@@ -22,6 +28,7 @@ pub record IsPerson (k : Option KeptPerson) (h : History) (p : ℕ) : Type 0 whe
   pub marked_off : option_map_or (λ x. x.marked_off) k false ≡ is_marked_off h p
   pub closed : option_map_or (λ x. x.closed) k false ≡ is_closed h p
   pub assigned : assigned_in k ≡ assigned h p
+  pub on_offer : offered_in k ≡ on_offer h p
 
 -- that holds of every number, and the numbers that something is kept under are the persons, in the order in which they came
 pub record ArePersons (under : ℕ → Option KeptPerson) (numbers : List ℕ) (h : History) : Type 0 where

@@ -20,6 +20,8 @@ pub struct KeptPerson {
     pub closed: bool,
     /// The vacancy that is assigned to the person; `None` where none is.
     pub assigned: Option<VacNo>,
+    /// The vacancy that is on offer to the person; `None` where none is.
+    pub on_offer: Option<VacNo>,
 }
 
 // The enrolled person whom a command changes.
@@ -60,6 +62,7 @@ impl KeptPerson {
             marked_off: false,
             closed: false,
             assigned: None,
+            on_offer: None,
         }
     }
 

@@ -6,7 +6,7 @@ ghost use Rattle.desk_model.specs.History.{History, opened, with_entry, is_done}
 ghost use Rattle.desk_model.specs.Register.{persons};
 ghost use Rattle.desk_model.specs.TurnedDown.{has_turned_down};
 ghost use Rattle.desk_model.specs.Legal.{IsLegal, IsNext};
-ghost use Rattle.desk_register.specs.Changes.{loser};
+ghost use Rattle.desk_register.specs.Changes.{loser, offeree};
 ghost use Rattle.desk_register.specs.Done.{IsDone};
 ghost use Rattle.desk_register.specs.Vacancies.{had_by, turner, turner_place, HasPlace, offered_vac, offered_person};
 ghost use Rattle.desk_register.specs.Register.{roster_of, boards_kept, vacancies_kept, Keeps};
@@ -19,6 +19,7 @@ use crate::vacancies::Vacancies;
 use desk_base::{NoMemory, PersonNo, VacNo};
 use desk_model::{
     Cmd, Entry, Reply, VacState, a_vacancy_is_in_one_state, what_an_entry_makes_of_the_desk,
+    what_is_done_rests_on,
 };
 use std::alloc::Global;
 
@@ -96,6 +97,23 @@ impl Register {
         }
     }
 
+    // Whose open offer the command settles.
+    fn offeree(&self, cmd: &Cmd) -> Option<PersonNo>
+        ensures { (h : History) → Keeps self.now h → result ≡ offeree h cmd.now }
+    {
+        match cmd {
+            Cmd::Accept { person, .. }
+            | Cmd::Decline { person, .. }
+            | Cmd::NoAnswer { person, .. }
+            | Cmd::Withdraw { person, .. } => Some(*person),
+            Cmd::Annul { vac } => match self.vacancies.get(*vac)?.state {
+                VacState::OnOffer(person) => Some(person),
+                _ => None,
+            },
+            _ => None,
+        }
+    }
+
     // What is assigned to the person whom the command names that may take it from them.
     fn had_by(&self, cmd: &Cmd) -> Option<VacNo>
         ensures { (h : History) → Keeps self.now h → result ≡ had_by h cmd.now }
@@ -117,9 +135,10 @@ impl Register {
         ensures { (h : History) (e : EntryValue) → IsLegal h → IsNext h e → IsDone e cmd.now → Keeps self.old h → Keeps self.new (with_entry h e) }
     {
         let lost = self.loser(cmd);
+        let settled = self.offeree(cmd);
         let had = self.had_by(cmd);
         let place = self.turner_place(cmd);
-        self.persons.change(cmd, lost);
+        self.persons.change(cmd, lost, settled);
         self.boards.change(cmd);
         self.vacancies.change(cmd, had, place);
     }
@@ -129,9 +148,11 @@ impl Register {
         ensures { (h : History) → IsLegal h → IsNext h entry.now → Keeps self.old h → Keeps self.new (with_entry h entry.now) }
     {
         what_an_entry_makes_of_the_desk();
+        what_is_done_rests_on();
         if is_done(entry.reply()) {
             self.change(entry.stated().cmd());
         } else if let Some((vac, person)) = offered(entry) {
+            self.persons.put_offer(Some(person), Some(vac));
             self.vacancies.offer(vac, person);
         }
     }

@@ -6,14 +6,17 @@ ghost use Rattle.desk_model.specs.declared.limits.TheConstants.{PERSON_LIMIT};
 ghost use Rattle.desk_model.specs.Entry.{EntryValue};
 ghost use Rattle.desk_model.specs.History.{History, with_entry};
 ghost use Rattle.desk_model.specs.Legal.{IsLegal, IsNext};
-ghost use Rattle.desk_register.specs.Changes.{subject, changed, freed, put_under, put_enrolled, CanEnrol, loser};
+ghost use Rattle.desk_register.specs.Changes.{subject, changed, freed, with_offer, put_under, put_enrolled, CanEnrol, loser, offeree};
 ghost use Rattle.desk_register.specs.Persons.{KeepsPersons};
 ghost use Rattle.desk_register.specs.Done.{IsDone};
 
 use crate::kept_person::{KeptPerson, subject};
 use crate::roster::Roster;
-use desk_base::PersonNo;
-use desk_model::{Cmd, PERSON_LIMIT, a_vacancy_is_in_one_state, what_an_entry_makes_of_the_desk};
+use desk_base::{PersonNo, VacNo};
+use desk_model::{
+    Cmd, PERSON_LIMIT, a_vacancy_is_in_one_state, one_offer_to_a_person,
+    what_an_entry_makes_of_the_desk, what_is_done_rests_on,
+};
 
 impl Roster {
     // Adds who is enrolled, where they are new and there is room.
@@ -63,15 +66,32 @@ impl Roster {
         }
     }
 
-    /// Keeps what a command changes that was done; `lost` is to whom the vacancy was assigned that it annuls.
-    pub(crate) fn change(&mut self, cmd: &Cmd, lost: Option<PersonNo>)
+    /// Keeps that this is on offer to the person.
+    pub(crate) fn put_offer(&mut self, person: Option<PersonNo>, on_offer: Option<VacNo>)
+        ensures under { (q : ℕ) → get nat_eq self.new.kept q ≡ put_under person (with_offer on_offer) (get nat_eq self.old.kept) q }
+        ensures keys { keys self.new.kept ≡ keys self.old.kept }
+    {
+        let Some(person) = person else {
+            return;
+        };
+        if let Some(kept) = self.kept.get_mut(&person) {
+            kept.on_offer = on_offer;
+        }
+    }
+
+    /// Keeps what a command changes that was done; `lost` is to whom the vacancy was assigned that it annuls, and `settled` whose
+    /// open offer it settles.
+    pub(crate) fn change(&mut self, cmd: &Cmd, lost: Option<PersonNo>, settled: Option<PersonNo>)
         ensures { (h : History) (e : EntryValue) → IsLegal h → IsNext h e → IsDone e cmd.now → lost ≡ loser h cmd.now
-            → KeepsPersons self.old h → KeepsPersons self.new (with_entry h e) }
+            → settled ≡ offeree h cmd.now → KeepsPersons self.old h → KeepsPersons self.new (with_entry h e) }
     {
         what_an_entry_makes_of_the_desk();
+        what_is_done_rests_on();
         a_vacancy_is_in_one_state();
+        one_offer_to_a_person();
         self.enrol(cmd);
         self.free(lost);
         self.change_subject(cmd);
+        self.put_offer(settled, None);
     }
 }

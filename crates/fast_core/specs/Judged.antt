@@ -20,7 +20,6 @@ pub record IsJobAsked (a : JobAsked) (h : History) : Type 0 where
 
 -- it is this enrolled person, by what the history says of them
 pub record IsCandidate (c : Candidate) (h : History) (p : ℕ) : Type 0 where
-  pub number : c.number ≡ p
   pub place : place_among (persons h) p ≡ Some c.place
   pub kept : IsPerson (Some c.kept.now) h p
   pub clock : IsClock c.clock.now h p

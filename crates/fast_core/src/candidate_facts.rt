@@ -6,7 +6,6 @@ ghost use Rattle.desk_model.specs.declared.person.Person.{Person};
 ghost use Rattle.desk_model.specs.History.{History};
 ghost use Rattle.desk_model.specs.Register.{person_of};
 ghost use Rattle.desk_model.specs.Duty.{in_tour};
-ghost use Rattle.desk_model.specs.Offers.{on_offer};
 ghost use Rattle.desk_model.specs.Held.{held};
 ghost use Rattle.desk_model.specs.TurnedDown.{has_turned_down};
 ghost use Rattle.desk_model.specs.Job.{JobValue};
@@ -17,7 +16,7 @@ ghost use Rattle.fast_core.specs.Judged.{IsJobAsked, IsCandidate};
 use crate::candidate::Candidate;
 use crate::job_asked::JobAsked;
 use denial_rules::{Bar, Facts, busy_bar};
-use desk_base::{Minute, VacNo};
+use desk_base::Minute;
 use desk_model::no_event_lies_ahead;
 use duty_events::Stage;
 
@@ -30,16 +29,16 @@ impl Candidate<'_> {
     }
 
     /// The bar of who is marked off, in a tour, assigned or on offer, before which no other is told, whatever the job; `None` where none
-    /// of these holds. `offered` is the vacancy that is on offer to them.
-    pub fn busy_bar(&self, offered: &Option<VacNo>) -> Option<Bar>
+    /// of these holds.
+    pub fn busy_bar(&self) -> Option<Bar>
         ensures { (h : History) (p : ℕ) (person : Person) (m : ℕ) (job : JobValue) (bar : BarValue) → IsLegal h → IsCandidate self.now h p
-            → person_of h p ≡ Some person → offered.now ≡ on_offer h p → result ≡ Some bar → bar_of h m job p person ≡ Some bar }
+            → person_of h p ≡ Some person → result ≡ Some bar → bar_of h m job p person ≡ Some bar }
     {
         busy_bar(
             self.kept.marked_off,
             self.in_tour(),
             self.kept.assigned,
-            *offered,
+            self.kept.on_offer,
         )
     }
 
@@ -54,11 +53,10 @@ impl Candidate<'_> {
         }
     }
 
-    /// What bears on whether the person may have the job, but for the law. `offered` is the vacancy that is on offer to them, and
-    /// `until` the minute up to which they are held.
-    pub fn facts(&self, asked: &JobAsked, offered: Option<VacNo>, until: Option<Minute>) -> Facts
+    /// What bears on whether the person may have the job, but for the law. `until` is the minute up to which they are held.
+    pub fn facts(&self, asked: &JobAsked, until: Option<Minute>) -> Facts
         ensures { (h : History) (p : ℕ) (person : Person) → IsLegal h → IsCandidate self.now h p → IsJobAsked asked.now h
-            → person_of h p ≡ Some person → offered ≡ on_offer h p → until ≡ held h asked.now.moment asked.now.job.now.chain p
+            → person_of h p ≡ Some person → until ≡ held h asked.now.moment asked.now.job.now.chain p
             → result ≡ without_law (facts_of h asked.now.moment asked.now.job.now p person) }
     {
         no_event_lies_ahead();
@@ -66,7 +64,7 @@ impl Candidate<'_> {
             marked_off: self.kept.marked_off,
             in_tour: self.in_tour(),
             assigned: self.kept.assigned,
-            on_offer: offered,
+            on_offer: self.kept.on_offer,
             place_is: self.clock.place(),
             place_asked: asked.job.place(),
             craft_is: self.kept.person.craft,

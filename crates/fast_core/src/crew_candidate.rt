@@ -17,7 +17,6 @@ impl Crew {
         let found = self.register.persons().find(number)?;
         let clock = self.duty.clock(found.place)?;
         Some(Candidate {
-            number,
             place: found.place,
             kept: found.kept,
             clock,

@@ -4,7 +4,6 @@ ghost use Rattle.month_hours.specs.Plan.{plan_of};
 ghost use Rattle.desk_model.specs.declared.person.Person.{Person};
 ghost use Rattle.desk_model.specs.History.{History};
 ghost use Rattle.desk_model.specs.Register.{person_of};
-ghost use Rattle.desk_model.specs.Offers.{on_offer};
 ghost use Rattle.desk_model.specs.Bars.{bar_of};
 ghost use Rattle.desk_answers.specs.Asked.{IsAsked};
 ghost use Rattle.fast_core.specs.Desk.{Tells};
@@ -15,7 +14,7 @@ use crate::candidate::Candidate;
 use crate::desk::Desk;
 use crate::job_asked::JobAsked;
 use denial_rules::{Bar, first_bar, the_law_comes_last};
-use desk_base::{Minute, PersonNo, VacNo};
+use desk_base::{Minute, PersonNo};
 use desk_model::Job;
 use month_hours::{Plan, PlanMonths};
 
@@ -46,20 +45,14 @@ impl Desk {
         }
     }
 
-    // The first bar that keeps an enrolled person from the job that is asked about, of all bars; `offered` is the vacancy that is on
-    // offer to them.
-    fn bar_by_facts(
-        &self,
-        asked: &JobAsked,
-        person: &Candidate,
-        offered: Option<VacNo>,
-    ) -> Option<Bar>
+    // The first bar that keeps an enrolled person from the job that is asked about, of all bars.
+    fn bar_by_facts(&self, asked: &JobAsked, person: &Candidate) -> Option<Bar>
         ensures { (h : History) (p : ℕ) (who : Person) → Tells self.now h → IsJobAsked asked.now h → IsCandidate person.now h p
-            → person_of h p ≡ Some who → offered ≡ on_offer h p → result ≡ bar_of h asked.now.moment asked.now.job.now p who }
+            → person_of h p ≡ Some who → result ≡ bar_of h asked.now.moment asked.now.job.now p who }
     {
         the_law_comes_last();
         let until = self.held(asked.moment, &asked.job.chain(), person.place);
-        match first_bar(&person.facts(asked, offered, until)) {
+        match first_bar(&person.facts(asked, until)) {
             Some(bar) => Some(bar),
             None => person.law(asked),
         }
@@ -71,10 +64,9 @@ impl Desk {
         ensures { (h : History) (p : ℕ) (who : Person) → Tells self.now h → IsJobAsked asked.now h → IsCandidate person.now h p
             → person_of h p ≡ Some who → result ≡ bar_of h asked.now.moment asked.now.job.now p who }
     {
-        let offered = self.on_offer(person.number);
-        match person.busy_bar(&offered) {
+        match person.busy_bar() {
             Some(bar) => Some(bar),
-            None => self.bar_by_facts(asked, person, offered),
+            None => self.bar_by_facts(asked, person),
         }
     }
 

@@ -2,11 +2,11 @@
 ghost use Rattle.std.specs.Prelude.{◌≡◌, ◌+◌, ℕ, Some, IfSome};
 ghost use Rattle.desk_base.specs.Minute.{IsInYears};
 ghost use Rattle.desk_model.specs.History.{History};
-ghost use Rattle.desk_model.specs.Offers.{open_offer, on_offer};
+ghost use Rattle.desk_model.specs.Offers.{open_offer};
 ghost use Rattle.fast_core.specs.Desk.{Tells};
 
 use crate::desk::Desk;
-use desk_base::{Minute, PersonNo, VacNo, YEARS_BEGIN, YEARS_END};
+use desk_base::{Minute, VacNo, YEARS_BEGIN, YEARS_END};
 use desk_model::{Offer, a_legal_history_fits};
 
 // The minute so many minutes before this one, where both lie in the years 2000 to 2099.
@@ -37,12 +37,5 @@ impl Desk {
             board: *board,
             made,
         })
-    }
-
-    /// The vacancy that is on offer to the person; `None` where none is.
-    pub fn on_offer(&self, person: PersonNo) -> Option<VacNo>
-        ensures { (h : History) → Tells self.now h → result ≡ on_offer h person }
-    {
-        self.offers.on_offer(person)
     }
 }

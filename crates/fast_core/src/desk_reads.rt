@@ -105,7 +105,7 @@ impl<L: Ledger> Reads for Looks<'_, L> {
     }
 
     fn on_offer(&self, person: PersonNo) -> Option<VacNo> {
-        self.desk.on_offer(person)
+        self.desk.crew.register.persons().get(person)?.on_offer
     }
 
     fn judge(

@@ -84,7 +84,7 @@ fn offered(person: u32) -> Option<Reply> {
 }
 
 // What is stated when and answered how, the place of who declines or of the board that is offered from, and what is seen then: the
-// open offer of vacancy 12, what is on offer to person 7, and until when the second person is held by the second board.
+// open offer of vacancy 12, and until when the second person is held by the second board.
 #[derive(Drop)]
 struct Step<'a> {
     cmd: Option<Cmd>,
@@ -92,7 +92,6 @@ struct Step<'a> {
     reply: Option<Reply>,
     place: Option<usize>,
     offer: Option<InFlight>,
-    to: Option<VacNo>,
     held: Option<Minute>,
 }
 
@@ -107,8 +106,7 @@ fn open(person: u32, board: u8, until: &[u8]) -> Option<InFlight> {
 
 fn is_seen(offers: &Offers, step: &Step) -> Option<bool> {
     let offer = offers.offer(of_vacancy(12)?);
-    let to = offers.on_offer(of_person(7)?);
-    Some(offer == step.offer && to == step.to && Some(offers.hold_end(1, 1)) == step.held)
+    Some(offer == step.offer && Some(offers.hold_end(1, 1)) == step.held)
 }
 
 // The place of the first step, from 0, after which something else is seen; `None` where none is.
@@ -123,7 +121,7 @@ fn first_wrong(offers: &mut Offers, steps: &[Step]) -> Result<Option<usize>, Fai
     Ok(None)
 }
 
-// A step after which vacancy 12 has no open offer, nothing is on offer to person 7, and the hold ends then.
+// A step after which vacancy 12 has no open offer, and the hold ends then.
 fn closed<'a>(
     cmd: Option<Cmd>,
     time: &'a [u8],
@@ -136,7 +134,6 @@ fn closed<'a>(
         reply: Some(Reply::Done),
         place,
         offer: None,
-        to: None,
         held,
     }
 }
@@ -155,7 +152,6 @@ fn offers_seven<'a>(
         reply: offered(7),
         place: Some(usize::from(board)),
         offer: open(7, board, until),
-        to: of_vacancy(12),
         held,
     }
 }
@@ -183,7 +179,6 @@ fn offers_open_and_end_and_a_decline_holds(rt: HostRuntime) -> Result<(), Fail> 
     };
     let of_another = Step {
         reply: offered(7),
-        to: of_vacancy(3),
         ..closed(next(3), b"12:14", Some(0), first)
     };
     let steps = [
@@ -218,14 +213,19 @@ fn a_thousand_persons_have_offers(rt: HostRuntime) -> Result<(), Fail> {
         offers.keep(&entry, None, Some(vac as usize % 64));
     }
     for vac in 1..=1_001 {
-        let person = of_person(1_002 - vac).ok_or("nobody")?;
-        let wanted = if vac == 1_001 { None } else { of_vacancy(vac) };
-        assert_eq!(rt; offers.on_offer(person), wanted);
+        let vacancy = of_vacancy(vac).ok_or("no number")?;
+        let person = offers.offer(vacancy).map(|offer| offer.person);
+        let wanted = if vac == 1_001 {
+            None
+        } else {
+            of_person(1_002 - vac)
+        };
+        assert_eq!(rt; person, wanted);
         let entry = entry_of(decline(vac, 1_002 - vac), b"12:30", Some(Reply::Done)).ok_or(
             "no decline",
         )?;
         offers.keep(&entry, Some(vac as usize - 1), None);
-        assert!(rt; offers.on_offer(person).is_none());
+        assert!(rt; offers.offer(vacancy).is_none());
     }
     for person in 0..1_000_usize {
         assert_eq!(rt;

@@ -87,7 +87,7 @@ fn crew(alloc: Global) -> Result<Register, Fail> {
 }
 
 // What is kept of a vacancy and of a person: how it stands, and whether they have turned it down; whether they are marked
-// off, whether their past is closed, and what is assigned to them.
+// off, whether their past is closed, what is assigned to them, and what is on offer to them.
 #[derive(Clone, Copy, PartialEq)]
 struct Seen {
     state: VacState,
@@ -95,6 +95,7 @@ struct Seen {
     marked_off: bool,
     closed: bool,
     assigned: Option<VacNo>,
+    on_offer: Option<VacNo>,
 }
 
 fn look(register: &Register, vac: u32, person: u32) -> Option<Seen> {
@@ -107,6 +108,7 @@ fn look(register: &Register, vac: u32, person: u32) -> Option<Seen> {
         marked_off: kept.marked_off,
         closed: kept.closed,
         assigned: kept.assigned,
+        on_offer: kept.on_offer,
     })
 }
 
@@ -150,6 +152,7 @@ fn stands(state: VacState) -> Option<Seen> {
         marked_off: false,
         closed: false,
         assigned: None,
+        on_offer: None,
     })
 }
 
@@ -164,6 +167,13 @@ fn has(state: VacState, vac: u32) -> Option<Seen> {
     Some(Seen {
         assigned: of_vacancy(vac),
         ..stands(state)?
+    })
+}
+
+fn open(vac: u32, person: u32) -> Option<Seen> {
+    Some(Seen {
+        on_offer: of_vacancy(vac),
+        ..stands(VacState::OnOffer(of_person(person)?))?
     })
 }
 
@@ -220,7 +230,7 @@ fn offer(vac: u32, person: u32) -> Step {
         reply: offered(person),
         vac,
         person,
-        seen: of_person(person).and_then(|p| stands(VacState::OnOffer(p))),
+        seen: open(vac, person),
     }
 }
 
@@ -263,6 +273,8 @@ fn a_vacancy_is_declined_accepted_and_given_up(rt: HostRuntime) -> Result<(), Fa
         after(next(3), 3, 101, stands(VacState::Vacant)),
         after(give_up(7), 12, 7, Some(gone)),
         after(next(3), 12, 9_999_999, stands(VacState::Vacant)),
+        offer(3, 101),
+        after(annul(3), 3, 101, stands(VacState::Annulled)),
     ];
     assert_eq!(rt; first_wrong(&mut register, &steps)?, None);
     Ok(())

@@ -1,4 +1,4 @@
-use Rattle.std.proofs.Common.{◌≡◌, Some, refl, sym, ap, subst, ◌∙◌}
+use Rattle.std.proofs.Common.{◌≡◌, Some, sym, ap, subst, ◌∙◌}
 use Rattle.std.proofs.lemmas.Option.{same_Some}
 use Rattle.desk_model.specs.Register.{persons}
 use Rattle.desk_register.specs.Among.{place_among}
@@ -14,7 +14,6 @@ returns c h keeps =
     sym (c.in_ok-found.ensures.place ∙ ap (λ r. place_among (person_numbers r) p) c.persons.ensures ∙ ap (λ ns. place_among ns p) keeps.register.persons.order) in
     let clock = keeps.clocks.each p found.place place in
     record {
-      number = refl;
       place = place;
       kept = subst (λ k. IsPerson k h p) (sym (c.in_ok-found.ensures.kept ∙ ap (λ r. person_under r p) c.persons.ensures)) (keeps.register.persons.each p);
       clock = subst (λ x. IsClock x h p) (same_Some _ _ (sym clock.1.0 ∙ sym c.in_ok-clock.ensures)) clock.1.1;

@@ -1,8 +1,7 @@
-use Rattle.std.proofs.Common.{sym, ap, ◌∙◌}
-use Rattle.desk_model.specs.Offers.{on_offer}
+use Rattle.std.proofs.Common.{sym}
 use Rattle.fast_core.proofs.desk.Desk.bar_of.Goals as goal
 
 pub returns-in-Some : goal.returns-in-Some
 returns-in-Some c h p who tells asked is known =
     let a = c.args.asked.now in
-    sym (c.busy_bar.ensures h p who a.moment a.job.now c.in-Some.bar tells.legal is known (c.on_offer-offered.ensures h tells ∙ ap (on_offer h) is.number) c.in-Some.is)
+    sym (c.busy_bar.ensures h p who a.moment a.job.now c.in-Some.bar tells.legal is known c.in-Some.is)
