@@ -1,12 +1,12 @@
 //! The numbers of slots in order, counted: that of a filled slot is below `EMPTY`.
-ghost use Rattle.std.specs.Prelude.{◌≡◌, ℕ, ◌+◌, ◌≤◌, ◌<◌, None, length, take};
+ghost use Rattle.std.specs.Prelude.{◌≡◌, ℕ, ◌+◌, ◌≤◌, ◌<◌, None, IfSome, length, take, slice_index};
 ghost use Rattle.std.specs.List.{count_by};
-ghost use Rattle.slot_tree.specs.Nodes.{marks_filled, FindsMarked};
+ghost use Rattle.slot_tree.specs.Nodes.{marks_filled, AreLeastOf, FindsMarked};
 
 use crate::nodes::EMPTY;
 
-// How many numbers are counted at once.
-const BLOCK: usize = 64;
+/// How many numbers are counted at once.
+pub(crate) const BLOCK: usize = 64;
 
 // How many of these are numbers of filled slots. No branch depends on them.
 fn count(keys: &[u32]) -> u32
@@ -21,12 +21,34 @@ fn count(keys: &[u32]) -> u32
     count
 }
 
-/// How many of those before one are numbers of filled slots.
-pub(crate) fn filled_before(keys: &[u32], slot: usize) -> u32
-    requires { length keys.now ≤ 1_024 }
+// How many of a block are numbers of filled slots, where none is below the least of the block, if that is known.
+fn count_from(block: &[u32], least: Option<&u32>) -> u32
+    requires few { length block.now ≤ 1_024 }
+    requires least { IfSome least (λ n. (i : ℕ) → i < length block.now → n.now ≤ slice_index block.now i) }
+    ensures count { result ≡ count_by marks_filled block.now }
+    ensures few { result ≤ length block.now }
+{
+    match least {
+        Some(least) if *least >= EMPTY => 0,
+        _ => count(block),
+    }
+}
+
+/// How many of those before one are numbers of filled slots. `blocks` has the least of each 64 of them.
+pub(crate) fn filled_before(keys: &[u32], blocks: &[u32], slot: usize) -> u32
+    requires few { length keys.now ≤ 1_024 }
+    requires blocks { AreLeastOf blocks.now keys.now }
     ensures { result ≡ count_by marks_filled (take slot keys.now) }
 {
-    count(&keys[..slot.min(keys.len())])
+    let last = slot.min(keys.len());
+    let mut before = 0;
+    let mut start = 0;
+    while start < last {
+        let end = last.min(start + BLOCK);
+        before += count_from(&keys[start..end], blocks.get(start / BLOCK));
+        start = end;
+    }
+    before
 }
 
 // The number that is a filled slot's as this one from the front, from 1, read one by one.
@@ -46,9 +68,11 @@ fn filled_in(keys: &[u32], place: u32) -> Option<usize>
     None
 }
 
-/// The number that is a filled slot's as this one from the front, from 1; `None` exactly where there is none.
-pub(crate) fn filled_as(keys: &[u32], place: u32) -> Option<usize>
-    requires { length keys.now ≤ 1_024 }
+/// The number that is a filled slot's as this one from the front, from 1; `None` exactly where there is none. `blocks` has the
+/// least of each 64 of them.
+pub(crate) fn filled_as(keys: &[u32], blocks: &[u32], place: u32) -> Option<usize>
+    requires few { length keys.now ≤ 1_024 }
+    requires blocks { AreLeastOf blocks.now keys.now }
     ensures { FindsMarked keys.now place result }
 {
     let mut before = 0;
@@ -56,7 +80,7 @@ pub(crate) fn filled_as(keys: &[u32], place: u32) -> Option<usize>
     while start < keys.len() {
         let end = keys.len().min(start + BLOCK);
         let block = &keys[start..end];
-        let more = before + count(block);
+        let more = before + count_from(block, blocks.get(start / BLOCK));
         if place <= more {
             let at = filled_in(block, place - before)?;
             return Some(start + at);

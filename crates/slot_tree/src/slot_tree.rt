@@ -1,9 +1,9 @@
 ghost use Rattle.std.specs.Prelude.{◌≡◌, ℕ, ◌+◌, ◌-◌, ◌*◌, ◌^◌, ◌<◌, ◌≤◌, IfOk, true, None, Some, [], ◌∷◌, ◌++◌, is_some, length, take, replicate, slice_set};
 ghost use Rattle.slot_tree.specs.Slots.{slot_at, with_ready, filled, filled_end, compacted};
 ghost use Rattle.slot_tree.specs.Search.{FindsReady, FindsFilled};
-ghost use Rattle.slot_tree.specs.Nodes.{AreLeast, KeysStand, AreKeys};
+ghost use Rattle.slot_tree.specs.Nodes.{AreLeast, AreLeastOf, KeysStand, AreKeys};
 
-use crate::keys::{filled_as, filled_before};
+use crate::keys::{BLOCK, filled_as, filled_before};
 use crate::nodes::{EMPTY, fill, key_of, mend, write};
 use crate::search::first_below;
 use crate::slots::{add_empty, end_before};
@@ -125,25 +125,30 @@ impl SlotTree {
         }
     }
 
-    // The numbers of the slots in order.
-    fn keys(&self) -> &[u32]
-        ensures { AreKeys self.now result.now }
+    // The numbers of the slots in order, and the least of each 64 of them, of none where there are fewer slots.
+    fn keys(&self) -> (&[u32], &[u32])
+        ensures keys { AreKeys self.now result.0.now }
+        ensures blocks { AreLeastOf result.1.now result.0.now }
     {
-        &self.nodes[self.slots.len()..]
+        let many = self.slots.len();
+        let blocks = many / BLOCK;
+        (&self.nodes[many..], &self.nodes[blocks..2 * blocks])
     }
 
     /// How many of the slots before this one are filled.
     pub fn before(&self, slot: u32) -> u32
         ensures { result ≡ length (filled (take slot self.now)) }
     {
-        filled_before(self.keys(), slot as usize)
+        let (keys, blocks) = self.keys();
+        filled_before(keys, blocks, slot as usize)
     }
 
     /// The slot that is filled as this number from the front, from 1; `None` exactly where there is none.
     pub fn nth(&self, place: u32) -> Option<u32>
         ensures { FindsFilled self.now place result }
     {
-        let at = filled_as(self.keys(), place)?;
+        let (keys, blocks) = self.keys();
+        let at = filled_as(keys, blocks, place)?;
         Some(at as u32)
     }
 

@@ -13,8 +13,9 @@ loop-start-preserved c =
     let long = length-chunk c.loop-start.start (c.min-end.result - c.loop-start.start) c.args.keys.now (omega arith) in
     record {
       within = omega arith;
-      counted = omega (arith, more, c.count.ensures.count, c.loop-start.invariant.counted);
-      few = omega (arith, c.count.ensures.few, long, c.loop-start.invariant.few);
+      counted = omega (arith, more, c.count_from.ensures.count, c.loop-start.invariant.counted);
+      few = omega (arith, c.count_from.ensures.few, long, c.loop-start.invariant.few);
       passed = λ some. omega arith;
       least = omega arith;
+      aligned = λ more. omega (arith, c.loop-start.invariant.aligned);
     }

@@ -1,4 +1,4 @@
-use Rattle.std.proofs.Common.{◌≡◌, ◌-◌, ◌≤◌, ◌<◌, length, take}
+use Rattle.std.proofs.Common.{◌≡◌, ◌-◌, ◌*◌, ◌/◌, ◌≤◌, ◌<◌, length, take}
 use Rattle.std.specs.List.{count_by}
 use Rattle.slot_tree.specs.Nodes.{marks_filled}
 use Rattle.slot_tree.proofs.keys.filled_as.Given as goal
@@ -10,6 +10,7 @@ invariant-loop-start l = record {
   few : l.before ≤ l.start;
   passed : 1 ≤ l.place → l.before < l.place;
   least : l.before ≤ l.place;
+  aligned : l.start < length l.keys → 64 * (l.start / 64) ≡ l.start;
 }
 
 abbrev pub decreases-loop-start : goal.decreases-loop-start
