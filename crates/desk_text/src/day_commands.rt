@@ -22,12 +22,7 @@ pub struct DayCommands {
 
 impl DayCommands {
     // Takes the record of this number, the next. What is behind a wrong one is passed over.
-    fn take(
-        &mut self,
-        record_no: u32,
-        last: &mut LastMinute,
-        row: &Row,
-    ) -> Result<(), NoMemory>
+    fn take(&mut self, record_no: u32, last: &mut LastMinute, row: &Row) -> Result<(), NoMemory>
         ensures { IfOk result (λ _. (first : ℕ) (records : List (List (List ℕ)))
             → record_no ≡ length records + first
             → StatesOrWrong first self.old.wrong self.old.commands.items records

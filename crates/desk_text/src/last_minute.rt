@@ -43,7 +43,12 @@ impl LastMinute {
             return Some(self.minute);
         }
         let minute = Minute::read(text)?;
-        self.take(minute);
+        if let Some(text) = text.first_chunk() {
+            *self = LastMinute {
+                minute,
+                text: *text,
+            };
+        }
         Some(minute)
     }
 
