@@ -38,15 +38,14 @@ pub(crate) fn audit_entries<C: DeskCore>(core: &mut C, text: &[u8]) -> Result<u3
     let mut left = text;
     let mut count: u32 = 0;
     let mut right_outcome = LineText::new();
-    let mut stated_last = LastMinute::new();
-    let mut moment_last = LastMinute::new();
+    let mut last = LastMinute::new();
     while !left.is_empty() {
         let (line, behind) = first_line(left);
-        let Some((statement, outcome)) = read_statement(&mut stated_last, line) else {
+        let Some((statement, outcome)) = read_statement(&mut last, line) else {
             return Err(Verdict::Unreadable(count + 2));
         };
         let right = core.step(statement.caller, statement.stated);
-        fill_with_outcome(&mut right_outcome, &mut moment_last, &right);
+        fill_with_outcome(&mut right_outcome, &mut last, &right);
         if outcome != right_outcome.as_slice() {
             let Some(entry) = &read_entry(line) else {
                 return Err(Verdict::Unreadable(count + 2));

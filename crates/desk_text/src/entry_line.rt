@@ -34,5 +34,6 @@ pub fn fill_with_entry(
     put_byte(line, b'|');
     put_stated(line, stated, entry.stated());
     put_byte(line, b'|');
+    moment.follow(stated, entry.moment());
     put_outcome(line, moment, entry.moment(), &entry.reply());
 }

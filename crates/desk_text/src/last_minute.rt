@@ -52,6 +52,13 @@ impl LastMinute {
         Some(minute)
     }
 
+    // Takes over what is kept of this minute elsewhere, where it is kept there alone.
+    pub(crate) fn follow(&mut self, other: &LastMinute, minute: Minute) {
+        if self.minute != minute && other.minute == minute {
+            *self = *other;
+        }
+    }
+
     /// The text `YYYY-MM-DD HH:MM` of the minute: its civil date and time of day.
     pub fn write(&mut self, minute: Minute) -> [u8; 16]
         ensures { result ≡ minute_text minute }

@@ -8,5 +8,5 @@ pub returns : goal.returns
 returns c =
     let stated = c.put_stated.ensures.text ∙ ap (λ s. c.put_byte.new.line.items ++ join_with_byte 44 (stated_fields s)) c.stated.ensures in
     rw (c.put_outcome.ensures, c.put_byte-2.ensures.text, stated, c.put_byte.ensures.text, c.put_number.ensures.text, c.clear.ensures)
-    (rw (c.reply.ensures, c.moment.ensures, c.from.ensures, c.caller.ensures.value)
+    (rw (c.reply.ensures, c.moment-2.ensures, c.from.ensures, c.caller.ensures.value)
     (sym (entry_line-pieces c.args.entry.now)))
