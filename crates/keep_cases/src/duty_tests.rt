@@ -1,19 +1,11 @@
 //! The clocks of two persons, by a day worked by hand.
+use crate::commands::at;
 use desk_base::{Code, Minute, Month, PersonNo, Window};
 use desk_duty::Duty;
 use desk_model::{Cmd, Entry, Reply, Stated};
 use duty_events::{Event, Stage};
 use qualifications::{Craft, Quals};
 use std::test::Fail;
-
-fn at(time: &[u8]) -> Option<Minute> {
-    let mut text = *b"2024-03-04 00:00";
-    if time.len() != 5 {
-        return None;
-    }
-    text[11..].copy_from_slice(time);
-    Minute::read(&text)
-}
 
 fn enrol(number: u32, home: &[u8]) -> Option<Cmd> {
     Some(Cmd::Enrol {

@@ -4,6 +4,8 @@
 #![tactic(auto)]
 
 #[cfg(test)]
+mod commands;
+#[cfg(test)]
 mod duty_tests;
 #[cfg(test)]
 mod lists_tests;

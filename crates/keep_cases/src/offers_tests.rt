@@ -1,26 +1,10 @@
 //! What is kept, entry by entry, of offers and declines worked by hand, and of as many offers as there is room for.
-use desk_base::{Code, Minute, PersonNo, VacNo};
+use crate::commands::{accept, annul, at, decline, next, of_person, of_vacancy, offered};
+use desk_base::Minute;
 use desk_model::{Cmd, Entry, Reply, Stated};
 use desk_offers::Offers;
 use offer_flight::InFlight;
 use std::test::Fail;
-
-fn at(time: &[u8]) -> Option<Minute> {
-    let mut text = *b"2024-03-04 00:00";
-    if time.len() != 5 {
-        return None;
-    }
-    text[11..].copy_from_slice(time);
-    Minute::read(&text)
-}
-
-fn of_person(number: u32) -> Option<PersonNo> {
-    PersonNo::new(number)
-}
-
-fn of_vacancy(number: u32) -> Option<VacNo> {
-    VacNo::new(number)
-}
 
 // An entry of this command, taken then and answered so.
 fn entry_of(cmd: Option<Cmd>, time: &[u8], reply: Option<Reply>) -> Option<Entry> {
@@ -28,28 +12,8 @@ fn entry_of(cmd: Option<Cmd>, time: &[u8], reply: Option<Reply>) -> Option<Entry
     Some(Entry::new(0, stated, at(time)?, reply?))
 }
 
-fn next(vac: u32) -> Option<Cmd> {
-    Some(Cmd::Next {
-        vac: of_vacancy(vac)?,
-    })
-}
-
 fn offer(vac: u32, person: u32) -> Option<Cmd> {
     Some(Cmd::Offer {
-        vac: of_vacancy(vac)?,
-        person: of_person(person)?,
-    })
-}
-
-fn accept(vac: u32, person: u32) -> Option<Cmd> {
-    Some(Cmd::Accept {
-        vac: of_vacancy(vac)?,
-        person: of_person(person)?,
-    })
-}
-
-fn decline(vac: u32, person: u32) -> Option<Cmd> {
-    Some(Cmd::Decline {
         vac: of_vacancy(vac)?,
         person: of_person(person)?,
     })
@@ -66,20 +30,6 @@ fn withdraw(vac: u32, person: u32) -> Option<Cmd> {
     Some(Cmd::Withdraw {
         vac: of_vacancy(vac)?,
         person: of_person(person)?,
-    })
-}
-
-fn annul(vac: u32) -> Option<Cmd> {
-    Some(Cmd::Annul {
-        vac: of_vacancy(vac)?,
-    })
-}
-
-fn offered(person: u32) -> Option<Reply> {
-    Some(Reply::Offered {
-        person: of_person(person)?,
-        board: Code::read(b"P1")?,
-        position: 1,
     })
 }
 

@@ -1,5 +1,6 @@
 //! What is kept, entry by entry, of a day worked by hand.
-use desk_base::{Code, Minute, PersonNo, VacNo};
+use crate::commands::{accept, annul, decline, next, of_person, of_vacancy, offered};
+use desk_base::{Code, Minute, VacNo};
 use desk_model::{Chain, Cmd, Entry, Job, Reply, Stated, VacState};
 use desk_register::Register;
 use duty_events::Event;
@@ -13,14 +14,6 @@ fn noon() -> Option<Minute> {
 
 fn code(text: &[u8]) -> Option<Code> {
     Code::read(text)
-}
-
-fn of_person(number: u32) -> Option<PersonNo> {
-    PersonNo::new(number)
-}
-
-fn of_vacancy(number: u32) -> Option<VacNo> {
-    VacNo::new(number)
 }
 
 // An entry of this command, answered so.
@@ -177,43 +170,9 @@ fn open(vac: u32, person: u32) -> Option<Seen> {
     })
 }
 
-fn next(vac: u32) -> Option<Cmd> {
-    Some(Cmd::Next {
-        vac: of_vacancy(vac)?,
-    })
-}
-
-fn offered(person: u32) -> Option<Reply> {
-    Some(Reply::Offered {
-        person: of_person(person)?,
-        board: code(b"P1")?,
-        position: 1,
-    })
-}
-
-fn accept(vac: u32, person: u32) -> Option<Cmd> {
-    Some(Cmd::Accept {
-        vac: of_vacancy(vac)?,
-        person: of_person(person)?,
-    })
-}
-
-fn decline(vac: u32, person: u32) -> Option<Cmd> {
-    Some(Cmd::Decline {
-        vac: of_vacancy(vac)?,
-        person: of_person(person)?,
-    })
-}
-
 fn give_up(person: u32) -> Option<Cmd> {
     Some(Cmd::Drop {
         person: of_person(person)?,
-    })
-}
-
-fn annul(vac: u32) -> Option<Cmd> {
-    Some(Cmd::Annul {
-        vac: of_vacancy(vac)?,
     })
 }
 
