@@ -18,7 +18,7 @@ pub fn read_decimal(text: &[u8]) -> Option<u32>
     }
 }
 
-// The number of a text of 1 to 10 digits; leading zeros pass too.
+// The number of a text of at most 10 digits, 0 where it has none; leading zeros pass too.
 fn number_of_digits(text: &[u8]) -> Option<u32>
     requires { length text.now ≤ MOST_DIGITS }
     ensures some { IfSome result (λ number. IsPlain text.now → text.now ≡ decimal number) }

@@ -18,7 +18,7 @@ behind_last text start at from within here =
     let there : start + (at - start) ≡ at = omega arith in
     sym (take-append-drop (at - start) (drop start text))
     ∙ ap (λ rest. take (at - start) (drop start text) ++ rest)
-        (drop-drop (at - start) start text ∙ ap (λ n. drop n text) there ∙ drop_more text at 0 within ∙ ap (λ b. b ∷ drop (at + 1) text) here)
+    (drop-drop (at - start) start text ∙ ap (λ n. drop n text) there ∙ drop_more text at 0 within ∙ ap (λ b. b ∷ drop (at + 1) text) here)
 
 -- a comma ends one more part
 pub parts-comma : (front : List (List ℕ)) (text : List ℕ) (start at : ℕ) (parts : List (List ℕ)) → start ≤ at → at < length text → get_or text at 0 ≡ 44
@@ -27,7 +27,7 @@ pub parts-comma : (front : List (List ℕ)) (text : List ℕ) (start at : ℕ) (
 parts-comma front text start at parts from within here uncut so_far =
     append_assoc front (take (at - start) (drop start text) ∷ []) (parts_by 44 (drop (at + 1) text))
     ∙ ap (λ ps. front ++ ps) (sym (ap (parts_by 44) (behind_last text start at from within here)
-        ∙ slice_split_at (λ b. b == 44) (take (at - start) (drop start text)) 44 (drop (at + 1) text) uncut refl))
+    ∙ slice_split_at (λ b. b == 44) (take (at - start) (drop start text)) 44 (drop (at + 1) text) uncut refl))
     ∙ so_far
 
 -- any other byte belongs to the part at hand
@@ -37,7 +37,7 @@ AreUncut-more text start at from within other uncut =
     let there : start + (at - start) ≡ at = omega arith in
     let is : get_or (drop start text) (at - start) 0 ≡ get_or text at 0 = get_or-drop start text (at - start) 0 ∙ ap (λ n. get_or text n 0) there in
     rw next (All-more (λ b. (b == 44) ≡ false) (drop start text) (at - start) 0 (omega (arith, length-drop start text)) uncut
-        (ap (λ b. b == 44) is ∙ false_from_ne_true (get_or text at 0 == 44) (λ e. other (eqb-true _ 44 e))))
+    (ap (λ b. b == 44) is ∙ false_from_ne_true (get_or text at 0 == 44) (λ e. other (eqb-true _ 44 e))))
 
 pub AreUncut-none : (text : List ℕ) (at : ℕ) → AreUncut text at at
 AreUncut-none text at = let none : at - at ≡ 0 = omega arith in rw none (λ k d within. absurd (omega (arith, within)))

@@ -1,5 +1,5 @@
 -- A text with no quote and no carriage return is read by lines, and each of these is cut at its commas.
-use Rattle.std.proofs.Common.{◌≡◌, ◌∙◌, ℕ, ◌+◌, ◌==◌, ◌<◌, Bool, true, false, cond, not, ◌&&◌, ◌||◌, List, [], ◌∷◌, ◌++◌, length, map, filter, Some, None, Option, is_some, slice_get, IsTrue, if◌then◌else◌, inl, inr, refl, sym, ap, subst, append_assoc, append-nil, arith}
+use Rattle.std.proofs.Common.{◌≡◌, ◌∙◌, ℕ, ◌+◌, ◌==◌, Bool, true, false, not, ◌&&◌, ◌||◌, List, [], ◌∷◌, ◌++◌, length, map, filter, Some, None, Option, is_some, slice_get, IsTrue, if◌then◌else◌, inl, inr, refl, sym, ap, subst, append_assoc, append-nil, arith}
 use Rattle.std.specs.List.{All, list_all}
 use Rattle.std.proofs.lemmas.Bool.{cases_Bool, eqb-true, false_from_ne_true}
 use Rattle.std.proofs.lemmas.Grind.{get_or_default_zero}

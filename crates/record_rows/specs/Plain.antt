@@ -7,7 +7,7 @@ use Rattle.desk_base.specs.Parts.{parts_by}
 abbrev pub is_plain_byte : ℕ → Bool
 is_plain_byte b = not (b == 34) && (not (b == 10) && not (b == 13))
 
--- a text that isn't empty, begins with no byte order mark, and has such bytes alone
+-- a text that isn't empty, doesn't begin with the byte EF, as a byte order mark does, and has such bytes alone
 abbrev pub is_plain : List ℕ → Bool
 is_plain [] = false
 is_plain (b ∷ rest) = not (b == 0xEF) && list_all is_plain_byte (b ∷ rest)

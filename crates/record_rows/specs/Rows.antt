@@ -1,4 +1,4 @@
--- The records of a text of fields behind commas, as `csv` documents them.
+-- The records of a text of fields between commas, as `csv` documents them.
 use Rattle.std.specs.Prelude.{◌≡◌, ◌⊎◌, ◌+◌, ℕ, true, Option, None, Some, List, ◌∷◌, length}
 use Rattle.std.specs.Borrow.{Bor}
 use Rattle.csv.specs.Reading.{Ready, is_flexible, default_config, reader_config, reader_state, reader_trim, records, records_from, source_of, strip_bom}

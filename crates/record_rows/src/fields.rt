@@ -6,7 +6,7 @@ ghost use Rattle.desk_base.specs.Parts.{parts_by};
 use arrayvec::ArrayVec;
 use csv::ByteRecord;
 
-/// How many fields of a record are given, at most. No record that the desk reads has as many.
+/// How many fields of a record are given, at most. No command has as many.
 pub const FIELD_LIMIT: usize = 12;
 
 // The fields of a record that was read, the first 12 of a longer one.

@@ -1,4 +1,4 @@
-//! The records of a text of fields behind commas, one after another: as `csv` reads them, or cut at line feeds and commas where it
+//! The records of a text of fields between commas, one after another: as `csv` reads them, or cut at line feeds and commas where it
 //! would read just those.
 #![tactic(auto)]
 

@@ -7,8 +7,8 @@ ghost use Rattle.record_rows.specs.Rows.{records_of};
 
 use memchr::{memchr, memchr2};
 
-/// Whether a text isn't empty, begins with no byte order mark, and has no quote and no end of a line. Then it is one record, whose
-/// fields stand between its commas.
+/// Whether a text isn't empty, doesn't begin with the byte EF, as a byte order mark does, and has no quote and no end of a line. Then
+/// it is one record, whose fields stand between its commas.
 pub fn is_plain(text: &[u8]) -> bool
     ensures is { result ≡ is_plain text.now }
     ensures one { IsTrue result → records_of text.now ≡ parts_by 44 text.now ∷ [] }
@@ -27,8 +27,8 @@ fn has_plain_bytes(text: &[u8]) -> bool
         .all(|byte| *byte != b'"' && *byte != b'\n' && *byte != b'\r')
 }
 
-/// Whether a text begins with no byte order mark, and has no quote and no carriage return. Then its lines are its records, but for
-/// empty ones.
+/// Whether a text doesn't begin with the byte EF, as a byte order mark does, and has no quote and no carriage return. Then its lines
+/// are its records, but for empty ones. Where it says no, nothing is said of the text: it only costs time.
 pub(crate) fn has_plain_lines(text: &[u8]) -> bool
     ensures { IsTrue result → records_of text.now ≡ plain_records text.now }
 {
@@ -49,7 +49,7 @@ fn first_line(text: &[u8]) -> (&[u8], &[u8])
     }
 }
 
-/// The first line of a text that isn't empty, and what is behind it; `None` exactly where there is none.
+/// The first line that isn't empty, and what is behind it.
 pub(crate) fn next_line(text: &[u8]) -> Option<(&[u8], &[u8])>
     ensures { MatchOption result (plain_records text.now ≡ [])
         (λ found. plain_records text.now ≡ parts_by 44 found.0.now ∷ plain_records found.1.now) }

@@ -1,4 +1,4 @@
-ghost use Rattle.std.specs.Prelude.{◌≡◌, map, take};
+ghost use Rattle.std.specs.Prelude.{◌≡◌, [], map, take};
 ghost use Rattle.record_rows.specs.declared.fields.TheConstants.{FIELD_LIMIT};
 
 use crate::fields::{FIELD_LIMIT, fields_of_line, fields_of_record};
@@ -19,7 +19,9 @@ impl<'a> Row<'a> {
     ghost use Rattle.record_rows.specs.Rows.{row_fields};
 
     /// A record of no fields, which takes no memory yet.
-    pub fn new(alloc: Global) -> Row<'a> {
+    pub fn new(alloc: Global) -> Row<'a>
+        ensures { row_fields result ≡ [] }
+    {
         Row {
             line: None,
             read: ByteRecord::new(alloc),

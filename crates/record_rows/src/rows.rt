@@ -61,7 +61,8 @@ impl<'a> Rows<'a> {
         Rows { source }
     }
 
-    /// Reads the next record into `row`. It is false where none is left.
+    /// Reads the next record into `row`. It is false where none is left; `NoMemory` where there is none for what `csv` reads. Behind
+    /// either nothing is said of it any more.
     pub fn next(&mut self, row: &mut Row<'a>) -> Result<bool, NoMemory>
         ensures { IfOk result (λ found. (left : List (List (List ℕ))) → HasLeft self.old left
             → MatchBool found (TookFirst left (row_fields row.new) self.new) (left ≡ [])) }

@@ -13,7 +13,7 @@ use Rattle.slot_tree.specs.Slots.{slot_at, filled}
 use Rattle.slot_tree.specs.Search.{FindsFilled}
 use Rattle.slot_tree.proofs.KeepLemmas.{size-few}
 use Rattle.slot_tree.proofs.LeastLemmas.{least_below}
-use Rattle.slot_tree.specs.Nodes.{marks_filled, Keeps, AreKeys, AreLeastOf, IsMarkedAs, FindsMarked}
+use Rattle.slot_tree.specs.Nodes.{marks_filled, Keeps, AreKeys, AreFloorsOf, IsMarkedAs, FindsMarked}
 
 -- ---- what they say of the slots
 
@@ -105,7 +105,7 @@ count_none (k ∷ ks) least high above =
     sum_by-cons _ k ks ∙ omega (arith, here, rest)
 
 -- the block's number is its least
-pub least_of-block : (keys blocks : List ℕ) (start end : ℕ) → AreLeastOf blocks keys → 64 * (start / 64) ≡ start → start ≤ end → end ≤ start + 64 → end ≤ length keys
+pub least_of-block : (keys blocks : List ℕ) (start end : ℕ) → AreFloorsOf blocks keys → 64 * (start / 64) ≡ start → start ≤ end → end ≤ start + 64 → end ≤ length keys
     → (found : Option ℕ) → found ≡ slice_get blocks (start / 64) → IfSome found (λ n. (i : ℕ) → i < length (slice_range keys start end) → n ≤ slice_index (slice_range keys start end) i)
 least_of-block keys blocks start end are aligned behind few within None is = tt
 least_of-block keys blocks start end are aligned behind few within (Some n) is = λ i low.
@@ -122,7 +122,7 @@ least_of-block keys blocks start end are aligned behind few within (Some n) is =
 
 -- the nodes six levels up have the least of each 64 slots
 pub are-least : (height next : ℕ) (slots : List (Option Slot)) (nodes : List ℕ) (many blocks : ℕ) → Keeps height next slots nodes → many ≡ length slots → blocks ≡ many / 64
-    → AreLeastOf (slice_range nodes blocks (2 * blocks)) (slice_range nodes many (length nodes))
+    → AreFloorsOf (slice_range nodes blocks (2 * blocks)) (slice_range nodes many (length nodes))
 are-least height next slots nodes many blocks keeps many_is blocks_is b i low from to within = elim (cases_lt height 6) [
   | inl small ↦ absurd (omega (arith, few small, low, long))
   | inr high ↦

@@ -55,8 +55,8 @@ pub record AreKeys (slots : List (Option Slot)) (keys : List ℕ) : Type 0 where
   pub mark : (s : ℕ) → s < length slots → marks_filled (slice_index keys s) ≡ is_some (slot_at slots s)
 
 -- of each 64 numbers none is below the one that stands for them
-abbrev pub AreLeastOf : List ℕ → List ℕ → Type 0
-AreLeastOf blocks keys = (b i : ℕ) → b < length blocks → 64 * b ≤ i → i < 64 * b + 64 → i < length keys → slice_index blocks b ≤ slice_index keys i
+abbrev pub AreFloorsOf : List ℕ → List ℕ → Type 0
+AreFloorsOf blocks keys = (b i : ℕ) → b < length blocks → 64 * b ≤ i → i < 64 * b + 64 → i < length keys → slice_index blocks b ≤ slice_index keys i
 
 -- the number is a filled slot's, and as many before it are as make it number `place` from the front, from 1
 pub record IsMarkedAs (keys : List ℕ) (place at : ℕ) : Type 0 where

@@ -1,7 +1,7 @@
 //! The numbers of slots in order, counted: that of a filled slot is below `EMPTY`.
 ghost use Rattle.std.specs.Prelude.{◌≡◌, ℕ, ◌+◌, ◌≤◌, ◌<◌, None, IfSome, length, take, slice_index};
 ghost use Rattle.std.specs.List.{count_by};
-ghost use Rattle.slot_tree.specs.Nodes.{marks_filled, AreLeastOf, FindsMarked};
+ghost use Rattle.slot_tree.specs.Nodes.{marks_filled, AreFloorsOf, FindsMarked};
 
 use crate::nodes::EMPTY;
 
@@ -21,7 +21,7 @@ fn count(keys: &[u32]) -> u32
     count
 }
 
-// How many of a block are numbers of filled slots, where none is below the least of the block, if that is known.
+// How many of a block are numbers of filled slots, where none of them is below this one, if one is given.
 fn count_from(block: &[u32], least: Option<&u32>) -> u32
     requires few { length block.now ≤ 1_024 }
     requires least { IfSome least (λ n. (i : ℕ) → i < length block.now → n.now ≤ slice_index block.now i) }
@@ -34,10 +34,10 @@ fn count_from(block: &[u32], least: Option<&u32>) -> u32
     }
 }
 
-/// How many of those before one are numbers of filled slots. `blocks` has the least of each 64 of them.
+/// How many of those before one are numbers of filled slots. `blocks` has for each 64 of them a number that none of these is below.
 pub(crate) fn filled_before(keys: &[u32], blocks: &[u32], slot: usize) -> u32
     requires few { length keys.now ≤ 1_024 }
-    requires blocks { AreLeastOf blocks.now keys.now }
+    requires blocks { AreFloorsOf blocks.now keys.now }
     ensures { result ≡ count_by marks_filled (take slot keys.now) }
 {
     let last = slot.min(keys.len());
@@ -68,11 +68,10 @@ fn filled_in(keys: &[u32], place: u32) -> Option<usize>
     None
 }
 
-/// The number that is a filled slot's as this one from the front, from 1; `None` exactly where there is none. `blocks` has the
-/// least of each 64 of them.
+/// The number that is a filled slot's as this one from the front, from 1; `None` exactly where there is none. `blocks` is as above.
 pub(crate) fn filled_as(keys: &[u32], blocks: &[u32], place: u32) -> Option<usize>
     requires few { length keys.now ≤ 1_024 }
-    requires blocks { AreLeastOf blocks.now keys.now }
+    requires blocks { AreFloorsOf blocks.now keys.now }
     ensures { FindsMarked keys.now place result }
 {
     let mut before = 0;

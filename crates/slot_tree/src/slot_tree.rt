@@ -1,7 +1,7 @@
 ghost use Rattle.std.specs.Prelude.{◌≡◌, ℕ, ◌+◌, ◌-◌, ◌*◌, ◌^◌, ◌<◌, ◌≤◌, IfOk, true, None, Some, [], ◌∷◌, ◌++◌, is_some, length, take, replicate, slice_set};
 ghost use Rattle.slot_tree.specs.Slots.{slot_at, with_ready, filled, filled_end, compacted};
 ghost use Rattle.slot_tree.specs.Search.{FindsReady, FindsFilled};
-ghost use Rattle.slot_tree.specs.Nodes.{AreLeast, AreLeastOf, KeysStand, AreKeys};
+ghost use Rattle.slot_tree.specs.Nodes.{AreLeast, AreFloorsOf, KeysStand, AreKeys};
 
 use crate::keys::{BLOCK, filled_as, filled_before};
 use crate::nodes::{EMPTY, fill, key_of, mend, write};
@@ -125,10 +125,10 @@ impl SlotTree {
         }
     }
 
-    // The numbers of the slots in order, and the least of each 64 of them, of none where there are fewer slots.
+    // The numbers of the slots in order, and for each 64 of them the least; with fewer slots there is no such block.
     fn keys(&self) -> (&[u32], &[u32])
         ensures keys { AreKeys self.now result.0.now }
-        ensures blocks { AreLeastOf result.1.now result.0.now }
+        ensures blocks { AreFloorsOf result.1.now result.0.now }
     {
         let many = self.slots.len();
         let blocks = many / BLOCK;

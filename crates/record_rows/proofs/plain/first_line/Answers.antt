@@ -1,4 +1,4 @@
-use Rattle.std.proofs.Common.{Some, None, ◌+◌, [], take, drop, ◌∙◌}
+use Rattle.std.proofs.Common.{Some, None, ◌+◌, [], take, drop}
 use Rattle.std.proofs.lemmas.List.{take_rest}
 use Rattle.memchr.specs.Find.{IsFirstByte, is_byte}
 use Rattle.desk_base.specs.Parts.{parts_by}

@@ -1,4 +1,4 @@
-use Rattle.std.proofs.Common.{Some, ap, sym, ◌∙◌}
+use Rattle.std.proofs.Common.{ap, sym, ◌∙◌}
 use Rattle.std.specs.Option.{option_copied}
 use Rattle.record_rows.proofs.PlainLemmas.{records_of-empty, records_of-lines}
 use Rattle.record_rows.proofs.plain.has_plain_lines.Goals as goal

@@ -1,4 +1,4 @@
-use Rattle.std.proofs.Common.{◌≡◌, ◌-◌, ◌*◌, ◌/◌, ◌≤◌, ◌<◌, length, take}
+use Rattle.std.proofs.Common.{◌≡◌, ◌-◌, ◌*◌, ◌/◌, ◌≤◌, ◌<◌, take}
 use Rattle.std.specs.List.{count_by}
 use Rattle.slot_tree.specs.Nodes.{marks_filled}
 use Rattle.slot_tree.proofs.keys.filled_before.Given as goal
