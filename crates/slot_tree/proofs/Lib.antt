@@ -3,3 +3,4 @@ pub mod SlotLemmas
 pub mod EndLemmas
 pub mod KeepLemmas
 pub mod CountLemmas
+pub mod RestLemmas

@@ -1,5 +1,5 @@
 //! The nodes of a tree of slots, each with the lesser number of the two below it.
-ghost use Rattle.std.specs.Prelude.{◌≡◌, ◌≢◌, ℕ, ◌+◌, ◌*◌, ◌≤◌, ◌<◌, length, slice_index};
+ghost use Rattle.std.specs.Prelude.{◌≡◌, ◌≢◌, ℕ, ◌+◌, ◌*◌, ◌≤◌, ◌<◌, length, slice_index, vec_capacity};
 ghost use Rattle.slot_tree.specs.Nodes.{IsKeyOf, AreLeast, KeysStand};
 
 use crate::Slot;
@@ -28,6 +28,7 @@ pub(crate) fn write(nodes: &mut Vec<u32>, at: usize, number: u32)
     ensures written { slice_index nodes.new.items at ≡ number }
     ensures others { (n : ℕ) → length nodes.old.items ≤ 2 * n → n ≢ at
         → slice_index nodes.new.items n ≡ slice_index nodes.old.items n }
+    ensures room { vec_capacity nodes.new ≡ vec_capacity nodes.old }
 {
     nodes[at] = number;
     let mut i = at;
@@ -35,7 +36,11 @@ pub(crate) fn write(nodes: &mut Vec<u32>, at: usize, number: u32)
         i /= 2;
         let left = nodes[2 * i];
         let right = nodes[2 * i + 1];
-        nodes[i] = left.min(right);
+        let lesser = left.min(right);
+        if nodes[i] == lesser {
+            return;
+        }
+        nodes[i] = lesser;
     }
 }
 
@@ -44,6 +49,7 @@ pub(crate) fn fill(nodes: &mut Vec<u32>, slots: &[Option<Slot>])
     requires { length nodes.old.items ≡ 2 * length slots.now }
     ensures length { length nodes.new.items ≡ length nodes.old.items }
     ensures keys { KeysStand slots.now nodes.new.items }
+    ensures room { vec_capacity nodes.new ≡ vec_capacity nodes.old }
 {
     let first = slots.len();
     for i in 0..first {
@@ -58,6 +64,7 @@ pub(crate) fn mend(nodes: &mut Vec<u32>)
     ensures least { AreLeast nodes.new.items }
     ensures lowest { (n : ℕ) → length nodes.old.items ≤ 2 * n
         → slice_index nodes.new.items n ≡ slice_index nodes.old.items n }
+    ensures room { vec_capacity nodes.new ≡ vec_capacity nodes.old }
 {
     let mut i = nodes.len() / 2;
     while i > 1 {

@@ -1,12 +1,13 @@
-ghost use Rattle.std.specs.Prelude.{◌≡◌, ℕ, ◌+◌, ◌-◌, ◌*◌, ◌^◌, ◌<◌, ◌≤◌, IfOk, true, None, Some, [], ◌∷◌, ◌++◌, is_some, length, take, replicate, slice_set};
+ghost use Rattle.std.specs.Prelude.{◌≡◌, ℕ, ◌+◌, ◌-◌, ◌*◌, ◌^◌, ◌<◌, ◌≤◌, IfOk, IfSome, true, None, Some, [], ◌∷◌, ◌++◌, is_some, length, take, replicate, slice_set, vec_capacity};
 ghost use Rattle.slot_tree.specs.Slots.{slot_at, with_ready, filled, filled_end, compacted};
 ghost use Rattle.slot_tree.specs.Search.{FindsReady, FindsFilled};
 ghost use Rattle.slot_tree.specs.Nodes.{AreLeast, AreFloorsOf, KeysStand, AreKeys};
+ghost use Rattle.slot_tree.specs.Rest.{all_slots, all_nodes, HasRoom};
 
 use crate::keys::{BLOCK, filled_as, filled_before};
 use crate::nodes::{EMPTY, fill, key_of, mend, write};
 use crate::search::first_below;
-use crate::slots::{add_empty, end_before};
+use crate::slots::{end_before, slot_count};
 use crate::{Slot, Steps};
 use desk_base::{Minute, NoMemory, PersonNo};
 use std::alloc::Global;
@@ -16,7 +17,8 @@ use std::sync::ledger::Ledger;
 /// Slots in a row, 2^k of them, each empty or filled by a person and the minute from which the person is ready. Numbers of
 /// slots count from 0. A contract sees the list of the slots.
 ///
-/// Slots are filled behind the last filled one, so the filled ones stand in the order in which they were filled.
+/// Slots are filled behind the last filled one, so the filled ones stand in the order in which they were filled. Memory for all
+/// is taken when they are made, and is written to when the first is filled.
 #[derive(Drop)]
 pub struct SlotTree {
     height: u32,
@@ -31,11 +33,13 @@ impl Model for SlotTree {
 
     ghost Value = { List (Option Slot) };
 
-    ghost use Rattle.slot_tree.specs.Nodes.{Keeps};
+    ghost use Rattle.std.specs.Prelude.{vec_capacity};
+    ghost use Rattle.slot_tree.specs.Rest.{all_slots, IsKept};
 
-    ghost view = { λ t. t.slots.items };
+    ghost view = { λ t. all_slots t.height t.slots.items };
 
-    ghost invariant = { λ t. Keeps t.height t.next t.slots.items t.nodes.items };
+    ghost invariant = { λ t. IsKept t.height t.next t.slots.items (vec_capacity t.slots)
+        t.nodes.items (vec_capacity t.nodes) };
 }
 
 impl SlotTree {
@@ -44,14 +48,12 @@ impl SlotTree {
         requires { k ≤ 10 }
         ensures { IfOk result (λ tree. tree ≡ replicate (2 ^ k) None) }
     {
-        let many = 1_usize << k;
-        let mut slots = Vec::with_capacity(alloc, many)?;
-        add_empty(&mut slots, many);
+        let many = slot_count(k);
         Ok(SlotTree {
             height: k,
             next: 0,
-            slots,
-            nodes: vec![in alloc; EMPTY; 2 * many]?,
+            slots: Vec::with_capacity(alloc, many)?,
+            nodes: Vec::with_capacity(alloc, 2 * many)?,
         })
     }
 
@@ -63,6 +65,7 @@ impl SlotTree {
         ensures order { filled self.new ≡ filled self.old ++ record { person = person; ready = ready } ∷ [] }
     {
         let slot = self.next;
+        keep_all(&mut self.slots, &mut self.nodes, self.height);
         put(
             &mut self.slots,
             &mut self.nodes,
@@ -78,6 +81,7 @@ impl SlotTree {
         requires { is_some (slot_at self.old slot) ≡ true }
         ensures { self.new ≡ slice_set self.old slot None }
     {
+        keep_all(&mut self.slots, &mut self.nodes, self.height);
         put(&mut self.slots, &mut self.nodes, slot as usize, None);
         self.next = end_before(&self.slots, self.next);
     }
@@ -87,8 +91,9 @@ impl SlotTree {
         requires { is_some (slot_at self.old slot) ≡ true }
         ensures { self.new ≡ slice_set self.old slot (with_ready ready (slot_at self.old slot)) }
     {
-        if let Some(held) = self.slots[slot as usize] {
+        if let Some(held) = self.at(slot) {
             let person = held.person;
+            keep_all(&mut self.slots, &mut self.nodes, self.height);
             put(
                 &mut self.slots,
                 &mut self.nodes,
@@ -105,9 +110,9 @@ impl SlotTree {
         ensures cost { (k : ℕ) → length self.now ≡ 2 ^ k → steps.new ≤ steps.old + 4 * (k + 1) }
         ensures close { (k : ℕ) → length self.now ≡ 2 ^ k → steps.new ≤ steps.old + 2 * k + 1 }
     {
-        let many = self.slots.len();
+        let many = slot_count(self.height);
         let from = from as usize;
-        if from >= many {
+        if from >= many || self.next == 0 {
             return None;
         }
         let m = m.number() as u32;
@@ -125,29 +130,36 @@ impl SlotTree {
         }
     }
 
-    // The numbers of the slots in order, and for each 64 of them the least; with fewer slots there is no such block.
-    fn keys(&self) -> (&[u32], &[u32])
-        ensures keys { AreKeys self.now result.0.now }
-        ensures blocks { AreFloorsOf result.1.now result.0.now }
+    // The numbers of the slots in order, and for each 64 of them the least; with fewer slots there is no such block. `None` only
+    // where no slot is filled.
+    fn keys(&self) -> Option<(&[u32], &[u32])>
+        ensures keys { IfSome result (λ found. AreKeys self.now found.0.now) }
+        ensures blocks { IfSome result (λ found. AreFloorsOf found.1.now found.0.now) }
+        ensures none { result ≡ None → (slot : ℕ) → slot_at self.now slot ≡ None }
     {
-        let many = self.slots.len();
+        if self.next == 0 {
+            return None;
+        }
+        let many = slot_count(self.height);
         let blocks = many / BLOCK;
-        (&self.nodes[many..], &self.nodes[blocks..2 * blocks])
+        Some((&self.nodes[many..], &self.nodes[blocks..2 * blocks]))
     }
 
     /// How many of the slots before this one are filled.
     pub fn before(&self, slot: u32) -> u32
         ensures { result ≡ length (filled (take slot self.now)) }
     {
-        let (keys, blocks) = self.keys();
-        filled_before(keys, blocks, slot as usize)
+        match self.keys() {
+            Some((keys, blocks)) => filled_before(keys, blocks, slot as usize),
+            None => 0,
+        }
     }
 
     /// The slot that is filled as this number from the front, from 1; `None` exactly where there is none.
     pub fn nth(&self, place: u32) -> Option<u32>
         ensures { FindsFilled self.now place result }
     {
-        let (keys, blocks) = self.keys();
+        let (keys, blocks) = self.keys()?;
         let at = filled_as(keys, blocks, place)?;
         Some(at as u32)
     }
@@ -156,11 +168,16 @@ impl SlotTree {
     pub fn copy(&self, alloc: Global) -> Result<SlotTree, NoMemory>
         ensures { IfOk result (λ tree. tree ≡ self.now) }
     {
+        let many = slot_count(self.height);
+        let mut slots = Vec::with_capacity(alloc, many)?;
+        slots.extend_from_slice(&self.slots)?;
+        let mut nodes = Vec::with_capacity(alloc, 2 * many)?;
+        nodes.extend_from_slice(&self.nodes)?;
         Ok(SlotTree {
             height: self.height,
             next: self.next,
-            slots: Vec::from_slice(alloc, &self.slots)?,
-            nodes: Vec::from_slice(alloc, &self.nodes)?,
+            slots,
+            nodes,
         })
     }
 
@@ -168,7 +185,7 @@ impl SlotTree {
     pub fn free(&self) -> u32
         ensures { result ≡ length self.now - filled_end self.now }
     {
-        (self.slots.len() - self.next) as u32
+        (slot_count(self.height) - self.next) as u32
     }
 
     /// Moves the filled slots to the front, in the same order.
@@ -178,12 +195,29 @@ impl SlotTree {
         ensures front { filled_end self.new ≡ length (filled self.new) }
         ensures length { length self.new ≡ length self.old }
     {
-        let many = self.slots.len();
         self.slots.retain(|slot| slot.is_some());
         self.next = self.slots.len();
-        add_empty(&mut self.slots, many);
+        keep_all(&mut self.slots, &mut self.nodes, self.height);
         fill(&mut self.nodes, &self.slots);
         mend(&mut self.nodes);
+    }
+}
+
+// From now on all slots and nodes of a tree of so many levels below the root are kept.
+fn keep_all(slots: &mut Vec<Option<Slot>>, nodes: &mut Vec<u32>, height: u32)
+    requires low { height ≤ 10 }
+    requires room { HasRoom height (length slots.old.items) (vec_capacity slots.old) (length nodes.old.items) (vec_capacity nodes.old) }
+    ensures slots { slots.new.items ≡ all_slots height slots.old.items }
+    ensures nodes { nodes.new.items ≡ all_nodes height nodes.old.items }
+    ensures slots_room { vec_capacity slots.old ≤ vec_capacity slots.new }
+    ensures nodes_room { vec_capacity nodes.old ≤ vec_capacity nodes.new }
+{
+    let many = slot_count(height);
+    if slots.len() < many {
+        let _slots = slots.resize(many, None);
+    }
+    if nodes.len() < 2 * many {
+        let _nodes = nodes.resize(2 * many, EMPTY);
     }
 }
 
@@ -197,6 +231,8 @@ fn put(slots: &mut Vec<Option<Slot>>, nodes: &mut Vec<u32>, slot: usize, value: 
     ensures length { length nodes.new.items ≡ length nodes.old.items }
     ensures least { AreLeast nodes.new.items }
     ensures keys { KeysStand slots.new.items nodes.new.items }
+    ensures slots_room { vec_capacity slots.new ≡ vec_capacity slots.old }
+    ensures nodes_room { vec_capacity nodes.new ≡ vec_capacity nodes.old }
 {
     slots[slot] = value;
     let number = key_of(&value);

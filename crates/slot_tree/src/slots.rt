@@ -1,8 +1,16 @@
 //! The slots of a tree, scanned.
-ghost use Rattle.std.specs.Prelude.{◌≡◌, ℕ, ◌-◌, ◌≤◌, ◌++◌, None, length, replicate, vec_capacity};
+ghost use Rattle.std.specs.Prelude.{◌≡◌, ℕ, ◌^◌, ◌≤◌, None, length};
 ghost use Rattle.slot_tree.specs.Slots.{slot_at, filled_end};
 
 use crate::Slot;
+
+/// How many slots a tree of so many levels below the root has.
+pub(crate) fn slot_count(height: u32) -> usize
+    requires { height ≤ 10 }
+    ensures { result ≡ 2 ^ height }
+{
+    1 << height
+}
 
 /// How many slots there are up to the last filled one, where none is filled from one on.
 pub(crate) fn end_before(slots: &[Option<Slot>], from: usize) -> usize
@@ -15,16 +23,4 @@ pub(crate) fn end_before(slots: &[Option<Slot>], from: usize) -> usize
         end -= 1;
     }
     end
-}
-
-/// Adds empty slots until there are so many, for which there is room.
-pub(crate) fn add_empty(slots: &mut Vec<Option<Slot>>, many: usize)
-    requires { many ≤ vec_capacity slots.old }
-    ensures slots { slots.new.items ≡ slots.old.items
-        ++ replicate (many - length slots.old.items) None }
-    ensures capacity { vec_capacity slots.new ≡ vec_capacity slots.old }
-{
-    while slots.len() < many {
-        slots.push_reserved(None);
-    }
 }

@@ -1,4 +1,4 @@
-use Rattle.std.proofs.Common.{◌≡◌, ◌≢◌, ℕ, ◌*◌, ◌/◌, ◌≤◌, length, slice_index}
+use Rattle.std.proofs.Common.{◌≡◌, ◌≢◌, ℕ, ◌*◌, ◌/◌, ◌≤◌, length, slice_index, vec_capacity}
 use Rattle.slot_tree.proofs.LeastLemmas.{AreLeastBut}
 use Rattle.slot_tree.proofs.nodes.write.Given as goal
 
@@ -6,6 +6,7 @@ use Rattle.slot_tree.proofs.nodes.write.Given as goal
 abbrev pub invariant-loop-i : goal.invariant-loop-i
 invariant-loop-i l = record {
   long : length l.nodes.items ≡ length l.fn.nodes.items;
+  room : vec_capacity l.nodes ≡ vec_capacity l.fn.nodes;
   low : 1 ≤ l.i;
   high : l.i ≤ l.at;
   least : AreLeastBut l.nodes.items (l.i / 2);

@@ -1,23 +1,35 @@
 use Rattle.std.proofs.Common.{◌≡◌, length, sym, ap, ◌∙◌, arith}
-use Rattle.slot_tree.proofs.KeepLemmas.{same_power}
+use Rattle.slot_tree.specs.Slots.{slot_at, is_ready}
+use Rattle.slot_tree.proofs.KeepLemmas.{past, same_power}
+use Rattle.slot_tree.proofs.RestLemmas.{slot_at-unfilled}
 use Rattle.slot_tree.proofs.slot_tree.SlotTree.first_from.Goals as goal
+use Rattle.slot_tree.proofs.slot_tree.SlotTree.first_from.Goals.{then-from-many-via-then-from-many, then-from-many-via-else-from-many+then-self-eq0}
+
+pub returns-then-from-many-clause-found : goal.returns-then-from-many-clause-found
+returns-then-from-many-clause-found g c s low = elim c.then-from-many.branch [
+  | then-from-many-via-then-from-many w ↦
+      let long : length c.args.self.now ≡ c.slot_count-many.result = sym (ap length c.self.view_is) ∙ c.self.invariant.stand.many ∙ sym c.slot_count-many.ensures in
+      ap (is_ready c.args.m) (past c.args.self.now s (omega (arith, long, low, w.if-from-many.true)))
+  | then-from-many-via-else-from-many+then-self-eq0 w ↦
+      ap (λ xs. is_ready c.args.m (slot_at xs s)) (sym c.self.view_is) ∙ ap (is_ready c.args.m) (slot_at-unfilled _ _ _ _ c.self.invariant.stand w.if-self-eq0.true s)
+]
 
 pub returns-in_err-at-clause-cost : goal.returns-in_err-at-clause-cost
 returns-in_err-at-clause-cost g c k long =
-    let same : c.self.inside.height ≡ k = same_power _ _ (sym c.self.invariant.many ∙ ap length c.self.view_is ∙ long) in
+    let same : c.self.inside.height ≡ k = same_power _ _ (sym c.self.invariant.stand.many ∙ ap length c.self.view_is ∙ long) in
     omega (arith, c.first_below.ensures.cost, same)
 
 pub returns-in_err-at-clause-close : goal.returns-in_err-at-clause-close
 returns-in_err-at-clause-close g c k long =
-    let same : c.self.inside.height ≡ k = same_power _ _ (sym c.self.invariant.many ∙ ap length c.self.view_is ∙ long) in
+    let same : c.self.inside.height ≡ k = same_power _ _ (sym c.self.invariant.stand.many ∙ ap length c.self.view_is ∙ long) in
     omega (arith, c.first_below.ensures.cost, same)
 
 pub returns-clause-cost : goal.returns-clause-cost
 returns-clause-cost g c k long =
-    let same : c.self.inside.height ≡ k = same_power _ _ (sym c.self.invariant.many ∙ ap length c.self.view_is ∙ long) in
+    let same : c.self.inside.height ≡ k = same_power _ _ (sym c.self.invariant.stand.many ∙ ap length c.self.view_is ∙ long) in
     omega (arith, c.first_below.ensures.cost, same)
 
 pub returns-clause-close : goal.returns-clause-close
 returns-clause-close g c k long =
-    let same : c.self.inside.height ≡ k = same_power _ _ (sym c.self.invariant.many ∙ ap length c.self.view_is ∙ long) in
+    let same : c.self.inside.height ≡ k = same_power _ _ (sym c.self.invariant.stand.many ∙ ap length c.self.view_is ∙ long) in
     omega (arith, c.first_below.ensures.cost, same)
