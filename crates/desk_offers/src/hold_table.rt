@@ -1,26 +1,18 @@
-ghost use Rattle.std.specs.Prelude.{◌≡◌, ◌<◌, ◌&&◌, ℕ, nat_eq, max, if◌then◌else◌, IfOk, length, slice_index};
+ghost use Rattle.std.specs.Prelude.{◌≡◌, ◌*◌, ◌<◌, ◌&&◌, ℕ, nat_eq, max, if◌then◌else◌, IfOk, length, slice_index};
 ghost use Rattle.desk_model.specs.declared.limits.TheConstants.{PERSON_LIMIT, BOARD_LIMIT};
 ghost use Rattle.desk_offers.specs.Holds.{end_at};
 
 use crate::holds::Holds;
 use desk_base::{Minute, NoMemory};
 use desk_model::{BOARD_LIMIT, PERSON_LIMIT};
-use std::alloc::{AllocError, Global};
-
-// So many times the first minute.
-fn first_minutes(alloc: Global, many: usize) -> Result<Vec<Minute>, AllocError>
-    ensures many { IfOk result (λ v. length v.items ≡ many) }
-    ensures first { IfOk result (λ v. (k : ℕ) → slice_index v.items k ≡ 0) }
-{
-    vec![in alloc; Minute::FIRST; many]
-}
+use std::alloc::Global;
 
 impl Holds {
     /// No holds; `NoMemory` where there is none for those of 1,000 persons by 64 boards.
     pub(crate) fn new(alloc: Global) -> Result<Holds, NoMemory>
         ensures { IfOk result (λ x. (person board : ℕ) → end_at x person board ≡ 0) }
     {
-        let ends = first_minutes(alloc, PERSON_LIMIT * BOARD_LIMIT)?;
+        let ends = Vec::with_capacity(alloc, PERSON_LIMIT * BOARD_LIMIT)?;
         Ok(Holds { ends })
     }
 
@@ -32,7 +24,21 @@ impl Holds {
         if person >= PERSON_LIMIT || board >= BOARD_LIMIT {
             return Minute::FIRST;
         }
-        self.ends[person * BOARD_LIMIT + board]
+        match self.ends.get(person * BOARD_LIMIT + board) {
+            Some(end) => *end,
+            None => Minute::FIRST,
+        }
+    }
+
+    // Keeps the ends up to a place, of which those that were not kept are the first minute of all.
+    fn reach(&mut self, place: usize)
+        requires { place < PERSON_LIMIT * BOARD_LIMIT }
+        ensures reached { place < length self.new.ends.items }
+        ensures same { (i : ℕ) → slice_index self.new.ends.items i ≡ slice_index self.old.ends.items i }
+    {
+        if self.ends.len() <= place {
+            let _reached = self.ends.resize(place + 1, Minute::FIRST);
+        }
     }
 
     /// Holds the person at this place until then by the board at this one, where they aren't held for longer.
@@ -44,6 +50,7 @@ impl Holds {
             return;
         }
         let place = person * BOARD_LIMIT + board;
+        self.reach(place);
         let now = self.ends[place];
         if now < until {
             self.ends[place] = until;
