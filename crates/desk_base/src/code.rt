@@ -40,7 +40,7 @@ impl PartialEq for Code {
     ghost laws = { partial_equiv_from_equiv nat_list_eq_equiv };
 
     fn eq(&self, other: &Code) -> bool {
-        self.text() == other.text()
+        self.bytes == other.bytes && self.len == other.len
     }
 }
 
