@@ -1,5 +1,5 @@
 //! The clauses say that texts are those of civil dates; these are dates that another calendar computed.
-use crate::{Code, Day, Minute, Month, NoMemory, PersonHints, PersonNo, VacNo, Window};
+use crate::{Code, Day, Minute, Month, NoMemory, PersonNo, PlaceHints, VacNo, Window};
 use std::alloc::AllocError;
 use std::test::Fail;
 
@@ -167,16 +167,14 @@ fn codes_and_numbers(rt: HostRuntime) -> Result<(), Fail> {
 
 // Two persons whose numbers are 4,096 apart share a hint.
 #[test]
-fn a_hint_is_where_a_person_was_put_last(rt: HostRuntime) -> Result<(), Fail> {
-    let person = PersonNo::new(7).ok_or("no person")?;
-    let far = PersonNo::new(4_103).ok_or("no person")?;
-    let mut hints = PersonHints::new(rt.alloc())?;
-    assert!(rt; hints.of(person) == 0);
-    hints.set(person, 499);
-    assert!(rt; hints.of(person) == 499);
+fn a_hint_is_where_a_number_was_put_last(rt: HostRuntime) -> Result<(), Fail> {
+    let mut hints = PlaceHints::new(rt.alloc())?;
+    assert!(rt; hints.of(7) == 0);
+    hints.set(7, 499);
+    assert!(rt; hints.of(7) == 499);
     let copy = hints.copy(rt.alloc())?;
-    hints.set(far, 12);
-    assert!(rt; hints.of(person) == 12);
-    assert!(rt; copy.of(person) == 499);
+    hints.set(4_103, 12);
+    assert!(rt; hints.of(7) == 12);
+    assert!(rt; copy.of(7) == 499);
     Ok(())
 }

@@ -1,5 +1,6 @@
 pub mod PersonLemmas
 pub mod PlaceAmongLemmas
+mod ValueLemmas
 mod AmongLemmas
 mod AgreeLemmas
 pub mod AnswerLemmas

@@ -1,17 +1,27 @@
 ghost use Rattle.std.specs.Prelude.{◌≡◌, ◌≤◌, ◌<◌, ◌+◌, ◌++◌, ◌∷◌, [], ℕ, List, if◌then◌else◌, None, Some, IfOk, IfSome, is_some, length};
 ghost use Rattle.std.specs.List.{slice_get};
 ghost use Rattle.std.specs.Str.{bytes_eq};
-ghost use Rattle.std.specs.Option.{option_copied};
+ghost use Rattle.std.specs.Option.{option_copied, option_map};
 ghost use Rattle.desk_register.specs.Among.{board_place};
 ghost use Rattle.desk_register.specs.Boards.{board_under, board_codes};
 ghost use Rattle.desk_model.specs.declared.limits.TheConstants.{BOARD_LIMIT};
 
 use crate::add_last::add_last;
 use crate::boards::Boards;
-use desk_base::{Code, NoMemory};
+use crate::find_in::find_in;
+use crate::placed::Placed;
+use desk_base::{Code, NoMemory, PlaceHints};
 use desk_model::{BOARD_LIMIT, BoardSetup};
 use indexmap::IndexMap;
 use std::alloc::Global;
+
+// The number by which a code's hint is found.
+fn hint_number(code: &Code) -> u32 {
+    let text = code.text().iter();
+    text.fold(0_u32, |number, byte| {
+        number.wrapping_mul(31).wrapping_add(u32::from(*byte))
+    })
+}
 
 impl Boards {
     /// No boards, with memory for 64; `NoMemory` where there is none for them.
@@ -20,14 +30,24 @@ impl Boards {
         ensures keys { IfOk result (λ r. board_codes r ≡ []) }
     {
         let kept = IndexMap::with_capacity(alloc, BOARD_LIMIT)?;
-        Ok(Boards { kept })
+        let hints = PlaceHints::new(alloc)?;
+        Ok(Boards { kept, hints })
+    }
+
+    // What the board was set up as, with its place among all; `None` where the code is no board.
+    fn find(&self, board: &Code) -> Option<Placed<'_, BoardSetup>>
+        ensures place { option_map (λ x. x.place) result ≡ board_place (board_codes self.now) board.now }
+        ensures setup { option_map (λ x. x.value.now) result ≡ board_under self.now board.now }
+        ensures range { IfSome result (λ x. x.place < BOARD_LIMIT) }
+    {
+        find_in(&self.kept, board, self.hints.of(hint_number(board)))
     }
 
     /// What the board was set up as; `None` where the code is no board.
     pub fn get(&self, board: &Code) -> Option<&BoardSetup>
         ensures { option_copied result ≡ board_under self.now board.now }
     {
-        self.kept.get(board)
+        Some(self.find(board)?.value)
     }
 
     /// The place of the board among all, below 64; `None` where the code is no board.
@@ -36,7 +56,7 @@ impl Boards {
         ensures range { IfSome result (λ i. i < BOARD_LIMIT) }
         ensures found { is_some result ≡ is_some (board_under self.now board.now) }
     {
-        self.kept.get_index_of(board)
+        Some(self.find(board)?.place)
     }
 
     /// The code of the board at this place among all; `None` where there are fewer.
@@ -62,6 +82,7 @@ impl Boards {
         ensures under { (b : List ℕ) → board_under self.new b ≡ (if bytes_eq board b then Some setup else board_under self.old b) }
         ensures keys { board_codes self.new ≡ board_codes self.old ++ board ∷ [] }
     {
+        self.hints.set(hint_number(&board), self.kept.len());
         add_last(&mut self.kept, board, setup);
     }
 }

@@ -2,7 +2,7 @@ ghost use Rattle.std.specs.Prelude.{◌≤◌, ◌+◌};
 ghost use Rattle.indexmap.specs.IndexMap.{spare, index_map_len};
 ghost use Rattle.desk_model.specs.declared.limits.TheConstants.{BOARD_LIMIT};
 
-use desk_base::Code;
+use desk_base::{Code, PlaceHints};
 use desk_model::BoardSetup;
 use indexmap::IndexMap;
 
@@ -10,6 +10,7 @@ use indexmap::IndexMap;
 #[derive(Drop)]
 pub struct Boards {
     pub(crate) kept: IndexMap<Code, BoardSetup>,
+    pub(crate) hints: PlaceHints,
     ghost room: { BOARD_LIMIT ≤ index_map_len kept + spare kept },
     ghost few: { index_map_len kept ≤ BOARD_LIMIT },
 }

@@ -48,8 +48,11 @@ impl Roster {
         let Some(person) = subject(cmd) else {
             return;
         };
-        if let Some(kept) = self.kept.get_mut(&person) {
+        if let Some(found) = self.find(person) {
+            let place = found.place;
+            let mut kept = *found.kept;
             kept.change(cmd);
+            self.put(person, place, kept);
         }
     }
 
@@ -61,8 +64,11 @@ impl Roster {
         let Some(person) = person else {
             return;
         };
-        if let Some(kept) = self.kept.get_mut(&person) {
+        if let Some(found) = self.find(person) {
+            let place = found.place;
+            let mut kept = *found.kept;
             kept.assigned = None;
+            self.put(person, place, kept);
         }
     }
 
@@ -74,8 +80,11 @@ impl Roster {
         let Some(person) = person else {
             return;
         };
-        if let Some(kept) = self.kept.get_mut(&person) {
+        if let Some(found) = self.find(person) {
+            let place = found.place;
+            let mut kept = *found.kept;
             kept.on_offer = on_offer;
+            self.put(person, place, kept);
         }
     }
 

@@ -6,9 +6,10 @@ ghost use Rattle.desk_model.specs.declared.limits.TheConstants.{PERSON_LIMIT};
 
 use crate::add_last::add_last;
 use crate::enrolled::Enrolled;
+use crate::find_in::find_in;
 use crate::kept_person::KeptPerson;
 use crate::roster::Roster;
-use desk_base::{NoMemory, PersonHints, PersonNo};
+use desk_base::{NoMemory, PersonNo, PlaceHints};
 use desk_model::PERSON_LIMIT;
 use indexmap::IndexMap;
 use std::alloc::Global;
@@ -20,7 +21,7 @@ impl Roster {
         ensures keys { IfOk result (λ r. person_numbers r ≡ []) }
     {
         let kept = IndexMap::with_capacity(alloc, PERSON_LIMIT)?;
-        let hints = PersonHints::new(alloc)?;
+        let hints = PlaceHints::new(alloc)?;
         Ok(Roster { kept, hints })
     }
 
@@ -28,7 +29,7 @@ impl Roster {
     pub fn get(&self, person: PersonNo) -> Option<&KeptPerson>
         ensures { option_copied result ≡ person_under self.now person }
     {
-        self.kept.get(&person)
+        Some(self.find(person)?.kept)
     }
 
     /// The place of this person among all, below 1,000; `None` where nobody has the number.
@@ -37,18 +38,7 @@ impl Roster {
         ensures range { IfSome result (λ i. i < PERSON_LIMIT) }
         ensures found { is_some result ≡ is_some (person_under self.now person) }
     {
-        self.kept.get_index_of(&person)
-    }
-
-    // What is kept of this person, if theirs is the place.
-    fn look(&self, place: usize, person: PersonNo) -> Option<&KeptPerson>
-        ensures kept { IfSome result (λ x. person_under self.now person ≡ Some x.now) }
-        ensures place { is_some result ≡ true → place_among (person_numbers self.now) person ≡ Some place }
-    {
-        // Nobody is kept twice.
-        self.kept.len();
-        let (number, kept) = self.kept.get_index(place)?;
-        if *number == person { Some(kept) } else { None }
+        Some(self.find(person)?.place)
     }
 
     /// The place of this person among all, below 1,000, and what is kept of them; `None` where nobody has the number.
@@ -57,12 +47,12 @@ impl Roster {
         ensures kept { option_map (λ x. x.kept.now) result ≡ person_under self.now person }
         ensures range { IfSome result (λ x. x.place < PERSON_LIMIT) }
     {
-        let hint = self.hints.of(person);
-        if let Some(kept) = self.look(hint, person) {
-            return Some(Enrolled { place: hint, kept });
-        }
-        let (place, _, kept) = self.kept.get_full(&person)?;
-        Some(Enrolled { place, kept })
+        let hint = self.hints.of(person.number());
+        let found = find_in(&self.kept, &person, hint)?;
+        Some(Enrolled {
+            place: found.place,
+            kept: found.value,
+        })
     }
 
     /// How many are enrolled.
@@ -72,13 +62,24 @@ impl Roster {
         self.kept.len()
     }
 
+    /// Puts what is kept of this person at the place that they have among all.
+    pub(crate) fn put(&mut self, person: PersonNo, place: usize, kept: KeptPerson)
+        requires { place_among (person_numbers self.old) person ≡ Some place }
+        ensures under { (q : ℕ) → person_under self.new q ≡ (if nat_eq person q then Some kept else person_under self.old q) }
+        ensures keys { person_numbers self.new ≡ person_numbers self.old }
+    {
+        if let Some(here) = self.kept.get_index_mut(place) {
+            *here = kept;
+        }
+    }
+
     pub(crate) fn add(&mut self, person: PersonNo, kept: KeptPerson)
         requires new { person_under self.old person ≡ None }
         requires few { length (person_numbers self.old) < PERSON_LIMIT }
         ensures get { (q : ℕ) → person_under self.new q ≡ (if nat_eq person q then Some kept else person_under self.old q) }
         ensures keys { person_numbers self.new ≡ person_numbers self.old ++ person ∷ [] }
     {
-        self.hints.set(person, self.kept.len());
+        self.hints.set(person.number(), self.kept.len());
         add_last(&mut self.kept, person, kept);
     }
 }

@@ -54,7 +54,11 @@ impl Vacancies {
         let Some(vac) = target(cmd, had) else {
             return;
         };
-        if let Some(kept) = self.kept.get_mut(&vac) {
+        let Some(found) = self.find(vac) else {
+            return;
+        };
+        let at = found.place;
+        if let Some(kept) = self.kept.get_index_mut(at) {
             kept.change(cmd, place);
         }
     }
@@ -79,7 +83,11 @@ impl Vacancies {
             ≡ (if nat_eq vac v then option_map (on_offer_to person) (get nat_eq self.old.kept v) else get nat_eq self.old.kept v) }
         ensures keys { keys self.new.kept ≡ keys self.old.kept }
     {
-        if let Some(kept) = self.kept.get_mut(&vac) {
+        let Some(found) = self.find(vac) else {
+            return;
+        };
+        let at = found.place;
+        if let Some(kept) = self.kept.get_index_mut(at) {
             kept.state = VacState::OnOffer(person);
         }
     }

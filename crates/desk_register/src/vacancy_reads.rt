@@ -1,12 +1,15 @@
 ghost use Rattle.std.specs.Prelude.{◌≡◌, ◌≤◌, ◌<◌, ◌+◌, ◌++◌, ◌∷◌, [], ℕ, nat_eq, if◌then◌else◌, None, Some, IfOk, is_some, length};
-ghost use Rattle.std.specs.Option.{option_copied};
+ghost use Rattle.std.specs.Option.{option_copied, option_map};
+ghost use Rattle.desk_register.specs.Among.{place_among};
 ghost use Rattle.desk_register.specs.Vacancies.{vacancy_under, vacancy_numbers};
 ghost use Rattle.desk_model.specs.declared.limits.TheConstants.{VACANCY_LIMIT};
 
 use crate::add_last::add_last;
+use crate::find_in::find_in;
 use crate::kept_vacancy::KeptVacancy;
+use crate::placed::Placed;
 use crate::vacancies::Vacancies;
-use desk_base::{NoMemory, VacNo};
+use desk_base::{NoMemory, PlaceHints, VacNo};
 use desk_model::VACANCY_LIMIT;
 use indexmap::IndexMap;
 use std::alloc::Global;
@@ -18,14 +21,23 @@ impl Vacancies {
         ensures keys { IfOk result (λ r. vacancy_numbers r ≡ []) }
     {
         let kept = IndexMap::with_capacity(alloc, VACANCY_LIMIT)?;
-        Ok(Vacancies { kept })
+        let hints = PlaceHints::new(alloc)?;
+        Ok(Vacancies { kept, hints })
+    }
+
+    // What is kept of this vacancy, with its place among all; `None` where it was never made.
+    pub(crate) fn find(&self, vac: VacNo) -> Option<Placed<'_, KeptVacancy>>
+        ensures place { option_map (λ x. x.place) result ≡ place_among (vacancy_numbers self.now) vac }
+        ensures kept { option_map (λ x. x.value.now) result ≡ vacancy_under self.now vac }
+    {
+        find_in(&self.kept, &vac, self.hints.of(vac.number()))
     }
 
     /// What is kept of this vacancy; `None` where it was never made.
     pub fn get(&self, vac: VacNo) -> Option<&KeptVacancy>
         ensures { option_copied result ≡ vacancy_under self.now vac }
     {
-        self.kept.get(&vac)
+        Some(self.find(vac)?.value)
     }
 
     /// How many were made.
@@ -41,6 +53,7 @@ impl Vacancies {
         ensures under { (v : ℕ) → vacancy_under self.new v ≡ (if nat_eq vac v then Some kept else vacancy_under self.old v) }
         ensures keys { vacancy_numbers self.new ≡ vacancy_numbers self.old ++ vac ∷ [] }
     {
+        self.hints.set(vac.number(), self.kept.len());
         add_last(&mut self.kept, vac, kept);
     }
 }

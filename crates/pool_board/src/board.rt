@@ -6,7 +6,7 @@ ghost use Rattle.pool_board.specs.Board.{board_of, IsSameSort};
 
 use crate::MembersFull;
 use crate::slots::{find, make_room};
-use desk_base::{Code, Minute, NoMemory, PersonHints, PersonNo};
+use desk_base::{Code, Minute, NoMemory, PersonNo, PlaceHints};
 use slot_tree::{SlotTree, Steps};
 use std::alloc::Global;
 use std::marker::Model;
@@ -23,7 +23,7 @@ pub struct Board {
     extra: bool,
     listed: u16,
     tree: SlotTree,
-    hints: PersonHints,
+    hints: PlaceHints,
 }
 
 impl Model for Board {
@@ -47,7 +47,7 @@ impl Board {
             extra,
             listed: 0,
             tree: SlotTree::new(alloc, 10)?,
-            hints: PersonHints::new(alloc)?,
+            hints: PlaceHints::new(alloc)?,
         })
     }
 
@@ -76,7 +76,7 @@ impl Board {
         }
         make_room(&mut self.tree, &mut self.hints);
         let slot = self.tree.append(person, ready);
-        self.hints.set(person, slot as usize);
+        self.hints.set(person.number(), slot as usize);
         self.listed += 1;
         Ok(())
     }
@@ -107,7 +107,7 @@ impl Board {
             self.tree.clear(at.slot);
             make_room(&mut self.tree, &mut self.hints);
             let slot = self.tree.append(person, at.ready);
-            self.hints.set(person, slot as usize);
+            self.hints.set(person.number(), slot as usize);
         }
     }
 

@@ -1,0 +1,28 @@
+ghost use Rattle.std.specs.Prelude.{◌≡◌, ◌<◌, IfSome};
+ghost use Rattle.std.specs.Option.{option_map};
+ghost use Rattle.indexmap.specs.IndexMap.{get, index_of, index_map_len};
+
+use crate::placed::Placed;
+use indexmap::IndexMap;
+use std::hash::Hash;
+
+/// What is kept under a key, with its place among all; `None` exactly where nothing is. It is looked for at the hint first.
+pub(crate) fn find_in<'a, K: Eq + Hash, V>(
+    map: &'a IndexMap<K, V>,
+    key: &K,
+    hint: usize,
+) -> Option<Placed<'a, V>>
+    ensures place { option_map (λ x. x.place) result ≡ index_of K.eq map.now key.now }
+    ensures value { option_map (λ x. x.value.now) result ≡ get K.eq map.now key.now }
+    ensures within { IfSome result (λ x. x.place < index_map_len map.now) }
+{
+    // no key is there twice
+    map.len();
+    if let Some((there, value)) = map.get_index(hint) {
+        if there == key {
+            return Some(Placed { place: hint, value });
+        }
+    }
+    let (place, _, value) = map.get_full(key)?;
+    Some(Placed { place, value })
+}
