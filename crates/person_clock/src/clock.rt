@@ -133,25 +133,17 @@ impl PersonClock {
         let stage = self.tour.stage();
         let last = self.tour.last_minute();
         let ended = self.tour.ended_by(&event);
-        let mut used = self.used;
-        used.add(&self.window, worked_between(&stage, &last, &event));
-        used.add(&self.window, own_minutes(&event));
-        let mut capped = self.capped;
+        self.used
+            .add(&self.window, worked_between(&stage, &last, &event));
+        self.used.add(&self.window, own_minutes(&event));
         let sum = self.tour.sum();
-        capped.add(&self.window, capped_between(&stage, &last, &event, sum));
-        let mut tour = self.tour;
-        tour.apply(event);
-        *self = PersonClock {
-            window: self.window,
-            home: self.home,
-            tour,
-            rest: self
-                .rest
-                .after(&stage, &last, &event, &ended, sum_of(&tour)),
-            days: self.days.after(self.home, &stage, &event, &ended),
-            used,
-            capped,
-        };
+        self.capped
+            .add(&self.window, capped_between(&stage, &last, &event, sum));
+        self.tour.apply(event);
+        self.rest = self
+            .rest
+            .after(&stage, &last, &event, &ended, sum_of(&self.tour));
+        self.days = self.days.after(self.home, &stage, &event, &ended);
     }
 
     /// The first section of 49 USC 21103 that keeps the person from a job, by a call at a moment: the job has so many minutes on

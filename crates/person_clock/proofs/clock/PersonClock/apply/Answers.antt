@@ -52,8 +52,8 @@ returns-clause-stands c es stands =
     record {
       totals = totals;
       lie = All-append (LiesIn window) es (e ∷ []) old.lie (All-cons (LiesIn window) e [] lies (All-nil (LiesIn window)));
-      rested = c.after.ensures es lawful next stage came ends sum old.rested;
-      stayed = c.after-2.ensures es lawful next stage ends old.stayed;
+      rested = c.after-self-inside.ensures es lawful next stage came ends sum old.rested;
+      stayed = c.after-self-inside-2.ensures es lawful next stage ends old.stayed;
       worked = c.add-2.ensures mid (counted now) one record {
         is = λ x n. omega (arith, asked_minutes-push asked.Worked es e lawful next x n, own x n);
         most = asked_minutes-most asked.Worked now;
