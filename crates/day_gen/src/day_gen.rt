@@ -1,5 +1,5 @@
 ghost use Rattle.std.specs.Prelude.{◌≡◌, ◌≤◌, ◌<◌, IfSome, IfNone};
-ghost use Rattle.std.specs.Option.{option_copied};
+ghost use Rattle.std.specs.Option.{option_copied, option_or};
 ghost use Rattle.day_gen.specs.Due.{last_entry};
 ghost use Rattle.day_gen.specs.Day.{day_opening, generated_day, day_statement};
 ghost use Rattle.day_gen.specs.Due.{plans};
@@ -77,19 +77,18 @@ impl DayGen {
         }
         let cmd = self
             .course
-            .turn(self.edition, self.given, self.job, Due::by(last));
-        self.job = planned(&cmd).or(self.job);
+            .turn(self.edition, self.given, &self.job, Due::by(last));
+        keep_planned(&mut self.job, &cmd);
         self.given += 1;
         Some(Stated::new(self.course.minute, cmd).unwrap())
     }
 }
 
-/// The job of a vacancy that a command makes.
-pub(crate) fn planned(cmd: &Cmd) -> Option<Job>
-    ensures { result ≡ plans cmd.now }
+/// Keeps the job of the vacancy that a command makes, if it makes one.
+pub(crate) fn keep_planned(job: &mut Option<Job>, cmd: &Cmd)
+    ensures { job.new ≡ option_or (plans cmd.now) job.old }
 {
-    match cmd {
-        Cmd::Vacancy(job) => Some(*job),
-        _ => None,
+    if let Cmd::Vacancy(made) = cmd {
+        *job = Some(*made);
     }
 }

@@ -18,10 +18,10 @@ use qualifications::Craft;
 impl Course {
     /// The next command, where so many were given: one that sets the desk up, or what the rules give by what there is to do, and
     /// for which job.
-    pub(crate) fn turn(&mut self, edition: Edition, given: u32, job: Option<Job>, due: Due) -> Cmd
+    pub(crate) fn turn(&mut self, edition: Edition, given: u32, job: &Option<Job>, due: Due) -> Cmd
         requires { HasRoom self.old }
-        ensures course { self.new ≡ (turn_at edition self.old (slice_get set_up given) job due).course }
-        ensures cmd { result ≡ (turn_at edition self.old (slice_get set_up given) job due).cmd }
+        ensures course { self.new ≡ (turn_at edition self.old (slice_get set_up given) job.now due).course }
+        ensures cmd { result ≡ (turn_at edition self.old (slice_get set_up given) job.now due).cmd }
     {
         if given < SET_UP {
             set_up_command(given)
@@ -31,10 +31,10 @@ impl Course {
     }
 
     // What the rules give.
-    fn by_rule(&mut self, edition: Edition, job: Option<Job>, due: Due) -> Cmd
+    fn by_rule(&mut self, edition: Edition, job: &Option<Job>, due: Due) -> Cmd
         requires { HasRoom self.old }
-        ensures course { self.new ≡ (turn_by edition self.old job due).course }
-        ensures cmd { result ≡ (turn_by edition self.old job due).cmd }
+        ensures course { self.new ≡ (turn_by edition self.old job.now due).course }
+        ensures cmd { result ≡ (turn_by edition self.old job.now due).cmd }
     {
         match due {
             Due::Answer { vac, person } => self.answer(vac, person),
@@ -58,9 +58,9 @@ impl Course {
     }
 
     // Who accepted goes on duty.
-    fn report(&mut self, job: Option<Job>, person: PersonNo) -> Cmd
-        ensures course { self.new ≡ (report_turn self.old job person).course }
-        ensures cmd { result ≡ (report_turn self.old job person).cmd }
+    fn report(&mut self, job: &Option<Job>, person: PersonNo) -> Cmd
+        ensures course { self.new ≡ (report_turn self.old job.now person).course }
+        ensures cmd { result ≡ (report_turn self.old job.now person).cmd }
     {
         self.minute = later(self.minute, job);
         Cmd::Happened {
@@ -70,10 +70,10 @@ impl Course {
     }
 
     // Who went on duty is released.
-    fn release(&mut self, job: Option<Job>, person: PersonNo) -> Cmd
+    fn release(&mut self, job: &Option<Job>, person: PersonNo) -> Cmd
         requires { HasRoom self.old }
-        ensures course { self.new ≡ (release_turn self.old job person).course }
-        ensures cmd { result ≡ (release_turn self.old job person).cmd }
+        ensures course { self.new ≡ (release_turn self.old job.now person).course }
+        ensures cmd { result ≡ (release_turn self.old job.now person).cmd }
     {
         self.minute = self.minute.after(u64::from(duty_of(job)));
         Cmd::Happened {
@@ -144,8 +144,8 @@ impl Course {
 }
 
 // The later of the minute and the job's report.
-fn later(minute: Minute, job: Option<Job>) -> Minute
-    ensures { result ≡ max minute (report_of job) }
+fn later(minute: Minute, job: &Option<Job>) -> Minute
+    ensures { result ≡ max minute (report_of job.now) }
 {
     match job {
         Some(job) if job.report() > minute => job.report(),
@@ -154,8 +154,8 @@ fn later(minute: Minute, job: Option<Job>) -> Minute
 }
 
 // The job's planned minutes on duty.
-fn duty_of(job: Option<Job>) -> u16
-    ensures value { result ≡ duty_of job }
+fn duty_of(job: &Option<Job>) -> u16
+    ensures value { result ≡ duty_of job.now }
     ensures most { result ≤ 9_999 }
 {
     match job {

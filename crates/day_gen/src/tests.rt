@@ -3,7 +3,7 @@ ghost use Rattle.std.specs.Bool.{Decides};
 ghost use Rattle.day_gen.specs.Room.{HasRoom};
 
 use crate::course::Course;
-use crate::day_gen::planned;
+use crate::day_gen::keep_planned;
 use crate::due::Due;
 use crate::{DayGen, a_generated_day_grows};
 use desk_base::{Code, Minute, Month, PersonNo, VacNo, YEARS_BEGIN, YEARS_END};
@@ -47,8 +47,8 @@ impl Told {
             return None;
         }
         let due = Due::by(self.last.as_ref());
-        let cmd = self.course.turn(self.edition, self.given, self.job, due);
-        self.job = planned(&cmd).or(self.job);
+        let cmd = self.course.turn(self.edition, self.given, &self.job, due);
+        keep_planned(&mut self.job, &cmd);
         self.given = self.given.saturating_add(1);
         let stated = Stated::new(self.course.minute, cmd)?;
         self.last = Some(Entry::new(0, stated, stated.minute(), reply));

@@ -26,9 +26,9 @@ pub invariant_of-self : goal.invariant_of-self
 invariant_of-self c =
     let g = c.self.inside in
     let turn = turn-is g c.by.result c.self.invariant (due-is g c.args.self.now (option_copied c.args.last) c.by.result c.self.view_is c.by.ensures c.requires) in
-    kept-on g c.turn-cmd.new.self c.or-self-inside.result c.self.invariant (omega (arith, c.self.invariant.given, c.if-self.false))
+    kept-on g c.turn-cmd.new.self c.keep_planned.new.job c.self.invariant (omega (arith, c.self.invariant.given, c.if-self.false))
     (c.turn-cmd.ensures.course ∙ ap (λ t. t.course) turn)
-    (c.or-self-inside.ensures ∙ ap (λ o. option_or o g.job) (c.planned.ensures ∙ ap plans (c.turn-cmd.ensures.cmd ∙ ap (λ t. t.cmd) turn)))
+    (c.keep_planned.ensures ∙ ap (λ cmd. option_or (plans cmd) g.job) (c.turn-cmd.ensures.cmd ∙ ap (λ t. t.cmd) turn))
 
 pub returns-clause-some : goal.returns-clause-some
 returns-clause-some c =
