@@ -25,6 +25,7 @@ use desk_base::Minute;
 use desk_model::{Cmd, Entry, LAST_CALLER, Reply, Stated};
 
 // The answer to a command at a moment.
+#[inline(never)]
 fn answer_to<R: Reads>(reads: &R, work: &mut R::Work, moment: Minute, cmd: &Cmd) -> Reply
     requires { R.suits reads.now work.old }
     ensures answer { (h : History) → R.tells reads.now h → last_moment h ≤ moment
@@ -86,6 +87,5 @@ pub fn next_entry<R: Reads>(reads: &R, work: &mut R::Work, caller: u8, stated: S
         → R.steps work.new ≤ R.steps work.old + most_steps (R.most reads.now h) h (moment h stated.minute) stated.cmd }
 {
     let taken = moment(reads, stated.minute());
-    let reply = answer(reads, work, taken, &stated);
-    Entry::new(caller, stated, taken, reply)
+    Entry::new(caller, stated, taken, answer(reads, work, taken, &stated))
 }
