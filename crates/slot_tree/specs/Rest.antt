@@ -11,7 +11,7 @@ all_slots height slots = slots ++ replicate (2 ^ height - length slots) None
 abbrev pub all_nodes : ℕ → List ℕ → List ℕ
 all_nodes height nodes = nodes ++ replicate (2 * 2 ^ height - length nodes) EMPTY
 
--- so many slots and nodes may be kept of a tree of so many levels, and there is memory for so many
+-- no more slots and nodes are kept than a tree of so many levels has, and there is memory for all
 pub record HasRoom (height slots for_slots nodes for_nodes : ℕ) : Type 0 where
   pub slots_fit : slots ≤ 2 ^ height
   pub slots_room : 2 ^ height ≤ for_slots

@@ -18,7 +18,7 @@ use std::sync::ledger::Ledger;
 /// slots count from 0. A contract sees the list of the slots.
 ///
 /// Slots are filled behind the last filled one, so the filled ones stand in the order in which they were filled. Memory for all
-/// is taken when they are made, and is written to when the first is filled.
+/// is taken when they are made, and is not written to before the first is filled, or they are compacted.
 #[derive(Drop)]
 pub struct SlotTree {
     height: u32,

@@ -1,8 +1,7 @@
-use Rattle.std.proofs.Common.{◌≡◌, ◌*◌, ◌/◌, ◌<◌, length, refl, subst, sym, ap, ◌∙◌, arith}
+use Rattle.std.proofs.Common.{◌*◌, ◌/◌, ◌<◌, length, refl, subst, sym, ap, ◌∙◌, arith}
 use Rattle.std.specs.List.{slice_range}
 use Rattle.slot_tree.specs.Slots.{slot_at}
 use Rattle.slot_tree.specs.Nodes.{Keeps, AreKeys, AreFloorsOf}
-use Rattle.slot_tree.specs.Rest.{all_slots}
 use Rattle.slot_tree.proofs.CountLemmas.{are-keys, are-least}
 use Rattle.slot_tree.proofs.RestLemmas.{slot_at-unfilled, kept-awake}
 use Rattle.slot_tree.proofs.slot_tree.SlotTree.keys.Goals as goal

@@ -1,5 +1,4 @@
-use Rattle.std.proofs.Common.{◌≡◌, ◌*◌, ◌^◌, ◌≤◌, [], subst, sym, arith}
-use Rattle.slot_tree.specs.Rest.{IsKept}
+use Rattle.std.proofs.Common.{arith}
 use Rattle.slot_tree.proofs.RestLemmas.{kept-none}
 use Rattle.slot_tree.proofs.slot_tree.SlotTree.new.Goals as goal
 

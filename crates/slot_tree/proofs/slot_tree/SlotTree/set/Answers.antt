@@ -1,4 +1,4 @@
-use Rattle.std.proofs.Common.{◌≡◌, ◌+◌, ◌<◌, true, Some, is_some, length, set, sym, ap, subst, ◌∙◌, arith}
+use Rattle.std.proofs.Common.{◌≡◌, true, Some, is_some, set, sym, ap, subst, ◌∙◌, arith}
 use Rattle.slot_tree.specs.declared.slot.Slot.{Slot}
 use Rattle.slot_tree.specs.Slots.{slot_at, filled_end}
 use Rattle.slot_tree.specs.Rest.{all_slots}
