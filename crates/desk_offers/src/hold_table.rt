@@ -1,4 +1,4 @@
-ghost use Rattle.std.specs.Prelude.{◌≡◌, ◌*◌, ◌<◌, ◌&&◌, ℕ, nat_eq, max, if◌then◌else◌, IfOk, length, slice_index};
+ghost use Rattle.std.specs.Prelude.{◌≡◌, ◌*◌, ◌<◌, ◌≤◌, ◌&&◌, ℕ, nat_eq, max, if◌then◌else◌, IfOk, length, slice_index};
 ghost use Rattle.desk_model.specs.declared.limits.TheConstants.{PERSON_LIMIT, BOARD_LIMIT};
 ghost use Rattle.desk_offers.specs.Holds.{end_at};
 
@@ -41,10 +41,13 @@ impl Holds {
         }
     }
 
-    /// Holds the person at this place until then by the board at this one, where they aren't held for longer.
+    /// Holds the person at this place until then by the board at this one, where they aren't held for longer. Of places that there are
+    /// not nothing is kept.
     pub(crate) fn hold(&mut self, person: usize, board: usize, until: Minute)
-        ensures { person < PERSON_LIMIT → board < BOARD_LIMIT → (i j : ℕ) → end_at self.new i j
+        ensures held { person < PERSON_LIMIT → board < BOARD_LIMIT → (i j : ℕ) → end_at self.new i j
             ≡ (if nat_eq person i && nat_eq board j then max (end_at self.old i j) until else end_at self.old i j) }
+        ensures no_person { PERSON_LIMIT ≤ person → self.new ≡ self.old }
+        ensures no_board { BOARD_LIMIT ≤ board → self.new ≡ self.old }
     {
         if person >= PERSON_LIMIT || board >= BOARD_LIMIT {
             return;

@@ -4,7 +4,7 @@ ghost use Rattle.desk_model.specs.declared.limits.TheConstants.{PERSON_LIMIT, BO
 use desk_base::Minute;
 
 // Until when each of 1,000 persons is held by each of 64 boards, by their places: the boards of one person after those of
-// another, up to the last who is held. There is memory for all.
+// another, up to the last place at which somebody is held. There is memory for all.
 #[derive(Drop)]
 pub(crate) struct Holds {
     pub(crate) ends: Vec<Minute>,

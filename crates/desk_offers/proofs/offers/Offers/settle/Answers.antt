@@ -54,7 +54,7 @@ returns c h legal next settled place kept =
           c.no_person_stands_twice.ensures.one_map c.in-Some.ensures.value c.in-Some.ensures.vacancies c.in-Some.ensures.persons kept.offers;
       holds = declined-held h e (end_at x.holds) (end_at c.hold.new.self) x.flight x.answer c.args.vac c.in-Some-decliner.field-0 c.in-Some-person.place c.from.result c.later-until.result c.in-Some.done
           comes legal (c.each_moment_lies_in_the_window.ensures h e legal next) rests settled told c.in-Some.ensures.value (sym c.in-Some-person.is ∙ place c.in-Some-decliner.field-0 told)
-          c.from.ensures (rw c.moment.ensures at c.later-until.ensures) c.hold.ensures kept.offers kept.few kept.holds;
+          c.from.ensures (rw c.moment.ensures at c.later-until.ensures) c.hold.ensures.held kept.offers kept.few kept.holds;
       answer = kept.answer;
       few = few-stay h e comes rests kept.few;
     }
