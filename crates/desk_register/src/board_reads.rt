@@ -17,8 +17,7 @@ use std::alloc::Global;
 
 // The number by which a code's hint is found.
 fn hint_number(code: &Code) -> u32 {
-    let text = code.text().iter();
-    text.fold(0_u32, |number, byte| {
+    code.text().iter().fold(0_u32, |number, byte| {
         number.wrapping_mul(31).wrapping_add(u32::from(*byte))
     })
 }

@@ -16,7 +16,7 @@ pub(crate) fn find_in<'a, K: Eq + Hash, V>(
     ensures value { option_map (λ x. x.value.now) result ≡ get K.eq map.now key.now }
     ensures within { IfSome result (λ x. x.place < index_map_len map.now) }
 {
-    // no key is there twice
+    // It is called for its clause, that no key is there twice.
     map.len();
     if let Some((there, value)) = map.get_index(hint) {
         if there == key {

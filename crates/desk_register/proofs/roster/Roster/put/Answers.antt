@@ -1,4 +1,3 @@
-use Rattle.std.proofs.Common.{refl}
 use Rattle.indexmap.proofs.CallerLemmas.{keys-with_value_at, index_map_len-with_value_at}
 use Rattle.desk_register.proofs.ValueLemmas.{get-with_value_at}
 use Rattle.desk_register.proofs.roster.Roster.put.Goals as goal
