@@ -24,7 +24,7 @@ use crate::vacancy_answer::vacancy_answer;
 use desk_base::Minute;
 use desk_model::{Cmd, Entry, LAST_CALLER, Reply, Stated};
 
-// The answer to a command at a moment.
+// The answer to a command at a moment. It stays a call: inlined, each reply is copied from place to place.
 #[inline(never)]
 fn answer_to<R: Reads>(reads: &R, work: &mut R::Work, moment: Minute, cmd: &Cmd) -> Reply
     requires { R.suits reads.now work.old }

@@ -165,7 +165,7 @@ fn codes_and_numbers(rt: HostRuntime) -> Result<(), Fail> {
     Ok(())
 }
 
-// Two persons whose numbers are 4,096 apart share a hint.
+// Two numbers that are 4,096 apart share a hint.
 #[test]
 fn a_hint_is_where_a_number_was_put_last(rt: HostRuntime) -> Result<(), Fail> {
     let mut hints = PlaceHints::new(rt.alloc())?;
