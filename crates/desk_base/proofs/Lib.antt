@@ -5,3 +5,4 @@ pub mod ReadLemmas
 pub mod WindowLemmas
 pub mod PartsLemmas
 pub mod DecimalLemmas
+pub mod CodeLemmas

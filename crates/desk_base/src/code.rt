@@ -1,7 +1,7 @@
 ghost use Rattle.std.specs.Prelude.{◌≡◌, ℕ, ◌≤◌, List, length};
 ghost use Rattle.std.specs.Option.{SomeIff};
 ghost use Rattle.std.specs.List.{list_all};
-ghost use Rattle.desk_base.specs.Code.{IsCode, is_code_byte, padded_code};
+ghost use Rattle.desk_base.specs.Code.{IsCode, is_code_byte, padded_code, code_word};
 
 use std::hash::{Hash, Hasher};
 use std::marker::Model;
@@ -40,7 +40,7 @@ impl PartialEq for Code {
     ghost laws = { partial_equiv_from_equiv nat_list_eq_equiv };
 
     fn eq(&self, other: &Code) -> bool {
-        self.bytes == other.bytes && self.len == other.len
+        self.word() == other.word()
     }
 }
 
@@ -84,6 +84,20 @@ impl Code {
         ensures range { IsCode self.now }
     {
         &self.bytes[..self.len as usize]
+    }
+
+    // The code as one number: that of its bytes, filled up with zeros, and its length.
+    fn word(&self) -> u64
+        ensures value { result ≡ code_word self.now }
+        ensures code { IsCode self.now }
+    {
+        let [a, b, c, d, e, f, g] = self.bytes;
+        u64::from_le_bytes([a, b, c, d, e, f, g, self.len])
+    }
+
+    /// A number by which hints of where this code stands are kept. Nothing rests on it: several codes may share one.
+    pub fn hint_number(&self) -> u32 {
+        (self.word().wrapping_mul(11_400_714_819_323_198_485) >> 40) as u32
     }
 }
 

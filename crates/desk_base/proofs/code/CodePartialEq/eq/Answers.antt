@@ -1,18 +1,22 @@
-use Rattle.std.proofs.Common.{◌≡◌, Bool, true, false, refl, sym, ap, ◌∙◌}
+use Rattle.std.proofs.Common.{◌≡◌, ℕ, List, Bool, true, false, nat_eq, refl, sym, ap, ◌∙◌, arith}
 use Rattle.std.specs.Str.{bytes_eq}
-use Rattle.std.proofs.lemmas.Bool.{false≢true}
+use Rattle.std.proofs.lemmas.Bool.Decides.{nat_tests}
 use Rattle.std.proofs.lemmas.Slice.Eq.{bytes_eq-Decides}
-use Rattle.desk_base.specs.CodeInside.{code_inside, code_inside-code_text}
+use Rattle.desk_base.specs.Code.{IsCode, code_word}
+use Rattle.desk_base.proofs.CodeLemmas.{code_word-injective}
 use Rattle.desk_base.proofs.code.CodePartialEq.eq.Goals as goal
 
--- what is kept of a text is one, so where it differs the texts do
-pub returns-else-eq : goal.returns-else-eq
-returns-else-eq c = go (bytes_eq c.args.self.now c.args.other.now) refl
+words-tell : (a b : List ℕ) (m n : ℕ) → IsCode a → IsCode b → m ≡ code_word a → n ≡ code_word b → nat_eq m n ≡ bytes_eq a b
+words-tell a b m n of_a of_b m_is n_is = go (nat_eq m n) (bytes_eq a b) refl refl
   where
-    go : (b : Bool) → bytes_eq c.args.self.now c.args.other.now ≡ b → c.eq.result ≡ b
-    go false is = c.if-eq.false
-    go true is =
-        let texts = (bytes_eq-Decides c.args.self.now c.args.other.now).0 is in
-        let same : c.self.inside.bytes ≡ c.other.inside.bytes =
-        ap (λ a. a.bytes) (sym (code_inside-code_text c.self.inside c.self.invariant) ∙ ap code_inside (c.self.view_is ∙ texts ∙ sym c.other.view_is) ∙ code_inside-code_text c.other.inside c.other.invariant) in
-        absurd (false≢true (sym c.if-eq.false ∙ c.eq.ensures ∙ (bytes_eq-Decides c.self.inside.bytes c.other.inside.bytes).1 same))
+    go : (numbers texts : Bool) → nat_eq m n ≡ numbers → bytes_eq a b ≡ texts → numbers ≡ texts
+    go true texts x y =
+        let same : m ≡ n = grind (arith, nat_tests, x) in
+        sym ((bytes_eq-Decides a b).1 (code_word-injective a b of_a of_b (sym m_is ∙ same ∙ n_is))) ∙ y
+    go false true x y =
+        let same : m ≡ n = m_is ∙ ap code_word ((bytes_eq-Decides a b).0 y) ∙ sym n_is in
+        grind (arith, nat_tests, x, same)
+    go false false x y = refl
+
+pub returns : goal.returns
+returns c = words-tell c.args.self.now c.args.other.now c.word.result c.word-2.result c.word.ensures.code c.word-2.ensures.code c.word.ensures.value c.word-2.ensures.value
