@@ -81,6 +81,20 @@ impl Month {
         Month::at(date_of(Day::of(minute).number()))
     }
 
+    /// The month in which a minute lies that isn't before the month `from`. It is told at once where that is the one.
+    pub fn of_from(minute: Minute, from: Month) -> Month
+        requires { first_minute from ≤ minute }
+        ensures value { result ≡ month_of minute }
+        ensures begun { first_minute result ≤ minute }
+        ensures not_over { minute < first_minute (result + 1) }
+    {
+        if minute.number() < from.first().number() + u64::from(from.minutes()) {
+            from
+        } else {
+            Month::of(minute)
+        }
+    }
+
     // The month in which a date lies, from the first minute's date to the last one's.
     pub(crate) fn at(date: Date) -> Month
         requires { IsInDays date }

@@ -1,5 +1,6 @@
 ghost use Rattle.std.specs.Prelude.{◌≡◌, ◌+◌, ◌-◌, ◌<◌, ◌≤◌, ◌^◌};
 ghost use Rattle.desk_base.specs.Minute.{month_of};
+ghost use Rattle.desk_base.specs.Month.{first_minute};
 ghost use Rattle.month_hours.specs.Plan.{end_of};
 ghost use Rattle.month_hours.specs.Shares.{shares_of};
 
@@ -22,14 +23,20 @@ pub struct PlanMonths {
     many: usize,
 }
 
-// The month behind that of the plan's last minute.
-fn end_month(plan: &Plan) -> u16
-    requires { end_of plan.now < 2 ^ 28 }
+// The month behind that of the plan's last minute; the first is that of its report.
+fn end_month(plan: &Plan, first: Month) -> u16
+    requires range { end_of plan.now < 2 ^ 28 }
+    requires first { first_minute first ≤ plan.now.report }
     ensures value { result ≡ month_of (end_of plan.now - 1) + 1 }
     ensures range { result ≤ 6125 }
 {
     let last = Minute::new(plan.end().saturating_sub(1)).unwrap_or(plan.report);
-    Month::of(last).number() + 1
+    let month = if last < plan.report {
+        Month::of(last)
+    } else {
+        Month::of_from(last, first)
+    };
+    month.number() + 1
 }
 
 impl Model for PlanMonths {
@@ -58,7 +65,7 @@ impl PlanMonths {
         };
         let mut shares = [none; MOST_MONTHS];
         let mut many = 0;
-        for number in first.number()..end_month(plan) {
+        for number in first.number()..end_month(plan, first) {
             let month = Month::new(number).unwrap_or(first);
             shares[many] = MonthShare::of(plan, month);
             many += 1;

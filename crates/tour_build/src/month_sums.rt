@@ -43,8 +43,9 @@ impl MonthSums {
             return;
         }
         let first = window.first().number();
-        let low = Month::of(interval.from).number().saturating_sub(first);
-        let high = (Month::of(interval.to).number() + 1).saturating_sub(first);
+        let begin = Month::of(interval.from);
+        let low = begin.number().saturating_sub(first);
+        let high = (Month::of_from(interval.to, begin).number() + 1).saturating_sub(first);
         for place in low..high.min(u16::from(window.months())) {
             let month = window.month(place as u8);
             let minutes = shared(

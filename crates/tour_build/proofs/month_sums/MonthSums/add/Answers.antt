@@ -60,12 +60,12 @@ returns c was now sums more k within =
     let added = more.is (first_minute month) (minutes_of month) in
     elim (cases_lt k low) [
       | inl before ↦
-          let none = shared-before c.args.interval.from c.args.interval.to c.of.result month c.of.ensures.begun (omega (arith, before, c.saturating_sub-low.ensures, c.number.ensures.value, c.number-first.ensures.value, c.first.ensures)) in
+          let none = shared-before c.args.interval.from c.args.interval.to c.of-begin.result month c.of-begin.ensures.begun (omega (arith, before, c.saturating_sub-low.ensures, c.number.ensures.value, c.number-first.ensures.value, c.first.ensures)) in
           kept ∙ passed-before low end k _ _ before ∙ omega (arith, added, none)
       | inr from ↦ elim (cases_lt k end) [
         | inl to ↦ kept ∙ passed-in low end k _ _ from to
         | inr behind ↦
-            let none = shared-behind c.args.interval.from c.args.interval.to c.of-2.result month c.of-2.ensures.not_over
+            let none = shared-behind c.args.interval.from c.args.interval.to c.of_from.result month c.of_from.ensures.not_over
             (omega (arith, behind, within, c.loop-place-test.false, c.min-place-end.ensures, c.from.ensures, c.months.ensures.value, c.saturating_sub-high.ensures, c.number-2.ensures.value, c.number-first.ensures.value, c.first.ensures)) in
             kept ∙ passed-behind low end k _ _ behind ∙ omega (arith, added, none)
       ]
