@@ -1,33 +1,47 @@
-ghost use Rattle.std.specs.Prelude.{◌≤◌, ◌<◌, vec_capacity};
-ghost use Rattle.desk_base.specs.declared.place_hints.TheConstants.{HINTS};
+ghost use Rattle.std.specs.Prelude.{◌≤◌, ◌<◌, ◌^◌, vec_capacity};
 
 use crate::NoMemory;
 use std::alloc::Global;
 
-// How many there are: numbers that are as many apart share one.
-const HINTS: usize = 4_096;
+// As many hints are begun at once.
+const PAGE: usize = 4_096;
 
-/// At which place of some list, below 65,536, the one with a number may be found. Nothing rests on them: whoever asks looks there, and
-/// elsewhere where another is there. Their memory is taken when they are made, and is written to when the first is set.
+/// At which place of some list, below 65,536, the one with a number may be found; of numbers that are 2^k apart all share one hint.
+/// Nothing rests on them: whoever asks looks there, and elsewhere where another is there. Their memory is taken when they are made,
+/// and is written to, 4,096 at a time, up to the last that is set.
 #[derive(Debug, Drop)]
 pub struct PlaceHints {
+    bits: u32,
     places: Vec<u16>,
-    ghost room: { HINTS ≤ vec_capacity places },
+    ghost some: { 12 ≤ bits },
+    ghost few: { bits ≤ 18 },
+    ghost room: { 2 ^ bits ≤ vec_capacity places },
 }
 
 impl PlaceHints {
-    /// None yet; `NoMemory` where there is none for them.
-    pub fn new(alloc: Global) -> Result<PlaceHints, NoMemory> {
+    /// 2^k hints, k 12 to 18, none of which is set; `NoMemory` where there is none for them.
+    pub fn new(alloc: Global, k: u32) -> Result<PlaceHints, NoMemory>
+        requires low { 12 ≤ k }
+        requires high { k ≤ 18 }
+    {
         Ok(PlaceHints {
-            places: Vec::with_capacity(alloc, HINTS)?,
+            bits: k,
+            places: Vec::with_capacity(alloc, 1 << k)?,
         })
+    }
+
+    // At which place the hint of a number stands.
+    fn place_of(&self, number: u32) -> usize
+        ensures { result < 2 ^ 32 }
+    {
+        (number & ((1 << self.bits) - 1)) as usize
     }
 
     /// The place to look at first.
     pub fn of(&self, number: u32) -> usize
         ensures { result < 65_536 }
     {
-        match self.places.get(number as usize % HINTS) {
+        match self.places.get(self.place_of(number)) {
             Some(place) => usize::from(*place),
             None => 0,
         }
@@ -35,18 +49,23 @@ impl PlaceHints {
 
     /// The one with the number was put there.
     pub fn set(&mut self, number: u32, place: usize) {
-        if self.places.is_empty() {
-            let _filled = self.places.resize(HINTS, 0);
+        let hint = self.place_of(number);
+        if self.places.len() <= hint {
+            let many = (hint / PAGE + 1) * PAGE;
+            let _filled = self.places.resize(many, 0);
         }
-        if let Some(hint) = self.places.get_mut(number as usize % HINTS) {
+        if let Some(hint) = self.places.get_mut(hint) {
             *hint = u16::try_from(place).unwrap_or(0);
         }
     }
 
     /// The same ones; `NoMemory` where there is none for them.
     pub fn copy(&self, alloc: Global) -> Result<PlaceHints, NoMemory> {
-        let mut places = Vec::with_capacity(alloc, HINTS)?;
+        let mut places = Vec::with_capacity(alloc, 1 << self.bits)?;
         places.extend_from_slice(&self.places)?;
-        Ok(PlaceHints { places })
+        Ok(PlaceHints {
+            bits: self.bits,
+            places,
+        })
     }
 }

@@ -168,7 +168,7 @@ fn codes_and_numbers(rt: HostRuntime) -> Result<(), Fail> {
 // Two numbers that are 4,096 apart share a hint.
 #[test]
 fn a_hint_is_where_a_number_was_put_last(rt: HostRuntime) -> Result<(), Fail> {
-    let mut hints = PlaceHints::new(rt.alloc())?;
+    let mut hints = PlaceHints::new(rt.alloc(), 12)?;
     assert!(rt; hints.of(7) == 0);
     hints.set(7, 499);
     assert!(rt; hints.of(7) == 499);

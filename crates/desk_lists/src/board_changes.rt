@@ -9,7 +9,7 @@ ghost use Rattle.desk_lists.specs.declared.named.Named.{Named as NamedValue};
 
 use crate::listings::with_board;
 use crate::named::Named;
-use desk_base::{Code, Minute, PersonNo};
+use desk_base::{Code, Minute, PersonNo, PlaceHints};
 use desk_model::{BOARD_LIMIT, Cmd};
 use duty_events::Event;
 use pool_board::Board;
@@ -51,33 +51,41 @@ fn set_up(board: &mut Board, here: bool, place: Code, extra: bool)
 }
 
 // Puts the person at its bottom here, where they aren't listed.
-fn take_on(board: &mut Board, here: bool, person: PersonNo, ready: Minute)
+fn take_on(board: &mut Board, hints: &mut PlaceHints, here: bool, person: PersonNo, ready: Minute)
     ensures { IsThen here (TakesOn person ready) board.old board.new }
 {
-    if here && !board.has(person) {
-        let _full = board.list(person, ready);
+    if here && !board.has(person, hints) {
+        let _full = board.list(person, ready, hints);
     }
 }
 
 // Takes the person off here.
-fn let_go(board: &mut Board, here: bool, person: PersonNo)
+fn let_go(board: &mut Board, hints: &PlaceHints, here: bool, person: PersonNo)
     ensures { IsThen here (LetsGo person) board.old board.new }
 {
-    if here && board.has(person) {
-        board.unlist(person);
+    if here && board.has(person, hints) {
+        board.unlist(person, hints);
     }
 }
 
 // Makes the person ready from the minute here, and sends them to the bottom if so asked.
-fn move_on(board: &mut Board, here: bool, last: bool, person: PersonNo, ready: Minute)
+fn move_on(
+    board: &mut Board,
+    hints: &mut PlaceHints,
+    here: bool,
+    last: bool,
+    person: PersonNo,
+    ready: Minute,
+)
     ensures { IsThen here (Moves last person ready) board.old board.new }
 {
-    if !here || !board.has(person) {
+    if !here || !board.has(person, hints) {
         return;
     }
-    board.set_ready(person, ready);
     if last {
-        board.to_bottom(person);
+        board.to_bottom_ready(person, ready, hints);
+    } else {
+        board.set_ready(person, ready, hints);
     }
 }
 
@@ -109,7 +117,14 @@ pub(crate) fn touched(named: &Named, word: u64) -> u64
 
 /// Makes of the board at this place what a command makes of it that was done; `word` has the boards of the person whom it
 /// names.
-pub(crate) fn change_board(board: &mut Board, place: usize, cmd: &Cmd, named: &Named, word: u64)
+pub(crate) fn change_board(
+    board: &mut Board,
+    hints: &mut PlaceHints,
+    place: usize,
+    cmd: &Cmd,
+    named: &Named,
+    word: u64,
+)
     ensures { BecomesBy cmd.now named.now word place board.old board.new }
 {
     let here = is_here(place, named.board);
@@ -117,14 +132,14 @@ pub(crate) fn change_board(board: &mut Board, place: usize, cmd: &Cmd, named: &N
     let ready = named.ready;
     match cmd {
         Cmd::Board { extra, place, .. } => set_up(board, here, *place, *extra),
-        Cmd::List { person, .. } => take_on(board, here, *person, ready),
-        Cmd::Unlist { person, .. } => let_go(board, here, *person),
-        Cmd::MarkOn { person } => move_on(board, theirs, true, *person, ready),
-        Cmd::Decline { person, .. } => move_on(board, theirs, here, *person, ready),
-        Cmd::Past { person, .. } => move_on(board, theirs, false, *person, ready),
+        Cmd::List { person, .. } => take_on(board, hints, here, *person, ready),
+        Cmd::Unlist { person, .. } => let_go(board, hints, here, *person),
+        Cmd::MarkOn { person } => move_on(board, hints, theirs, true, *person, ready),
+        Cmd::Decline { person, .. } => move_on(board, hints, theirs, here, *person, ready),
+        Cmd::Past { person, .. } => move_on(board, hints, theirs, false, *person, ready),
         Cmd::Happened { person, event } => {
             let last = is_final_at(event, board.place());
-            move_on(board, theirs, last, *person, ready);
+            move_on(board, hints, theirs, last, *person, ready);
         }
         _ => {}
     }

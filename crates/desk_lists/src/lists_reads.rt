@@ -78,6 +78,6 @@ impl Lists {
             ≡ option_map (λ k. record { board = b; position = k; person = person }) result }
     {
         order_is_by_rank();
-        self.board(board)?.position(person)
+        self.board(board)?.position(person, &self.orders.hints)
     }
 }

@@ -6,15 +6,16 @@ ghost use Rattle.desk_lists.specs.Changes.{BecomesBy, EachBecomes};
 use crate::board_changes::{change_board, changes_boards, touched};
 use crate::listings::{first_board, with_board};
 use crate::named::Named;
-use desk_base::{Code, NoMemory};
+use desk_base::{Code, NoMemory, PlaceHints};
 use desk_model::{BOARD_LIMIT, Cmd};
 use pool_board::Board;
 use std::alloc::Global;
 
-/// 64 boards, of which the first are those that were set up.
+/// 64 boards, of which the first are those that were set up, and the hints that they share.
 #[derive(Drop)]
 pub struct Orders {
     pub(crate) boards: Vec<Board>,
+    pub(crate) hints: PlaceHints,
 }
 
 impl Orders {
@@ -26,10 +27,11 @@ impl Orders {
         // the place of a board that isn't set up, which nothing reads
         let place = Code::read(b"0").ok_or(NoMemory)?;
         let mut boards = Vec::with_capacity(alloc, BOARD_LIMIT)?;
-        for _ in 0..BOARD_LIMIT {
-            boards.push_reserved(Board::new(alloc, place, false)?);
+        for number in 0..BOARD_LIMIT {
+            boards.push_reserved(Board::new(alloc, number as u8, place, false)?);
         }
-        Ok(Orders { boards })
+        let hints = Board::hints(alloc)?;
+        Ok(Orders { boards, hints })
     }
 
     /// Makes of each of 64 boards what a command makes of it that was done; `word` has the boards of the person whom it names.
@@ -44,7 +46,14 @@ impl Orders {
         while left != 0 {
             let place = first_board(left);
             if place < self.boards.len() {
-                change_board(&mut self.boards[place], place, cmd, named, word);
+                change_board(
+                    &mut self.boards[place],
+                    &mut self.hints,
+                    place,
+                    cmd,
+                    named,
+                    word,
+                );
             }
             left = with_board(left, place, false);
         }

@@ -1,7 +1,7 @@
 -- The filled slots of a tree as members: what a write of one slot makes of them.
-use Rattle.std.proofs.Common.{◌≡◌, ◌≢◌, ℕ, zero, suc, ◌+◌, ◌<◌, true, false, not, cond, nat_eq, Option, None, Some, List, [], ◌∷◌, length, set, refl, sym, ap, ◌∙◌, arith}
+use Rattle.std.proofs.Common.{◌≡◌, ◌≢◌, ℕ, zero, suc, ◌+◌, ◌<◌, true, false, not, cond, nat_eq, Option, None, Some, List, [], ◌∷◌, length, set, is_some, refl, sym, ap, ◌∙◌, arith}
 use Rattle.std.specs.List.{list_any}
-use Rattle.std.proofs.lemmas.Bool.{eq-eqb, ne_eqb, or_from, or_right, or_left, and_parts, not-true}
+use Rattle.std.proofs.lemmas.Bool.{false≢true, eq-eqb, ne_eqb, or_from, or_right, or_left, and_parts, not-true}
 use Rattle.slot_tree.specs.declared.slot.Slot.{Slot}
 use Rattle.slot_tree.specs.Slots.{slot_at, with_ready, filled}
 use Rattle.pool_board.specs.Members.{persons, is_listed, holds, ready_of, without, are_distinct}
@@ -55,6 +55,13 @@ length-cleared (None ∷ xs) zero x is = absurd (some_other x is)
 length-cleared (Some y ∷ xs) zero x is = omega arith
 length-cleared (None ∷ xs) (suc i) x is = length-cleared xs i x is
 length-cleared (Some y ∷ xs) (suc i) x is = omega (arith, length-cleared xs i x is)
+
+pub fewer-cleared : (slots : List (Option Slot)) (i : ℕ) → is_some (slot_at slots i) ≡ true → length (filled (set slots i None)) + 1 ≡ length (filled slots)
+fewer-cleared slots i full = go (slot_at slots i) refl full
+  where
+    go : (held : Option Slot) → slot_at slots i ≡ held → is_some held ≡ true → length (filled (set slots i None)) + 1 ≡ length (filled slots)
+    go None is full = absurd (false≢true full)
+    go (Some x) is full = length-cleared slots i x is
 
 -- ---- a ready minute is changed
 

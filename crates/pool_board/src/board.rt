@@ -5,7 +5,7 @@ ghost use Rattle.pool_board.specs.Places.{at_place, FindsReadyPlace};
 ghost use Rattle.pool_board.specs.Board.{board_of, IsSameSort};
 
 use crate::MembersFull;
-use crate::slots::{find, make_room};
+use crate::slots::{find, hint_number, make_room, move_last};
 use desk_base::{Code, Minute, NoMemory, PersonNo, PlaceHints};
 use slot_tree::{SlotTree, Steps};
 use std::alloc::Global;
@@ -16,14 +16,15 @@ use std::sync::ledger::Ledger;
 pub const MOST_MEMBERS: u16 = 500;
 
 /// A board of persons in order, each with the minute from which they are ready. It belongs to a place, and is a pool or an
-/// extra board. Nobody is listed twice, and at most 500 are. Places count from 1.
+/// extra board. Nobody is listed twice, and at most 500 are. Places count from 1. Boards share the hints of where each person
+/// stands; the number of each is its own.
 #[derive(Drop)]
 pub struct Board {
+    number: u8,
     place: Code,
     extra: bool,
     listed: u16,
     tree: SlotTree,
-    hints: PlaceHints,
 }
 
 impl Model for Board {
@@ -38,17 +39,27 @@ impl Model for Board {
 }
 
 impl Board {
-    /// A board of this place and sort with no members; `NoMemory` where there is none for it.
-    pub fn new(alloc: Global, place: Code, extra: bool) -> Result<Board, NoMemory>
+    /// The hints of 64 boards, with the numbers from 0; `NoMemory` where there is none for them.
+    pub fn hints(alloc: Global) -> Result<PlaceHints, NoMemory> {
+        PlaceHints::new(alloc, 18)
+    }
+
+    /// A board with a number, of this place and sort, with no members; `NoMemory` where there is none for it.
+    pub fn new(alloc: Global, number: u8, place: Code, extra: bool) -> Result<Board, NoMemory>
         ensures { IfOk result (λ board. board ≡ board_of place extra []) }
     {
         Ok(Board {
+            number,
             place,
             extra,
             listed: 0,
             tree: SlotTree::new(alloc, 10)?,
-            hints: PlaceHints::new(alloc)?,
         })
+    }
+
+    // The slot in which a person may stand, by the hints.
+    fn hint(&self, person: PersonNo, hints: &PlaceHints) -> u32 {
+        hints.of(hint_number(self.number, person)) as u32
     }
 
     /// Makes a board with no members as a new one of this place and sort.
@@ -62,7 +73,12 @@ impl Board {
 
     /// Puts a person who isn't listed at the bottom, ready from a minute on. Refused exactly where 500 are listed, and then
     /// nothing changes.
-    pub fn list(&mut self, person: PersonNo, ready: Minute) -> Result<(), MembersFull>
+    pub fn list(
+        &mut self,
+        person: PersonNo,
+        ready: Minute,
+        hints: &mut PlaceHints,
+    ) -> Result<(), MembersFull>
         requires { is_listed person self.old.members ≡ false }
         ensures sort { IsSameSort self.old self.new }
         ensures order { IfOk result (λ _. self.new.members
@@ -74,45 +90,64 @@ impl Board {
         if self.listed == MOST_MEMBERS {
             return Err(MembersFull);
         }
-        make_room(&mut self.tree, &mut self.hints);
+        make_room(&mut self.tree, hints, self.number);
         let slot = self.tree.append(person, ready);
-        self.hints.set(person.number(), slot as usize);
+        hints.set(hint_number(self.number, person), slot as usize);
         self.listed += 1;
         Ok(())
     }
 
     /// Takes a listed person off; those behind move up.
-    pub fn unlist(&mut self, person: PersonNo)
+    pub fn unlist(&mut self, person: PersonNo, hints: &PlaceHints)
         requires { is_listed person self.old.members ≡ true }
         ensures sort { IsSameSort self.old self.new }
         ensures order { persons self.new.members ≡ without person (persons self.old.members) }
         ensures ready { (other : ℕ) → other ≢ person
             → ready_of other self.new.members ≡ ready_of other self.old.members }
     {
-        if let Some(at) = find(&self.tree, &self.hints, person) {
+        if let Some(at) = find(&self.tree, self.hint(person, hints), person) {
             self.tree.clear(at.slot);
             self.listed -= 1;
         }
     }
 
     /// Sends a listed person to the bottom; each stays ready from the same minute on.
-    pub fn to_bottom(&mut self, person: PersonNo)
+    pub fn to_bottom(&mut self, person: PersonNo, hints: &mut PlaceHints)
         requires { is_listed person self.old.members ≡ true }
         ensures sort { IsSameSort self.old self.new }
         ensures order { persons self.new.members
             ≡ without person (persons self.old.members) ++ person ∷ [] }
         ensures ready { (who : ℕ) → ready_of who self.new.members ≡ ready_of who self.old.members }
     {
-        if let Some(at) = find(&self.tree, &self.hints, person) {
-            self.tree.clear(at.slot);
-            make_room(&mut self.tree, &mut self.hints);
-            let slot = self.tree.append(person, at.ready);
-            self.hints.set(person.number(), slot as usize);
+        if let Some(at) = find(&self.tree, self.hint(person, hints), person) {
+            move_last(
+                &mut self.tree,
+                hints,
+                self.number,
+                at.slot,
+                person,
+                at.ready,
+            );
+        }
+    }
+
+    /// Sends a listed person to the bottom, ready from another minute on; each other one stays ready from the same minute on.
+    pub fn to_bottom_ready(&mut self, person: PersonNo, ready: Minute, hints: &mut PlaceHints)
+        requires { is_listed person self.old.members ≡ true }
+        ensures sort { IsSameSort self.old self.new }
+        ensures order { persons self.new.members
+            ≡ without person (persons self.old.members) ++ person ∷ [] }
+        ensures this { ready_of person self.new.members ≡ Some ready }
+        ensures others { (other : ℕ) → other ≢ person
+            → ready_of other self.new.members ≡ ready_of other self.old.members }
+    {
+        if let Some(at) = find(&self.tree, self.hint(person, hints), person) {
+            move_last(&mut self.tree, hints, self.number, at.slot, person, ready);
         }
     }
 
     /// Makes a listed person ready from another minute on. Nobody moves.
-    pub fn set_ready(&mut self, person: PersonNo, ready: Minute)
+    pub fn set_ready(&mut self, person: PersonNo, ready: Minute, hints: &PlaceHints)
         requires { is_listed person self.old.members ≡ true }
         ensures sort { IsSameSort self.old self.new }
         ensures order { persons self.new.members ≡ persons self.old.members }
@@ -120,24 +155,24 @@ impl Board {
         ensures others { (other : ℕ) → other ≢ person
             → ready_of other self.new.members ≡ ready_of other self.old.members }
     {
-        if let Some(at) = find(&self.tree, &self.hints, person) {
+        if let Some(at) = find(&self.tree, self.hint(person, hints), person) {
             self.tree.set(at.slot, ready);
         }
     }
 
     /// Whether a person is listed.
-    pub fn has(&self, person: PersonNo) -> bool
+    pub fn has(&self, person: PersonNo, hints: &PlaceHints) -> bool
         ensures { result ≡ is_listed person self.now.members }
     {
-        find(&self.tree, &self.hints, person).is_some()
+        find(&self.tree, self.hint(person, hints), person).is_some()
     }
 
     /// The place of a person; `None` exactly where the person isn't listed.
-    pub fn position(&self, person: PersonNo) -> Option<u16>
+    pub fn position(&self, person: PersonNo, hints: &PlaceHints) -> Option<u16>
         ensures at { IfSome result (λ place. at_place (persons self.now.members) place ≡ Some person) }
         ensures listed { is_some result ≡ is_listed person self.now.members }
     {
-        let at = find(&self.tree, &self.hints, person)?;
+        let at = find(&self.tree, self.hint(person, hints), person)?;
         Some(self.tree.before(at.slot) as u16 + 1)
     }
 
@@ -182,11 +217,11 @@ impl Board {
         ensures { IfOk result (λ board. board ≡ self.now) }
     {
         Ok(Board {
+            number: self.number,
             place: self.place,
             extra: self.extra,
             listed: self.listed,
             tree: self.tree.copy(alloc)?,
-            hints: self.hints.copy(alloc)?,
         })
     }
 

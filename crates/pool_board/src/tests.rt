@@ -2,7 +2,7 @@
 ghost use Rattle.std.specs.Prelude.{◌≡◌, ◌<◌, ◌≤◌, IfSome, length, vec_len};
 
 use crate::{Board, MOST_MEMBERS};
-use desk_base::{Code, Minute, PersonNo};
+use desk_base::{Code, Minute, PersonNo, PlaceHints};
 use slot_tree::Steps;
 use std::alloc::Global;
 use std::marker::Brand;
@@ -17,18 +17,28 @@ fn minute(number: u64) -> Result<Minute, Fail> {
     Ok(Minute::new(number).ok_or("no minute")?)
 }
 
-fn board(alloc: Global) -> Result<Board, Fail> {
+// A board with its hints.
+#[derive(Drop)]
+struct Kept {
+    board: Board,
+    hints: PlaceHints,
+}
+
+fn board(alloc: Global) -> Result<Kept, Fail> {
     let place = Code::read(b"HOM").ok_or("no code")?;
-    Ok(Board::new(alloc, place, true)?)
+    let board = Board::new(alloc, 7, place, true)?;
+    let hints = Board::hints(alloc)?;
+    Ok(Kept { board, hints })
 }
 
 // Whether a person who isn't listed was put at the bottom.
-fn list(board: &mut Board, number: u32, ready: u64) -> Result<bool, Fail> {
+fn list(kept: &mut Kept, number: u32, ready: u64) -> Result<bool, Fail> {
     let person = person(number)?;
-    if board.position(person).is_some() {
+    if kept.board.position(person, &kept.hints).is_some() {
         return Err("listed".into());
     }
-    Ok(board.list(person, minute(ready)?).is_ok())
+    let ready = minute(ready)?;
+    Ok(kept.board.list(person, ready, &mut kept.hints).is_ok())
 }
 
 // What is done to a listed person.
@@ -36,18 +46,21 @@ fn list(board: &mut Board, number: u32, ready: u64) -> Result<bool, Fail> {
 enum Act {
     Unlist,
     ToBottom,
+    ToBottomReady(u64),
     Ready(u64),
 }
 
-fn act_on_board(board: &mut Board, number: u32, act: Act) -> Result<(), Fail> {
+fn act_on_board(kept: &mut Kept, number: u32, act: Act) -> Result<(), Fail> {
     let person = person(number)?;
-    if board.position(person).is_none() {
+    if kept.board.position(person, &kept.hints).is_none() {
         return Err("not listed".into());
     }
+    let (board, hints) = (&mut kept.board, &mut kept.hints);
     match act {
-        Act::Unlist => board.unlist(person),
-        Act::ToBottom => board.to_bottom(person),
-        Act::Ready(ready) => board.set_ready(person, minute(ready)?),
+        Act::Unlist => board.unlist(person, hints),
+        Act::ToBottom => board.to_bottom(person, hints),
+        Act::ToBottomReady(ready) => board.to_bottom_ready(person, minute(ready)?, hints),
+        Act::Ready(ready) => board.set_ready(person, minute(ready)?, hints),
     }
     Ok(())
 }
@@ -61,6 +74,10 @@ fn act_on_list(order: &mut Vec<(u32, u64)>, place: usize, act: Act)
             order.remove(place);
         }
         Act::ToBottom => order[place..].rotate_left(1),
+        Act::ToBottomReady(ready) => {
+            order[place].1 = ready;
+            order[place..].rotate_left(1);
+        }
         Act::Ready(ready) => order[place].1 = ready,
     }
 }
@@ -103,14 +120,14 @@ fn two_full_rounds(rt: HostRuntime) -> Result<(), Fail> {
         assert!(rt; list(&mut full, number, 7)?);
         order.push((number, 7))?;
     }
-    assert_eq!(rt; full.length(), MOST_MEMBERS);
+    assert_eq!(rt; full.board.length(), MOST_MEMBERS);
     assert!(rt; !list(&mut full, 501, 7)?);
-    assert!(rt; stands_as(&full, &order));
+    assert!(rt; stands_as(&full.board, &order));
     for _ in 0..1_000 {
-        let first = full.at(1).ok_or("nobody")?;
+        let first = full.board.at(1).ok_or("nobody")?;
         act_on_board(&mut full, first.number(), Act::ToBottom)?;
     }
-    assert!(rt; stands_as(&full, &order));
+    assert!(rt; stands_as(&full.board, &order));
     Ok(())
 }
 
@@ -124,7 +141,7 @@ fn starts_again(board: &mut Board) -> Result<(), Fail> {
     Ok(())
 }
 
-fn three(alloc: Global) -> Result<Board, Fail> {
+fn three(alloc: Global) -> Result<Kept, Fail> {
     let mut pool = board(alloc)?;
     for (number, ready) in [(7, 300), (8, 100), (9, 200)] {
         list(&mut pool, number, ready)?;
@@ -142,7 +159,7 @@ fn the_first_in_order_and_not_the_longest_rested(rt: HostRuntime) -> Result<(), 
         (3, 200, Some(3)),
     ];
     for (from, m, expected) in asked {
-        assert_eq!(rt; ready_from(&pool, from, minute(m)?), expected);
+        assert_eq!(rt; ready_from(&pool.board, from, minute(m)?), expected);
     }
     Ok(())
 }
@@ -152,7 +169,7 @@ fn who_is_taken_off_is_on_it_no_more(rt: HostRuntime) -> Result<(), Fail> {
     let mut pool = three(rt.alloc())?;
     act_on_board(&mut pool, 8, Act::Unlist)?;
     for (number, expected) in [(6, false), (7, true), (8, false), (9, true)] {
-        assert_eq!(rt; pool.has(person(number)?), expected);
+        assert_eq!(rt; pool.board.has(person(number)?, &pool.hints), expected);
     }
     Ok(())
 }
@@ -160,12 +177,12 @@ fn who_is_taken_off_is_on_it_no_more(rt: HostRuntime) -> Result<(), Fail> {
 #[test]
 fn a_board_starts_again(rt: HostRuntime) -> Result<(), Fail> {
     let mut pool = three(rt.alloc())?;
-    let copy = pool.copy(rt.alloc())?;
+    let copy = pool.board.copy(rt.alloc())?;
     for number in 7..10 {
         act_on_board(&mut pool, number, Act::Unlist)?;
     }
-    starts_again(&mut pool)?;
-    assert!(rt; stands_as(&pool, &[]) && !pool.is_extra());
+    starts_again(&mut pool.board)?;
+    assert!(rt; stands_as(&pool.board, &[]) && !pool.board.is_extra());
     assert!(rt; stands_as(&copy, &[(7, 300), (8, 100), (9, 200)]) && copy.is_extra());
     Ok(())
 }
@@ -197,12 +214,13 @@ fn drawn_act(seed: &mut u64) -> Act {
     match drawn(seed, 8) {
         0 => Act::Unlist,
         1 | 2 => Act::Ready(u64::from(drawn(seed, 100))),
+        3 | 4 => Act::ToBottomReady(u64::from(drawn(seed, 100))),
         _ => Act::ToBottom,
     }
 }
 
 // One change of the board, and of the list that it should stand for.
-fn change(board: &mut Board, order: &mut Vec<(u32, u64)>, seed: &mut u64) -> Result<(), Fail> {
+fn change(board: &mut Kept, order: &mut Vec<(u32, u64)>, seed: &mut u64) -> Result<(), Fail> {
     let number = 1 + drawn(seed, 30);
     match place_of(order, number) {
         None => {
@@ -238,11 +256,11 @@ fn changes_as_a_list(rt: HostRuntime) -> Result<(), Fail> {
     let mut seed = 11;
     for _ in 0..4_000 {
         change(&mut pool, &mut order, &mut seed)?;
-        assert!(rt; stands_as(&pool, &order));
+        assert!(rt; stands_as(&pool.board, &order));
         let from = 1 + drawn(&mut seed, 32) as u16;
         let m = u64::from(drawn(&mut seed, 100));
         assert_eq!(rt;
-            ready_from(&pool, from, minute(m)?),
+            ready_from(&pool.board, from, minute(m)?),
             scanned(&order, from, m)
         );
     }

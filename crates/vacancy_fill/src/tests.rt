@@ -4,7 +4,7 @@ ghost use Rattle.std.specs.List.{All};
 
 use crate::{Found, Judge, first};
 use denial_rules::Bar;
-use desk_base::{Code, Minute, PersonNo};
+use desk_base::{Code, Minute, PersonNo, PlaceHints};
 use pool_board::Board;
 use slot_tree::Steps;
 use std::alloc::Global;
@@ -35,9 +35,9 @@ fn may_stand(person: PersonNo, ready: Minute, m: Minute) -> bool {
 }
 
 // Puts a person at the bottom who may stand there and isn't listed.
-fn put(board: &mut Board, person: PersonNo, ready: Minute, m: Minute) {
-    if board.position(person).is_none() && may_stand(person, ready, m) {
-        match board.list(person, ready) {
+fn put(board: &mut Board, hints: &mut PlaceHints, person: PersonNo, ready: Minute, m: Minute) {
+    if board.position(person, hints).is_none() && may_stand(person, ready, m) {
+        match board.list(person, ready, hints) {
             Ok(()) => {}
             Err(_) => {}
         }
@@ -46,11 +46,12 @@ fn put(board: &mut Board, person: PersonNo, ready: Minute, m: Minute) {
 
 fn board(alloc: Global, members: &[(u32, u64)], m: Minute) -> Result<Board, Fail> {
     let place = Code::read(b"HOM").ok_or("no code")?;
-    let mut board = Board::new(alloc, place, false)?;
+    let mut board = Board::new(alloc, 0, place, false)?;
+    let mut hints = Board::hints(alloc)?;
     for (number, ready) in members {
         let person = PersonNo::new(*number).ok_or("no person")?;
         let ready = Minute::new(*ready).ok_or("no minute")?;
-        put(&mut board, person, ready, m);
+        put(&mut board, &mut hints, person, ready, m);
     }
     Ok(board)
 }
