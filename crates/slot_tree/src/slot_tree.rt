@@ -203,6 +203,18 @@ impl SlotTree {
     }
 }
 
+// From now on so many items are kept; those behind the others are this one. It stays a call, since it is done when the first slot is
+// filled and where slots are compacted, and else never.
+#[inline(never)]
+fn fill_up<T: Copy>(items: &mut Vec<T>, many: usize, item: T)
+    requires few { length items.old.items ≤ many }
+    requires room { many ≤ vec_capacity items.old }
+    ensures items { items.new.items ≡ items.old.items ++ replicate (many - length items.old.items) item }
+    ensures room { vec_capacity items.old ≤ vec_capacity items.new }
+{
+    let _filled = items.resize(many, item);
+}
+
 // From now on all slots and nodes of a tree of so many levels below the root are kept.
 fn keep_all(slots: &mut Vec<Option<Slot>>, nodes: &mut Vec<u32>, height: u32)
     requires low { height ≤ 10 }
@@ -214,10 +226,10 @@ fn keep_all(slots: &mut Vec<Option<Slot>>, nodes: &mut Vec<u32>, height: u32)
 {
     let many = slot_count(height);
     if slots.len() < many {
-        let _slots = slots.resize(many, None);
+        fill_up(slots, many, None);
     }
     if nodes.len() < 2 * many {
-        let _nodes = nodes.resize(2 * many, EMPTY);
+        fill_up(nodes, 2 * many, EMPTY);
     }
 }
 
