@@ -1,31 +1,11 @@
--- How a chain is kept: when two boards are the same, and a board more.
-use Rattle.std.proofs.Common.{◌≡◌, ℕ, ◌+◌, ◌-◌, ◌<◌, ◌≤◌, Bool, ◌&&◌, eqb, List, [], ◌∷◌, ◌++◌, length, take, drop, set, replicate, refl, sym, ap, ◌∙◌, arith, length-take, length-set}
-use Rattle.std.specs.Bool.{Decides}
+-- How a chain is kept: a board more.
+use Rattle.std.proofs.Common.{◌≡◌, ℕ, ◌+◌, ◌-◌, ◌<◌, ◌≤◌, List, [], ◌∷◌, ◌++◌, length, take, drop, set, replicate, refl, sym, ap, ◌∙◌, arith, length-take, length-set}
 use Rattle.std.specs.List.{Contains}
-use Rattle.std.specs.Cmp.Lexicographic.{pointwise}
-use Rattle.std.proofs.Math.Seq.{take-append_seam}
-use Rattle.std.proofs.lemmas.Bool.Decides.{Decides-eqb, Decides-and}
 use Rattle.std.proofs.lemmas.List.{drop-drop, drop-replicate, drop-set-lt, take_more_set}
-use Rattle.std.proofs.lemmas.Slice.Eq.{slice_eq-Decides}
-use Rattle.desk_base.specs.Code.{IsCode, padded_code}
+use Rattle.desk_base.specs.Code.{IsCode}
 use Rattle.desk_model.specs.ChainInside.{chain_boards, first_board, KeepsChain, inside_of}
 use Rattle.desk_model.specs.declared.chain.Chain.TheInside.{Inside}
 use Rattle.desk_model.proofs.ChainLemmas.{IsChain-push}
-
--- what `==` on two codes compares
-abbrev pub is_same_code : List ℕ → List ℕ → Bool
-is_same_code a b = pointwise eqb (padded_code a) (padded_code b) && eqb (length a) (length b)
-
-pub is_same_code-Decides : (a b : List ℕ) → Decides (is_same_code a b) (a ≡ b)
-is_same_code-Decides a b =
-    let both = Decides-and _ _ (slice_eq-Decides Decides-eqb (padded_code a) (padded_code b) _ refl) (Decides-eqb (length a) (length b)) in
-    (λ t. same (both.0 t).0 (both.0 t).1, λ e. both.1 (ap padded_code e, ap length e))
-  where
-    same : padded_code a ≡ padded_code b → length a ≡ length b → a ≡ b
-    same bytes len =
-        sym (take-append_seam a _) ∙ ap (take (length a)) bytes ∙ ap (λ n. take n (padded_code b)) len ∙ take-append_seam b _
-
--- ---- a board more
 
 first_board-append : (boards more : List (List ℕ)) → 1 ≤ length boards → first_board (boards ++ more) ≡ first_board boards
 first_board-append [] more some = absurd (omega (arith, some))

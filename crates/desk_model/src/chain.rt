@@ -75,8 +75,8 @@ impl Chain {
         text
     }
 
-    // The chain of one board.
-    fn of(board: Code) -> Chain
+    /// The chain of one board.
+    pub fn of(board: Code) -> Chain
         requires { IsCode board }
         ensures { result ≡ board ∷ [] }
     {
@@ -86,8 +86,8 @@ impl Chain {
         }
     }
 
-    // The chain with one board more behind the others; `None` where it has four, or has this one.
-    fn with(self, board: Code) -> Option<Chain>
+    /// The chain with one board more behind the others; `None` exactly where it has four, or has this one.
+    pub fn with(self, board: Code) -> Option<Chain>
         requires { IsCode board }
         ensures { SomeIff result (IsChain (self ++ board ∷ [])) (self ++ board ∷ []) }
     {

@@ -37,6 +37,7 @@ impl Model for Entry {
 
 impl Entry {
     /// An entry of caller 0 to 63.
+    #[inline]
     pub fn new(caller: u8, stated: Stated, moment: Minute, reply: Reply) -> Entry
         requires { caller ≤ LAST_CALLER }
         ensures { result ≡ entry_of caller stated moment reply }

@@ -33,6 +33,7 @@ impl Stated {
     /// A command stated at a minute; `None` where that minute, or one that the command tells of an event, or the
     /// month that it asks about, lies outside the years 2000 to 2099, or the place of a board that it asks about
     /// isn't 1 to 9,999.
+    #[inline]
     pub fn new(minute: Minute, cmd: Cmd) -> Option<Stated>
         ensures { SomeIff result (IsStated (stated_of minute cmd)) (stated_of minute cmd) }
     {
