@@ -1,32 +1,32 @@
-ghost use Rattle.std.specs.Prelude.{◌≡◌, IfOk};
+ghost use Rattle.std.specs.Prelude.{◌≡◌, ℕ, IfOk};
 ghost use Rattle.desk_base.specs.Minute.{IsInYears};
 ghost use Rattle.desk_model.specs.declared.reply.Reply.{Reply};
 ghost use Rattle.desk_model.specs.declared.offer.Offer.{Offer};
-ghost use Rattle.desk_model.specs.Job.{JobValue};
 ghost use Rattle.desk_model.specs.History.{History};
 ghost use Rattle.desk_model.specs.SettleAnswer.{settle_answer, accept_answer, decline_answer, no_answer};
 ghost use Rattle.desk_answers.specs.Answered.{answered};
 
 use crate::Reads;
 use desk_base::{Minute, PersonNo, VacNo};
-use desk_model::{Job, Offer, Reply};
+use desk_model::{Offer, Reply};
 
-// The open offer of a vacancy, and its job.
+// The open offer of a vacancy, and the minute of its report.
 #[derive(Clone, Copy, Debug)]
 struct JobOffer {
-    job: Job,
+    report: Minute,
     offer: Offer,
 }
 
 // The vacancy's open offer to this person; or why there is nothing to settle.
 fn offer_to<R: Reads>(reads: &R, vac: VacNo, person: PersonNo) -> Result<JobOffer, Reply>
-    ensures answer { (h : History) → R.tells reads.now h → (rest : JobValue → Offer → Reply)
-        → answered (λ found. rest found.job found.offer) result ≡ settle_answer h vac person rest }
+    ensures answer { (h : History) → R.tells reads.now h → (rest : ℕ → Offer → Reply)
+        → answered (λ found. rest found.report found.offer) result ≡ settle_answer h vac person (λ job. rest job.report) }
     ensures made { IfOk result (λ found. IsInYears found.offer.made) }
 {
-    let Some(job) = reads.vacancy(vac) else {
+    let Some(job) = &reads.vacancy(vac) else {
         return Err(Reply::UnknownVacancy);
     };
+    let report = job.report();
     if reads.person(person).is_none() {
         return Err(Reply::UnknownPerson);
     }
@@ -34,7 +34,7 @@ fn offer_to<R: Reads>(reads: &R, vac: VacNo, person: PersonNo) -> Result<JobOffe
         return Err(Reply::NoOffer);
     };
     if offer.person == person {
-        Ok(JobOffer { job, offer })
+        Ok(JobOffer { report, offer })
     } else {
         Err(Reply::NoOffer)
     }
@@ -53,9 +53,8 @@ pub(crate) fn accept_answer<R: Reads>(
         Ok(found) => found,
         Err(refusal) => return refusal,
     };
-    let report = found.job.report();
-    if report < moment {
-        Reply::Lapsed(report)
+    if found.report < moment {
+        Reply::Lapsed(found.report)
     } else {
         Reply::Done
     }
