@@ -1,9 +1,9 @@
 -- The register of vacancies keeps on what a history says.
-use Rattle.std.proofs.Common.{◌&&◌, ◌≡◌, ◌<◌, ℕ, Bool, true, false, not, ◌||◌, cond, nat_eq, nat_le, List, [], ◌++◌, length, Option, None, Some, is_some, is_none, refl, sym, ap, ◌∙◌, subst, arith}
+use Rattle.std.proofs.Common.{◌&&◌, ◌≡◌, ◌<◌, ℕ, Bool, true, false, not, cond, nat_eq, nat_le, List, [], ◌++◌, length, Option, None, Some, is_some, is_none, refl, sym, ap, ◌∙◌, subst, arith}
 use Rattle.std.proofs.lemmas.Bool.{false≢true}
 use Rattle.std.proofs.lemmas.Bool.Decides.{nat_tests}
 use Rattle.std.specs.Prelude.{if◌then◌else◌}
-use Rattle.std.specs.Option.{option_map, option_map_or, option_and_then}
+use Rattle.std.specs.Option.{option_map, option_and_then}
 use Rattle.std.specs.List.{cons_option}
 use Rattle.desk_model.specs.declared.limits.TheConstants.{VACANCY_LIMIT}
 use Rattle.desk_model.specs.declared.command.Cmd.{Cmd}
@@ -16,7 +16,7 @@ use Rattle.desk_model.specs.declared.vac_state.VacState.TheVariants as state
 use Rattle.desk_model.specs.Job.{JobValue}
 use Rattle.desk_model.specs.Entry.{EntryValue}
 use Rattle.desk_model.specs.History.{History, with_entry, is_done}
-use Rattle.desk_model.specs.Register.{makes, makes_any, vacancy_of, vacancies, persons}
+use Rattle.desk_model.specs.Register.{makes, makes_any, vacancy_of, vacancies}
 use Rattle.desk_model.specs.VacancyAnswer.{is_edition_one, unknown_in, bad_in, chain_answer}
 use Rattle.desk_model.specs.SettleAnswer.{made_answer}
 use Rattle.desk_model.specs.Offers.{is_of, asks_for, offer_in}
@@ -25,14 +25,13 @@ use Rattle.desk_model.specs.States.{state_of}
 use Rattle.desk_model.specs.Comes.{Comes, state_after, offered_by}
 use Rattle.desk_model.specs.Legal.{answer_to, IsNext}
 use Rattle.desk_register.specs.Done.{IsDone}
-use Rattle.desk_register.specs.Among.{place_among}
-use Rattle.desk_register.specs.Vacancies.{HasPlace, has_in, IsVacancy, AreVacancies, target, turner, turner_place, had_by, IsMade, CanMake, Makes, ChangesAt, Changes, offered_vac, offered_person}
+use Rattle.desk_register.specs.Vacancies.{IsVacancy, AreVacancies, target, had_by, IsMade, CanMake, Makes, ChangesAt, Changes, offered_vac, offered_person}
 use Rattle.desk_register.specs.declared.kept_vacancy.KeptVacancy.{KeptVacancy}
 use Rattle.desk_register.proofs.PersonLemmas.{same, same_number}
 use Rattle.desk_register.proofs.AgreeLemmas.{said-done}
 use Rattle.desk_register.proofs.AnswerLemmas.{done-answer}
 use Rattle.desk_register.proofs.RosterLemmas.{TakenIsAssigned, is-some, none-is}
-use Rattle.desk_register.proofs.SaidLemmas.{HasIsAssigned, vacancy-said}
+use Rattle.desk_register.proofs.SaidLemmas.{vacancy-said}
 use Rattle.desk_register.proofs.VacancyLemmas.{VacancyFollows, vacancy-follows, changed-follows, other-follows}
 
 pub unmade-is : (k : Option KeptVacancy) (h : History) (v : ℕ) → IsVacancy k h v → is_none k ≡ is_none (vacancy_of h v)
@@ -65,7 +64,7 @@ had-made None h v p law agrees mine = absurd (vacant (agrees.state ∙ (law v p)
 had-made (Some k) h v p law agrees mine = refl
 
 -- the vacancy whose state a command changes that is done was made
-target-made : (h : History) (m : ℕ) (c : Cmd) (v : ℕ) (k : Option KeptVacancy) → TakenIsAssigned h → IsVacancy k h v
+pub target-made : (h : History) (m : ℕ) (c : Cmd) (v : ℕ) (k : Option KeptVacancy) → TakenIsAssigned h → IsVacancy k h v
     → is_done (answer_to h m c) ≡ true → is_of v (target c (had_by h c)) ≡ true → is_none k ≡ false
 target-made h m (cmd.Accept vac p) v k law agrees done here = unmade-is k h v agrees ∙ ap (λ x. is_none (vacancy_of h x)) (sym (same_number vac v here)) ∙ made-settled h vac p _ (vacancy_of h vac) done
 target-made h m (cmd.Decline vac p) v k law agrees done here = unmade-is k h v agrees ∙ ap (λ x. is_none (vacancy_of h x)) (sym (same_number vac v here)) ∙ made-settled h vac p _ (vacancy_of h vac) done
@@ -98,57 +97,51 @@ can-make h m other under numbers are done = tt
 
 -- ---- what is kept goes on as what is said does
 
-made-follows : (h : History) (job : JobValue) (k : KeptVacancy) → IsMade job k → VacancyFollows (persons h) h job.vac (cmd.Vacancy job) None (Some k)
+made-follows : (h : History) (job : JobValue) (k : KeptVacancy) → IsMade job k → VacancyFollows h job.vac (cmd.Vacancy job) None (Some k)
 made-follows h job k made = record {
   job = ap Some made.job ∙ rw (same job.vac) refl;
   state = made.state;
-  turned = λ q. none (place_among (persons h) q);
-  behind = λ i above. made.turned i;
 }
-  where
-    none : (place : Option ℕ) → option_map_or (has_in (Some k)) place false ≡ (option_map_or (has_in None) place false || false)
-    none None = refl
-    none (Some i) = made.turned i
 
 -- where the command makes a vacancy
-make-follows : (h : History) (job : JobValue) (under later : ℕ → Option KeptVacancy) (v : ℕ) → TakenIsAssigned h → HasIsAssigned h → under job.vac ≡ None
-    → IsVacancy (under v) h v → Makes (cmd.Vacancy job) under later → VacancyFollows (persons h) h v (cmd.Vacancy job) (under v) (later v)
-make-follows h job under later v law has new agrees made = go (nat_eq job.vac v) refl (made.1.1 v)
+make-follows : (h : History) (job : JobValue) (under later : ℕ → Option KeptVacancy) (v : ℕ) → TakenIsAssigned h → under job.vac ≡ None
+    → IsVacancy (under v) h v → Makes (cmd.Vacancy job) under later → VacancyFollows h v (cmd.Vacancy job) (under v) (later v)
+make-follows h job under later v law new agrees made = go (nat_eq job.vac v) refl (made.1.1 v)
   where
-    go : (here : Bool) → nat_eq job.vac v ≡ here → later v ≡ cond here (Some made.0) (under v) → VacancyFollows (persons h) h v (cmd.Vacancy job) (under v) (later v)
-    go true here is = rw is (subst (λ x. VacancyFollows (persons h) h x (cmd.Vacancy job) (under x) (Some made.0)) (same_number job.vac v here)
+    go : (here : Bool) → nat_eq job.vac v ≡ here → later v ≡ cond here (Some made.0) (under v) → VacancyFollows h v (cmd.Vacancy job) (under v) (later v)
+    go true here is = rw is (subst (λ x. VacancyFollows h x (cmd.Vacancy job) (under x) (Some made.0)) (same_number job.vac v here)
         (rw new (made-follows h job made.0 made.1.0)))
-    go false here is = rw is (other-follows h v (cmd.Vacancy job) (under v) (vacancy-said h (cmd.Vacancy job) v law has (rw here refl)) agrees)
+    go false here is = rw is (other-follows h v (cmd.Vacancy job) (under v) (vacancy-said h (cmd.Vacancy job) v law (rw here refl)) agrees)
 
 -- where it makes none
-change-follows : (h : History) (m : ℕ) (c : Cmd) (under mid later : ℕ → Option KeptVacancy) (v : ℕ) → TakenIsAssigned h → HasIsAssigned h
-    → HasPlace (persons h) (turner c) → is_done (answer_to h m c) ≡ true → IsVacancy (under v) h v → makes v c ≡ None → mid v ≡ under v
-    → ChangesAt (is_of v (target c (had_by h c))) c (turner_place (persons h) c) (mid v) (later v) → VacancyFollows (persons h) h v c (under v) (later v)
-change-follows h m c under mid later v law has placed done agrees unmade made changes =
-    changed-follows h v c (is_of v (target c (had_by h c))) (under v) (later v) (vacancy-said h c v law has unmade) placed
+change-follows : (h : History) (m : ℕ) (c : Cmd) (under mid later : ℕ → Option KeptVacancy) (v : ℕ) → TakenIsAssigned h
+    → is_done (answer_to h m c) ≡ true → IsVacancy (under v) h v → makes v c ≡ None → mid v ≡ under v
+    → ChangesAt (is_of v (target c (had_by h c))) c (mid v) (later v) → VacancyFollows h v c (under v) (later v)
+change-follows h m c under mid later v law done agrees unmade made changes =
+    changed-follows h v c (is_of v (target c (had_by h c))) (under v) (later v) (vacancy-said h c v law unmade)
     (target-made h m c v (under v) law agrees done) agrees
-    (subst (λ k. ChangesAt (is_of v (target c (had_by h c))) c (turner_place (persons h) c) k (later v)) made changes)
+    (subst (λ k. ChangesAt (is_of v (target c (had_by h c))) c k (later v)) made changes)
 
-keeps-follow : (h : History) (m : ℕ) (c : Cmd) (under mid later : ℕ → Option KeptVacancy) (numbers : List ℕ) (v : ℕ) → TakenIsAssigned h → HasIsAssigned h
-    → HasPlace (persons h) (turner c) → is_done (answer_to h m c) ≡ true → IsVacancy (under v) h v → CanMake (makes_any c) under numbers → Makes c under mid
-    → ChangesAt (is_of v (target c (had_by h c))) c (turner_place (persons h) c) (mid v) (later v) → VacancyFollows (persons h) h v c (under v) (later v)
-keeps-follow h m (cmd.Vacancy job) under mid later numbers v law has placed done agrees can made changes =
-    rw changes (make-follows h job under mid v law has can.0 agrees made)
-keeps-follow h m other under mid later numbers v law has placed done agrees can made changes = change-follows h m other under mid later v law has placed done agrees refl (made v) changes
+keeps-follow : (h : History) (m : ℕ) (c : Cmd) (under mid later : ℕ → Option KeptVacancy) (numbers : List ℕ) (v : ℕ) → TakenIsAssigned h
+    → is_done (answer_to h m c) ≡ true → IsVacancy (under v) h v → CanMake (makes_any c) under numbers → Makes c under mid
+    → ChangesAt (is_of v (target c (had_by h c))) c (mid v) (later v) → VacancyFollows h v c (under v) (later v)
+keeps-follow h m (cmd.Vacancy job) under mid later numbers v law done agrees can made changes =
+    rw changes (make-follows h job under mid v law can.0 agrees made)
+keeps-follow h m other under mid later numbers v law done agrees can made changes = change-follows h m other under mid later v law done agrees refl (made v) changes
 
 -- after a command that was done the register keeps what the longer history says
-pub vacancies-keep : (h : History) (e : EntryValue) (c : Cmd) (had place : Option ℕ) (under mid later : ℕ → Option KeptVacancy) (numbers after : List ℕ)
-    → Comes h e → ((v : ℕ) → state_of (with_entry h e) v ≡ state_after v e (state_of h v)) → TakenIsAssigned h → HasIsAssigned h → IsNext h e → IsDone e c
-    → had ≡ had_by h c → place ≡ turner_place (persons h) c → HasPlace (persons h) (turner c) → AreVacancies under numbers h
-    → (CanMake (makes_any c) under numbers → Makes c under mid) → Changes c had place mid later
+pub vacancies-keep : (h : History) (e : EntryValue) (c : Cmd) (had : Option ℕ) (under mid later : ℕ → Option KeptVacancy) (numbers after : List ℕ)
+    → Comes h e → ((v : ℕ) → state_of (with_entry h e) v ≡ state_after v e (state_of h v)) → TakenIsAssigned h → IsNext h e → IsDone e c
+    → had ≡ had_by h c → AreVacancies under numbers h
+    → (CanMake (makes_any c) under numbers → Makes c under mid) → Changes c had mid later
     → (CanMake (makes_any c) under numbers → after ≡ numbers ++ cons_option (makes_any c) []) → AreVacancies later after (with_entry h e)
-vacancies-keep h e c had place under mid later numbers after comes states law has next is had_is place_is placed are makes_it changes after_is =
+vacancies-keep h e c had under mid later numbers after comes states law next is had_is are makes_it changes after_is =
     let done = done-answer h e c next is in
     let can = can-make h e.moment c under numbers are done in
     record {
       each = λ v. vacancy-follows h e c v (under v) (later v) comes (states v) is (are.each v)
-          (keeps-follow h e.moment c under mid later numbers v law has placed done (are.each v) can (makes_it can)
-          (subst (λ x. ChangesAt (is_of v (target c (had_by h c))) c x (mid v) (later v)) place_is (subst (λ x. ChangesAt (is_of v (target c x)) c place (mid v) (later v)) had_is (changes v))));
+          (keeps-follow h e.moment c under mid later numbers v law done (are.each v) can (makes_it can)
+          (subst (λ x. ChangesAt (is_of v (target c x)) c (mid v) (later v)) had_is (changes v)));
       order = after_is can ∙ ap (λ vs. vs ++ cons_option (makes_any c) []) are.order
           ∙ ap (λ o. vacancies h ++ cons_option o []) (sym (said-done makes_any e c is)) ∙ sym comes.vacancies;
     }

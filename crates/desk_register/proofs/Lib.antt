@@ -13,4 +13,5 @@ mod VacancyLemmas
 mod KeepLemmas
 mod BoardLemmas
 mod StayLemmas
+mod TurnedLemmas
 mod RegisterLemmas

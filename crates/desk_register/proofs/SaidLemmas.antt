@@ -1,5 +1,5 @@
 -- What a command says of a vacancy, beside what it makes of what is kept of it.
-use Rattle.std.proofs.Common.{◌≡◌, ℕ, Bool, true, false, ◌&&◌, cond, nat_eq, None, Some, is_some, refl, sym, ap, ◌∙◌, subst}
+use Rattle.std.proofs.Common.{◌≡◌, ℕ, Bool, true, false, cond, nat_eq, None, refl, sym, ap, ◌∙◌}
 use Rattle.std.proofs.lemmas.Bool.{false≢true}
 use Rattle.std.specs.Prelude.{if◌then◌else◌}
 use Rattle.duty_events.specs.declared.event.Event.{Event}
@@ -12,9 +12,8 @@ use Rattle.desk_model.specs.Register.{makes}
 use Rattle.desk_model.specs.Offers.{is_of}
 use Rattle.desk_model.specs.Assigned.{reports, is_assigned, assigned}
 use Rattle.desk_model.specs.States.{state_of}
-use Rattle.desk_model.specs.TurnedDown.{turns_down}
 use Rattle.desk_model.specs.Comes.{given_up, started, state_by}
-use Rattle.desk_register.specs.Vacancies.{target, state_then, turner, had_by}
+use Rattle.desk_register.specs.Vacancies.{target, state_then, had_by}
 use Rattle.desk_register.proofs.PersonLemmas.{same, same_number}
 use Rattle.desk_register.proofs.RosterLemmas.{TakenIsAssigned, is-some}
 
@@ -24,12 +23,8 @@ HasIsAssigned h = (v p : ℕ) → is_assigned h p v ≡ is_of v (assigned h p)
 
 -- of the vacancy whose state the command changes this is said, and of another one nothing
 abbrev pub Said : Bool → History → Cmd → ℕ → Type 0
-Said true h c v = (makes v c ≡ None) × ((state_by v c (state_of h v) ≡ state_then c (state_of h v)) × ((q : ℕ) → is_some (turns_down v q h c) ≡ is_of q (turner c)))
-Said false h c v = (makes v c ≡ None) × ((state_by v c (state_of h v) ≡ state_of h v) × ((q : ℕ) → is_some (turns_down v q h c) ≡ false))
-
-some-if : (b : Bool) (p : ℕ) → is_some (cond b (Some p) None) ≡ b
-some-if true p = refl
-some-if false p = refl
+Said true h c v = (makes v c ≡ None) × (state_by v c (state_of h v) ≡ state_then c (state_of h v))
+Said false h c v = (makes v c ≡ None) × (state_by v c (state_of h v) ≡ state_of h v)
 
 -- a command of a vacancy by its number
 named-said : (h : History) (c : Cmd) (v vac : ℕ) → ((here : Bool) → nat_eq vac v ≡ here → Said here h c v) → Said (nat_eq vac v) h c v
@@ -65,53 +60,45 @@ not-taken h p v law other taken = sym other ∙ ap (is_of v) ((law v p).1 taken)
 has-taken : (h : History) (p v : ℕ) → TakenIsAssigned h → is_of v (assigned h p) ≡ true → state_of h v ≡ state.Taken p
 has-taken h p v law mine = (law v p).0 (is-some (assigned h p) v mine)
 
-drop-said : (h : History) (p v : ℕ) → TakenIsAssigned h → HasIsAssigned h → (here : Bool) → is_of v (assigned h p) ≡ here → Said here h (cmd.Drop p) v
-drop-said h p v law has true here = (refl, (rw (has-taken h p v law here, same p) refl, λ q. turned q (nat_eq p q) refl))
-  where
-    turned : (q : ℕ) (mine : Bool) → nat_eq p q ≡ mine → is_some (cond (mine && is_assigned h q v) (Some q) None) ≡ mine
-    turned q true mine = let is : is_assigned h q v ≡ true = has v q ∙ subst (λ x. is_of v (assigned h x) ≡ true) (same_number p q mine) here in rw is refl
-    turned q false mine = refl
-drop-said h p v law has false here = (refl, (not-given_up p (state_of h v) (not-taken h p v law here), λ q. turned q (nat_eq p q) refl))
-  where
-    turned : (q : ℕ) (mine : Bool) → nat_eq p q ≡ mine → is_some (cond (mine && is_assigned h q v) (Some q) None) ≡ false
-    turned q true mine = let is : is_assigned h q v ≡ false = has v q ∙ subst (λ x. is_of v (assigned h x) ≡ false) (same_number p q mine) here in rw is refl
-    turned q false mine = refl
+drop-said : (h : History) (p v : ℕ) → TakenIsAssigned h → (here : Bool) → is_of v (assigned h p) ≡ here → Said here h (cmd.Drop p) v
+drop-said h p v law true here = (refl, rw (has-taken h p v law here, same p) refl)
+drop-said h p v law false here = (refl, not-given_up p (state_of h v) (not-taken h p v law here))
 
 happened-said : (h : History) (p v : ℕ) (e : Event) → TakenIsAssigned h → (report here : Bool) → reports e ≡ report → is_of v (cond report (assigned h p) None) ≡ here
     → Said here h (cmd.Happened p e) v
-happened-said h p v e law true true report here = (refl, (rw (report, has-taken h p v law here, same p) refl, λ q. refl))
-happened-said h p v e law true false report here = (refl, (rw report (not-started p (state_of h v) (not-taken h p v law here)), λ q. refl))
+happened-said h p v e law true true report here = (refl, rw (report, has-taken h p v law here, same p) refl)
+happened-said h p v e law true false report here = (refl, rw report (not-started p (state_of h v) (not-taken h p v law here)))
 happened-said h p v e law false true report here = absurd (false≢true here)
-happened-said h p v e law false false report here = (refl, (rw report refl, λ q. refl))
+happened-said h p v e law false false report here = (refl, rw report refl)
 
 -- what a command that makes no vacancy says of one
-pub vacancy-said : (h : History) (c : Cmd) (v : ℕ) → TakenIsAssigned h → HasIsAssigned h → makes v c ≡ None → Said (is_of v (target c (had_by h c))) h c v
-vacancy-said h (cmd.Accept vac p) v law has unmade = named-said h (cmd.Accept vac p) v vac (λ here is. said here is)
+pub vacancy-said : (h : History) (c : Cmd) (v : ℕ) → TakenIsAssigned h → makes v c ≡ None → Said (is_of v (target c (had_by h c))) h c v
+vacancy-said h (cmd.Accept vac p) v law unmade = named-said h (cmd.Accept vac p) v vac (λ here is. said here is)
   where
     said : (here : Bool) → nat_eq vac v ≡ here → Said here h (cmd.Accept vac p) v
-    said true is = (refl, (rw is refl, λ q. refl))
-    said false is = (refl, (rw is refl, λ q. refl))
-vacancy-said h (cmd.Decline vac p) v law has unmade = named-said h (cmd.Decline vac p) v vac (λ here is. said here is)
+    said true is = (refl, rw is refl)
+    said false is = (refl, rw is refl)
+vacancy-said h (cmd.Decline vac p) v law unmade = named-said h (cmd.Decline vac p) v vac (λ here is. said here is)
   where
     said : (here : Bool) → nat_eq vac v ≡ here → Said here h (cmd.Decline vac p) v
-    said true is = (refl, (rw is refl, λ q. rw is (some-if (nat_eq p q) q)))
-    said false is = (refl, (rw is refl, λ q. rw is refl))
-vacancy-said h (cmd.NoAnswer vac p) v law has unmade = named-said h (cmd.NoAnswer vac p) v vac (λ here is. said here is)
+    said true is = (refl, rw is refl)
+    said false is = (refl, rw is refl)
+vacancy-said h (cmd.NoAnswer vac p) v law unmade = named-said h (cmd.NoAnswer vac p) v vac (λ here is. said here is)
   where
     said : (here : Bool) → nat_eq vac v ≡ here → Said here h (cmd.NoAnswer vac p) v
-    said true is = (refl, (rw is refl, λ q. rw is (some-if (nat_eq p q) q)))
-    said false is = (refl, (rw is refl, λ q. rw is refl))
-vacancy-said h (cmd.Withdraw vac p) v law has unmade = named-said h (cmd.Withdraw vac p) v vac (λ here is. said here is)
+    said true is = (refl, rw is refl)
+    said false is = (refl, rw is refl)
+vacancy-said h (cmd.Withdraw vac p) v law unmade = named-said h (cmd.Withdraw vac p) v vac (λ here is. said here is)
   where
     said : (here : Bool) → nat_eq vac v ≡ here → Said here h (cmd.Withdraw vac p) v
-    said true is = (refl, (rw is refl, λ q. refl))
-    said false is = (refl, (rw is refl, λ q. refl))
-vacancy-said h (cmd.Annul vac) v law has unmade = named-said h (cmd.Annul vac) v vac (λ here is. said here is)
+    said true is = (refl, rw is refl)
+    said false is = (refl, rw is refl)
+vacancy-said h (cmd.Annul vac) v law unmade = named-said h (cmd.Annul vac) v vac (λ here is. said here is)
   where
     said : (here : Bool) → nat_eq vac v ≡ here → Said here h (cmd.Annul vac) v
-    said true is = (refl, (rw is refl, λ q. refl))
-    said false is = (refl, (rw is refl, λ q. refl))
-vacancy-said h (cmd.Drop p) v law has unmade = drop-said h p v law has (is_of v (assigned h p)) refl
-vacancy-said h (cmd.Happened p e) v law has unmade = happened-said h p v e law (reports e) (is_of v (if reports e then assigned h p else None)) refl refl
-vacancy-said h (cmd.Vacancy job) v law has unmade = (unmade, (refl, λ q. refl))
-vacancy-said h other v law has unmade = (refl, (refl, λ q. refl))
+    said true is = (refl, rw is refl)
+    said false is = (refl, rw is refl)
+vacancy-said h (cmd.Drop p) v law unmade = drop-said h p v law (is_of v (assigned h p)) refl
+vacancy-said h (cmd.Happened p e) v law unmade = happened-said h p v e law (reports e) (is_of v (if reports e then assigned h p else None)) refl refl
+vacancy-said h (cmd.Vacancy job) v law unmade = (unmade, refl)
+vacancy-said h other v law unmade = (refl, refl)

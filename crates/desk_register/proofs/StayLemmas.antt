@@ -18,7 +18,7 @@ use Rattle.desk_model.specs.Duty.{closes}
 use Rattle.desk_model.specs.Marks.{marks}
 use Rattle.desk_model.specs.Offers.{is_of, asks_for, offer_in, on_offer}
 use Rattle.desk_model.specs.States.{state_of}
-use Rattle.desk_model.specs.TurnedDown.{turns_down}
+use Rattle.desk_model.specs.TurnedDown.{turns_down, has_turned_down}
 use Rattle.desk_model.specs.NextAnswer.{known_answer}
 use Rattle.desk_model.specs.OfferAnswer.{offer_made_answer}
 use Rattle.desk_model.specs.Comes.{Comes, state_after, on_offer_after}
@@ -28,7 +28,8 @@ use Rattle.desk_register.specs.Changes.{with_offer, put_under}
 use Rattle.desk_register.specs.Persons.{offered_in, IsPerson, ArePersons}
 use Rattle.desk_register.specs.Boards.{AreBoards}
 use Rattle.desk_register.specs.Among.{place_among}
-use Rattle.desk_register.specs.Vacancies.{turned_in, has_in, IsVacancy, AreVacancies, offered_vac, offered_person, on_offer_to}
+use Rattle.desk_register.specs.TurnedDown.{turned_for, AreTurned}
+use Rattle.desk_register.specs.Vacancies.{IsVacancy, AreVacancies, offered_vac, offered_person, on_offer_to}
 use Rattle.desk_register.specs.declared.kept_person.KeptPerson.{KeptPerson}
 use Rattle.desk_register.specs.declared.kept_vacancy.KeptVacancy.{KeptVacancy}
 use Rattle.desk_register.proofs.PersonLemmas.{same, same_number, or_false, option_or-none}
@@ -90,21 +91,26 @@ boards-stay h e under codes comes refused are = record {
 
 -- a vacancy whose state is kept anew, after an entry that was not done
 vacancy-stays : (h : History) (e : EntryValue) (v : ℕ) (k later : Option KeptVacancy) → Comes h e → is_done e.reply ≡ false
-    → option_map (λ x. x.job) later ≡ option_map (λ x. x.job) k → ((i : ℕ) → has_in later i ≡ has_in k i)
+    → option_map (λ x. x.job) later ≡ option_map (λ x. x.job) k
     → option_map_or (λ x. x.state) later state.Vacant ≡ state_of (with_entry h e) v → IsVacancy k h v → IsVacancy later (with_entry h e) v
-vacancy-stays h e v k later comes refused same_job same_turned stands is =
+vacancy-stays h e v k later comes refused same_job stands is = record {
+  job = same_job ∙ is.job ∙ option_or-none (vacancy_of h v) ∙ sym (comes.vacancy v ∙ rw (said-refused (makes v) e refused) refl);
+  state = stands;
+}
+
+-- who has turned which vacancy down
+pub turned-stays : (h : History) (e : EntryValue) (at : ℕ → ℕ → Bool) → Comes h e → is_done e.reply ≡ false → AreTurned at h → AreTurned at (with_entry h e)
+turned-stays h e at comes refused are =
     let same_persons : persons (with_entry h e) ≡ persons h = comes.persons ∙ none-more enrols_any e (persons h) refused in
+    let same_vacancies : vacancies (with_entry h e) ≡ vacancies h = comes.vacancies ∙ none-more makes_any e (vacancies h) refused in
     record {
-      job = same_job ∙ is.job ∙ option_or-none (vacancy_of h v) ∙ sym (comes.vacancy v ∙ rw (said-refused (makes v) e refused) refl);
-      state = stands;
-      turned = λ p. ap (λ ns. turned_in ns later p) same_persons ∙ turned (place_among (persons h) p) ∙ is.turned p ∙ or_false _
+      each = λ p v.
+          ap (λ ns. turned_for at (place_among ns p) (place_among (vacancies (with_entry h e)) v)) same_persons
+          ∙ ap (λ vs. turned_for at (place_among (persons h) p) (place_among vs v)) same_vacancies ∙ are.each p v ∙ or_false (has_turned_down h v p)
           ∙ sym (comes.turned_down v p ∙ rw (said-refused (turns_down v p h) e refused) refl);
-      behind = λ i above. same_turned i ∙ is.behind i (subst (λ ns. length ns ≤ i) same_persons above);
+      behind = λ i j above. are.behind i j (subst (λ ns. length ns ≤ i) same_persons above);
+      beyond = λ i j above. are.beyond i j (subst (λ vs. length vs ≤ j) same_vacancies above);
     }
-  where
-    turned : (place : Option ℕ) → option_map_or (has_in later) place false ≡ option_map_or (has_in k) place false
-    turned None = refl
-    turned (Some i) = same_turned i
 
 -- ---- offers
 
@@ -142,7 +148,7 @@ pub vacancies-stay : (h : History) (e : EntryValue) (under : ℕ → Option Kept
     → ((v : ℕ) → state_of (with_entry h e) v ≡ state_after v e (state_of h v)) → is_done e.reply ≡ false → offered_vac e ≡ None
     → AreVacancies under numbers h → AreVacancies under numbers (with_entry h e)
 vacancies-stay h e under numbers comes states refused none are = record {
-  each = λ v. vacancy-stays h e v (under v) (under v) comes refused refl (λ i. refl)
+  each = λ v. vacancy-stays h e v (under v) (under v) comes refused refl
       ((are.each v).state ∙ sym (states v ∙ state-stays e v (state_of h v) refused (ap (is_of v) none))) (are.each v);
   order = are.order ∙ sym (comes.vacancies ∙ none-more makes_any e (vacancies h) refused);
 }
@@ -161,21 +167,17 @@ vacancies-offered h e vac p under later numbers comes states next refused of to 
     job-stays None = refl
     job-stays (Some k) = refl
 
-    turned-stays : (k : Option KeptVacancy) (i : ℕ) → has_in (option_map (on_offer_to p) k) i ≡ has_in k i
-    turned-stays None i = refl
-    turned-stays (Some k) i = refl
-
     stands : (k : Option KeptVacancy) → is_none k ≡ false → option_map_or (λ x. x.state) (option_map (on_offer_to p) k) state.Vacant ≡ state.OnOffer p
     stands None known = absurd (false≢true (sym known))
     stands (Some k) known = refl
 
     each : (v : ℕ) (here : Bool) → nat_eq vac v ≡ here → later v ≡ cond here (option_map (on_offer_to p) (under v)) (under v) → IsVacancy (later v) (with_entry h e) v
-    each v true here is = vacancy-stays h e v (under v) (later v) comes refused (ap (option_map (λ x. x.job)) is ∙ job-stays (under v)) (λ i. ap (λ k. has_in k i) is ∙ turned-stays (under v) i)
+    each v true here is = vacancy-stays h e v (under v) (later v) comes refused (ap (option_map (λ x. x.job)) is ∙ job-stays (under v))
         (ap (λ k. option_map_or (λ x. x.state) k state.Vacant) is
         ∙ stands (under v) (unmade-is (under v) h v (are.each v) ∙ offered-made h e v next (of ∙ ap Some (same_number vac v here)))
         ∙ sym (states v ∙ state-offered e v p (state_of h v) refused (ap (is_of v) of ∙ here) (ap (is_of p) to ∙ same p)))
         (are.each v)
-    each v false here is = vacancy-stays h e v (under v) (later v) comes refused (ap (option_map (λ x. x.job)) is) (λ i. ap (λ k. has_in k i) is)
+    each v false here is = vacancy-stays h e v (under v) (later v) comes refused (ap (option_map (λ x. x.job)) is)
         (ap (λ k. option_map_or (λ x. x.state) k state.Vacant) is ∙ (are.each v).state
         ∙ sym (states v ∙ state-stays e v (state_of h v) refused (ap (is_of v) of ∙ here)))
         (are.each v)

@@ -43,12 +43,12 @@ get-changed_at m i k v change unique at here q = get-with_value_at m i k (change
     go false is = refl
 
 -- and where it is changed by a command
-pub Changes-with_value_at : {S : Type 0} (m : IndexMap ℕ KeptVacancy S) (i k : ℕ) (v w : KeptVacancy) (c : Cmd) (had place : Option ℕ) → IsUnique nat_eq m → place_among (keys m) k ≡ Some i
-    → Some v ≡ slice_get (values m) i → target c had ≡ Some k → IsChanged c place v w → Changes c had place (get nat_eq m) (get nat_eq (with_value_at m i w))
-Changes-with_value_at m i k v w c had place unique at here names changed q = rw names (go (nat_eq k q) refl)
+pub Changes-with_value_at : {S : Type 0} (m : IndexMap ℕ KeptVacancy S) (i k : ℕ) (v w : KeptVacancy) (c : Cmd) (had : Option ℕ) → IsUnique nat_eq m → place_among (keys m) k ≡ Some i
+    → Some v ≡ slice_get (values m) i → target c had ≡ Some k → IsChanged c v w → Changes c had (get nat_eq m) (get nat_eq (with_value_at m i w))
+Changes-with_value_at m i k v w c had unique at here names changed q = rw names (go (nat_eq k q) refl)
   where
-    go : (b : Bool) → nat_eq k q ≡ b → ChangesAt b c place (get nat_eq m q) (get nat_eq (with_value_at m i w) q)
+    go : (b : Bool) → nat_eq k q ≡ b → ChangesAt b c (get nat_eq m q) (get nat_eq (with_value_at m i w) q)
     go true is =
         let now : get nat_eq (with_value_at m i w) q ≡ Some w = get-with_value_at m i k w unique at q ∙ ap (λ b. if b then Some w else get nat_eq m q) is in
-        subst (λ x. BecomesBy c place x (get nat_eq (with_value_at m i w) q)) (sym (kept-at m i k v at here q is)) (w, (now, changed))
+        subst (λ x. BecomesBy c x (get nat_eq (with_value_at m i w) q)) (sym (kept-at m i k v at here q is)) (w, (now, changed))
     go false is = get-with_value_at m i k w unique at q ∙ ap (λ b. if b then Some w else get nat_eq m q) is

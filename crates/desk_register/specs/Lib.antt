@@ -4,5 +4,6 @@ pub mod Done
 pub mod Places
 pub mod Among
 pub mod Vacancies
+pub mod TurnedDown
 pub mod Boards
 pub mod Register

@@ -1,5 +1,5 @@
 -- What is kept of vacancies, beside what a history says of them.
-use Rattle.std.specs.Prelude.{◌≡◌, ℕ, ◌≤◌, ◌<◌, Bool, true, false, ◌||◌, nat_eq, Option, None, Some, is_none, if◌then◌else◌, List, length}
+use Rattle.std.specs.Prelude.{◌≡◌, ℕ, ◌<◌, Bool, true, false, nat_eq, Option, None, Some, if◌then◌else◌, List, length}
 use Rattle.std.specs.Option.{option_map, option_map_or, option_and_then}
 use Rattle.desk_register.specs.Among.{place_among}
 use Rattle.indexmap.specs.IndexMap.{get, keys}
@@ -11,30 +11,17 @@ use Rattle.desk_model.specs.declared.vac_state.VacState.{VacState}
 use Rattle.desk_model.specs.declared.vac_state.VacState.TheVariants as state
 use Rattle.desk_model.specs.Entry.{EntryValue}
 use Rattle.desk_model.specs.History.{History}
-use Rattle.desk_model.specs.Register.{vacancy_of, vacancies, persons}
+use Rattle.desk_model.specs.Register.{vacancy_of, vacancies}
 use Rattle.desk_model.specs.Offers.{is_of, asks_for, offer_in}
 use Rattle.desk_model.specs.Assigned.{reports, assigned}
 use Rattle.desk_model.specs.States.{state_of}
-use Rattle.desk_model.specs.TurnedDown.{has_turned_down}
-use Rattle.desk_register.specs.Places.{has_place}
 use Rattle.desk_register.specs.declared.vacancies.Vacancies.{Vacancies}
 use Rattle.desk_register.specs.declared.kept_vacancy.KeptVacancy.{KeptVacancy}
 
--- the place is kept as one whose person has turned the vacancy down, and so is this person's
-abbrev pub has_in : Option KeptVacancy → ℕ → Bool
-has_in None i = false
-has_in (Some k) i = has_place k.turned_down.words i
-
-abbrev pub turned_in : List ℕ → Option KeptVacancy → ℕ → Bool
-turned_in numbers k p = option_map_or (has_in k) (place_among numbers p) false
-
--- what is kept under a vacancy's number is what the history says of it; nothing is kept of one that was never made, and no place
--- behind the last person's
+-- what is kept under a vacancy's number is what the history says of it; nothing is kept of one that was never made
 pub record IsVacancy (k : Option KeptVacancy) (h : History) (v : ℕ) : Type 0 where
   pub job : option_map (λ x. x.job) k ≡ vacancy_of h v
   pub state : option_map_or (λ x. x.state) k state.Vacant ≡ state_of h v
-  pub turned : (p : ℕ) → turned_in (persons h) k p ≡ has_turned_down h v p
-  pub behind : (i : ℕ) → length (persons h) ≤ i → has_in k i ≡ false
 
 -- that holds of every number, and the numbers that something is kept under are the vacancies, in the order in which they came
 pub record AreVacancies (under : ℕ → Option KeptVacancy) (numbers : List ℕ) (h : History) : Type 0 where
@@ -72,11 +59,10 @@ turner (cmd.NoAnswer vac person) = Some person
 turner (cmd.Drop person) = Some person
 turner other = None
 
--- that is so of what is kept, where this is the place of who turns it down
-pub record IsChanged (c : Cmd) (place : Option ℕ) (k later : KeptVacancy) : Type 0 where
+-- that is so of what is kept
+pub record IsChanged (c : Cmd) (k later : KeptVacancy) : Type 0 where
   pub job : later.job ≡ k.job
   pub state : later.state ≡ state_then c k.state
-  pub turned : (i : ℕ) → has_place later.turned_down.words i ≡ (has_place k.turned_down.words i || is_of i place)
 
 -- ---- and under each number
 
@@ -84,7 +70,6 @@ pub record IsChanged (c : Cmd) (place : Option ℕ) (k later : KeptVacancy) : Ty
 pub record IsMade (job_is : JobValue) (k : KeptVacancy) : Type 0 where
   pub job : k.job ≡ job_is
   pub state : k.state ≡ state.Vacant
-  pub turned : (i : ℕ) → has_place k.turned_down.words i ≡ false
 
 -- a vacancy that is to be made is new, and there is room
 abbrev pub CanMake : Option ℕ → (ℕ → Option KeptVacancy) → List ℕ → Type 0
@@ -97,17 +82,17 @@ Makes (cmd.Vacancy job) under later = (k : KeptVacancy) × (IsMade job k × ((v 
 Makes other under later = (v : ℕ) → later v ≡ under v
 
 -- of a vacancy that was made so much is so, and nothing of another
-abbrev pub BecomesBy : Cmd → Option ℕ → Option KeptVacancy → Option KeptVacancy → Type 0
-BecomesBy c place None later = later ≡ None
-BecomesBy c place (Some k) later = (x : KeptVacancy) × ((later ≡ Some x) × IsChanged c place k x)
+abbrev pub BecomesBy : Cmd → Option KeptVacancy → Option KeptVacancy → Type 0
+BecomesBy c None later = later ≡ None
+BecomesBy c (Some k) later = (x : KeptVacancy) × ((later ≡ Some x) × IsChanged c k x)
 
-abbrev pub ChangesAt : Bool → Cmd → Option ℕ → Option KeptVacancy → Option KeptVacancy → Type 0
-ChangesAt false c place k later = later ≡ k
-ChangesAt true c place k later = BecomesBy c place k later
+abbrev pub ChangesAt : Bool → Cmd → Option KeptVacancy → Option KeptVacancy → Type 0
+ChangesAt false c k later = later ≡ k
+ChangesAt true c k later = BecomesBy c k later
 
 -- the vacancy whose state a command changes is changed, and no other
-abbrev pub Changes : Cmd → Option ℕ → Option ℕ → (ℕ → Option KeptVacancy) → (ℕ → Option KeptVacancy) → Type 0
-Changes c had place under later = (v : ℕ) → ChangesAt (is_of v (target c had)) c place (under v) (later v)
+abbrev pub Changes : Cmd → Option ℕ → (ℕ → Option KeptVacancy) → (ℕ → Option KeptVacancy) → Type 0
+Changes c had under later = (v : ℕ) → ChangesAt (is_of v (target c had)) c (under v) (later v)
 
 -- from whom a command may take what is assigned to them, and what that is
 abbrev pub giver : Cmd → Option ℕ
@@ -121,11 +106,6 @@ had_by h c = option_and_then (assigned h) (giver c)
 -- the place of who turns a vacancy down by a command
 abbrev pub turner_place : List ℕ → Cmd → Option ℕ
 turner_place numbers c = option_and_then (place_among numbers) (turner c)
-
--- who turns a vacancy down has a place
-abbrev pub HasPlace : List ℕ → Option ℕ → Type 0
-HasPlace numbers None = Unit
-HasPlace numbers (Some p) = is_none (place_among numbers p) ≡ false
 
 -- what is kept under a number, and under which something is, in the order in which these came
 abbrev pub vacancy_under : Vacancies → ℕ → Option KeptVacancy

@@ -8,19 +8,12 @@ ghost use Rattle.desk_model.specs.declared.limits.TheConstants.{BOARD_LIMIT};
 
 use crate::add_last::add_last;
 use crate::boards::Boards;
-use crate::find_in::find_in;
+use crate::find_in::{HINT_BITS, find_in};
 use crate::placed::Placed;
 use desk_base::{Code, NoMemory, PlaceHints};
 use desk_model::{BOARD_LIMIT, BoardSetup};
 use indexmap::IndexMap;
 use std::alloc::Global;
-
-// The number by which a code's hint is found.
-fn hint_number(code: &Code) -> u32 {
-    code.text().iter().fold(0_u32, |number, byte| {
-        number.wrapping_mul(31).wrapping_add(u32::from(*byte))
-    })
-}
 
 impl Boards {
     /// No boards, with memory for 64; `NoMemory` where there is none for them.
@@ -29,7 +22,7 @@ impl Boards {
         ensures keys { IfOk result (λ r. board_codes r ≡ []) }
     {
         let kept = IndexMap::with_capacity(alloc, BOARD_LIMIT)?;
-        let hints = PlaceHints::new(alloc)?;
+        let hints = PlaceHints::new(alloc, HINT_BITS)?;
         Ok(Boards { kept, hints })
     }
 
@@ -39,7 +32,7 @@ impl Boards {
         ensures setup { option_map (λ x. x.value.now) result ≡ board_under self.now board.now }
         ensures range { IfSome result (λ x. x.place < BOARD_LIMIT) }
     {
-        find_in(&self.kept, board, self.hints.of(hint_number(board)))
+        find_in(&self.kept, board, self.hints.of(board.hint_number()))
     }
 
     /// What the board was set up as; `None` where the code is no board.
@@ -81,7 +74,7 @@ impl Boards {
         ensures under { (b : List ℕ) → board_under self.new b ≡ (if bytes_eq board b then Some setup else board_under self.old b) }
         ensures keys { board_codes self.new ≡ board_codes self.old ++ board ∷ [] }
     {
-        self.hints.set(hint_number(&board), self.kept.len());
+        self.hints.set(board.hint_number(), self.kept.len());
         add_last(&mut self.kept, board, setup);
     }
 }

@@ -6,6 +6,20 @@ use crate::placed::Placed;
 use indexmap::IndexMap;
 use std::hash::Hash;
 
+/// The hints of each map are 2^12.
+pub(crate) const HINT_BITS: u32 = 12;
+
+// What the map has under a key. It stays a call, so that the way by the hint is short where it is inlined.
+#[inline(never)]
+fn search_in<'a, K: Eq + Hash, V>(map: &'a IndexMap<K, V>, key: &K) -> Option<Placed<'a, V>>
+    ensures place { option_map (λ x. x.place) result ≡ index_of K.eq map.now key.now }
+    ensures value { option_map (λ x. x.value.now) result ≡ get K.eq map.now key.now }
+    ensures within { IfSome result (λ x. x.place < index_map_len map.now) }
+{
+    let (place, _, value) = map.get_full(key)?;
+    Some(Placed { place, value })
+}
+
 /// What is kept under a key, with its place among all; `None` exactly where nothing is. It is looked for at the hint first.
 pub(crate) fn find_in<'a, K: Eq + Hash, V>(
     map: &'a IndexMap<K, V>,
@@ -23,6 +37,5 @@ pub(crate) fn find_in<'a, K: Eq + Hash, V>(
             return Some(Placed { place: hint, value });
         }
     }
-    let (place, _, value) = map.get_full(key)?;
-    Some(Placed { place, value })
+    search_in(map, key)
 }

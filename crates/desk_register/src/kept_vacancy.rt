@@ -1,9 +1,6 @@
-ghost use Rattle.desk_model.specs.Offers.{is_of};
-ghost use Rattle.desk_register.specs.Places.{has_place};
 ghost use Rattle.desk_register.specs.Vacancies.{target, state_then, turner, giver, IsChanged};
-ghost use Rattle.std.specs.Prelude.{◌≡◌, ◌<◌, ◌||◌, ℕ, IfSome};
+ghost use Rattle.std.specs.Prelude.{◌≡◌};
 
-use crate::PlaceSet;
 use crate::kept_person::reports;
 use desk_base::{PersonNo, VacNo};
 use desk_model::{Cmd, Job, VacState};
@@ -15,8 +12,6 @@ pub struct KeptVacancy {
     pub job: Job,
     /// How it stands.
     pub state: VacState,
-    /// The places of the persons who have turned it down, among all persons in the order in which they were enrolled.
-    pub turned_down: PlaceSet,
 }
 
 // The vacancy whose state a command changes; `had` is what is assigned to the person whom the command names.
@@ -73,14 +68,10 @@ pub(crate) fn giver(cmd: &Cmd) -> Option<PersonNo>
 }
 
 impl KeptVacancy {
-    // What a command makes of the vacancy whose state it changes; `place` is that of who turns it down by the command.
-    pub(crate) fn change(&mut self, cmd: &Cmd, place: Option<usize>)
-        requires { IfSome place (λ i. i < 1_024) }
-        ensures { IsChanged cmd.now place self.old self.new }
+    // What a command makes of the vacancy whose state it changes.
+    pub(crate) fn change(&mut self, cmd: &Cmd)
+        ensures { IsChanged cmd.now self.old self.new }
     {
         self.state = state_then(cmd, self.state);
-        if let Some(place) = place {
-            self.turned_down.insert(place);
-        }
     }
 }

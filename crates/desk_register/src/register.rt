@@ -1,5 +1,6 @@
 use crate::boards::Boards;
 use crate::roster::Roster;
+use crate::turned_down::TurnedDown;
 use crate::vacancies::Vacancies;
 
 /// What a desk keeps of persons, boards and vacancies, each found by its number or code.
@@ -8,4 +9,5 @@ pub struct Register {
     pub(crate) persons: Roster,
     pub(crate) boards: Boards,
     pub(crate) vacancies: Vacancies,
+    pub(crate) turned_down: TurnedDown,
 }

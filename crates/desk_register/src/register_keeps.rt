@@ -3,18 +3,22 @@ ghost use Rattle.indexmap.specs.IndexMap.{get};
 ghost use Rattle.desk_model.specs.Opening.{OpeningValue};
 ghost use Rattle.desk_model.specs.Entry.{EntryValue};
 ghost use Rattle.desk_model.specs.History.{History, opened, with_entry, is_done};
-ghost use Rattle.desk_model.specs.Register.{persons};
+ghost use Rattle.desk_model.specs.declared.limits.TheConstants.{PERSON_LIMIT, VACANCY_LIMIT};
+ghost use Rattle.desk_model.specs.Register.{persons, vacancies};
 ghost use Rattle.desk_model.specs.TurnedDown.{has_turned_down};
 ghost use Rattle.desk_model.specs.Legal.{IsLegal, IsNext};
 ghost use Rattle.desk_register.specs.Changes.{loser, offeree};
 ghost use Rattle.desk_register.specs.Done.{IsDone};
-ghost use Rattle.desk_register.specs.Vacancies.{had_by, turner, turner_place, HasPlace, offered_vac, offered_person};
-ghost use Rattle.desk_register.specs.Register.{roster_of, boards_kept, vacancies_kept, Keeps};
+ghost use Rattle.desk_register.specs.Among.{place_among};
+ghost use Rattle.desk_register.specs.TurnedDown.{turned_vac};
+ghost use Rattle.desk_register.specs.Vacancies.{vacancy_under, had_by, turner, turner_place, offered_vac, offered_person};
+ghost use Rattle.desk_register.specs.Register.{roster_of, boards_kept, vacancies_kept, turned_down_of, Keeps};
 
 use crate::boards::Boards;
-use crate::kept_vacancy::{giver, turner};
+use crate::kept_vacancy::{giver, target, turner};
 use crate::register::Register;
 use crate::roster::Roster;
+use crate::turned_down::TurnedDown;
 use crate::vacancies::Vacancies;
 use desk_base::{NoMemory, PersonNo, VacNo};
 use desk_model::{
@@ -56,10 +60,12 @@ impl Register {
         let persons = Roster::new(alloc)?;
         let boards = Boards::new(alloc)?;
         let vacancies = Vacancies::new(alloc)?;
+        let turned_down = TurnedDown::new(alloc)?;
         Ok(Register {
             persons,
             boards,
             vacancies,
+            turned_down,
         })
     }
 
@@ -82,6 +88,13 @@ impl Register {
         ensures { result.now ≡ vacancies_kept self.now }
     {
         &self.vacancies
+    }
+
+    /// Who has turned which vacancy down.
+    pub fn turned_down(&self) -> &TurnedDown
+        ensures { result.now ≡ turned_down_of self.now }
+    {
+        &self.turned_down
     }
 
     // To whom the vacancy is assigned that the command annuls.
@@ -125,22 +138,36 @@ impl Register {
     fn turner_place(&self, cmd: &Cmd) -> Option<usize>
         ensures place { (h : History) → Keeps self.now h → result ≡ turner_place (persons h) cmd.now }
         ensures found { (p : ℕ) → turner cmd.now ≡ Some p → is_none result ≡ is_none (get nat_eq self.now.persons.kept p) }
-        ensures range { IfSome result (λ i. i < 1_024) }
+        ensures range { IfSome result (λ i. i < PERSON_LIMIT) }
     {
         self.persons.place(turner(cmd)?)
+    }
+
+    // The place of the vacancy that is turned down by the command.
+    fn turned_place(&self, cmd: &Cmd) -> Option<usize>
+        ensures place { (h : History) → Keeps self.now h → result ≡ option_and_then (place_among (vacancies h)) (turned_vac h cmd.now) }
+        ensures found { (h : History) (v : ℕ) → Keeps self.now h → turned_vac h cmd.now ≡ Some v → is_none result ≡ is_none (vacancy_under self.now.vacancies v) }
+        ensures range { IfSome result (λ j. j < VACANCY_LIMIT) }
+    {
+        turner(cmd)?;
+        self.vacancies.place(target(cmd, self.had_by(cmd))?)
     }
 
     // Keeps what a command changes that was done.
     fn change(&mut self, cmd: &Cmd)
         ensures { (h : History) (e : EntryValue) → IsLegal h → IsNext h e → IsDone e cmd.now → Keeps self.old h → Keeps self.new (with_entry h e) }
     {
+        what_an_entry_makes_of_the_desk();
+        a_vacancy_is_in_one_state();
         let lost = self.loser(cmd);
         let settled = self.offeree(cmd);
         let had = self.had_by(cmd);
-        let place = self.turner_place(cmd);
+        let turner = self.turner_place(cmd);
+        let turned = self.turned_place(cmd);
         self.persons.change(cmd, lost, settled);
         self.boards.change(cmd);
-        self.vacancies.change(cmd, had, place);
+        self.vacancies.change(cmd, had);
+        self.turned_down.keep(turner, turned);
     }
 
     /// Keeps what an entry changes, the next one of a legal history; of any other entry nothing is promised.
@@ -161,8 +188,8 @@ impl Register {
     pub fn has_turned_down(&self, vac: VacNo, person: PersonNo) -> bool
         ensures { (h : History) → Keeps self.now h → result ≡ has_turned_down h vac person }
     {
-        match (self.vacancies.get(vac), self.persons.place(person)) {
-            (Some(kept), Some(place)) => kept.turned_down.has(place),
+        match (self.persons.place(person), self.vacancies.place(vac)) {
+            (Some(person), Some(vacancy)) => self.turned_down.has(person, vacancy),
             _ => false,
         }
     }

@@ -6,7 +6,7 @@ ghost use Rattle.desk_model.specs.declared.limits.TheConstants.{PERSON_LIMIT};
 
 use crate::add_last::add_last;
 use crate::enrolled::Enrolled;
-use crate::find_in::find_in;
+use crate::find_in::{HINT_BITS, find_in};
 use crate::kept_person::KeptPerson;
 use crate::roster::Roster;
 use desk_base::{NoMemory, PersonNo, PlaceHints};
@@ -21,7 +21,7 @@ impl Roster {
         ensures keys { IfOk result (λ r. person_numbers r ≡ []) }
     {
         let kept = IndexMap::with_capacity(alloc, PERSON_LIMIT)?;
-        let hints = PlaceHints::new(alloc)?;
+        let hints = PlaceHints::new(alloc, HINT_BITS)?;
         Ok(Roster { kept, hints })
     }
 

@@ -12,4 +12,5 @@ pub struct Vacancies {
     pub(crate) kept: IndexMap<VacNo, KeptVacancy>,
     pub(crate) hints: PlaceHints,
     ghost room: { VACANCY_LIMIT ≤ index_map_len kept + spare kept },
+    ghost few: { index_map_len kept ≤ VACANCY_LIMIT },
 }

@@ -1,15 +1,14 @@
-ghost use Rattle.std.specs.Prelude.{◌≡◌, ◌<◌, ◌++◌, [], nat_eq, IfSome, ℕ, if◌then◌else◌};
+ghost use Rattle.std.specs.Prelude.{◌≡◌, ◌++◌, [], nat_eq, ℕ, if◌then◌else◌};
 ghost use Rattle.std.specs.List.{cons_option};
 ghost use Rattle.std.specs.Option.{option_map};
 ghost use Rattle.indexmap.specs.IndexMap.{get, keys};
-ghost use Rattle.desk_model.specs.Register.{makes_any, persons};
+ghost use Rattle.desk_model.specs.Register.{makes_any};
 ghost use Rattle.desk_model.specs.Entry.{EntryValue};
 ghost use Rattle.desk_model.specs.History.{History, with_entry};
 ghost use Rattle.desk_model.specs.Legal.{IsLegal, IsNext};
 ghost use Rattle.desk_register.specs.Done.{IsDone};
-ghost use Rattle.desk_register.specs.Vacancies.{IsMade, CanMake, Makes, Changes, had_by, turner, turner_place, HasPlace, on_offer_to, KeepsVacancies};
+ghost use Rattle.desk_register.specs.Vacancies.{IsMade, CanMake, Makes, Changes, had_by, on_offer_to, KeepsVacancies};
 
-use crate::PlaceSet;
 use crate::kept_vacancy::{KeptVacancy, target};
 use crate::vacancies::Vacancies;
 use desk_base::{PersonNo, VacNo};
@@ -24,7 +23,6 @@ fn made(job: Job) -> KeptVacancy
     KeptVacancy {
         job,
         state: VacState::Vacant,
-        turned_down: PlaceSet::empty(),
     }
 }
 
@@ -46,9 +44,8 @@ impl Vacancies {
     }
 
     // Changes the vacancy whose state the command changes.
-    fn change_target(&mut self, cmd: &Cmd, had: Option<VacNo>, place: Option<usize>)
-        requires { IfSome place (λ i. i < 1_024) }
-        ensures under { Changes cmd.now had place (get nat_eq self.old.kept) (get nat_eq self.new.kept) }
+    fn change_target(&mut self, cmd: &Cmd, had: Option<VacNo>)
+        ensures under { Changes cmd.now had (get nat_eq self.old.kept) (get nat_eq self.new.kept) }
         ensures keys { keys self.new.kept ≡ keys self.old.kept }
     {
         let Some(vac) = target(cmd, had) else {
@@ -59,22 +56,20 @@ impl Vacancies {
         };
         let at = found.place;
         if let Some(kept) = self.kept.get_index_mut(at) {
-            kept.change(cmd, place);
+            kept.change(cmd);
         }
     }
 
     /// Keeps what a command changes that was done. `had` is what is assigned to the person whom it names that may take it
-    /// from them, and `place` that of who turns a vacancy down by it, among all persons.
-    pub(crate) fn change(&mut self, cmd: &Cmd, had: Option<VacNo>, place: Option<usize>)
-        requires { IfSome place (λ i. i < 1_024) }
+    /// from them.
+    pub(crate) fn change(&mut self, cmd: &Cmd, had: Option<VacNo>)
         ensures { (h : History) (e : EntryValue) → IsLegal h → IsNext h e → IsDone e cmd.now → had ≡ had_by h cmd.now
-            → place ≡ turner_place (persons h) cmd.now → HasPlace (persons h) (turner cmd.now)
             → KeepsVacancies self.old h → KeepsVacancies self.new (with_entry h e) }
     {
         what_an_entry_makes_of_the_desk();
         a_vacancy_is_in_one_state();
         self.make(cmd);
-        self.change_target(cmd, had, place);
+        self.change_target(cmd, had);
     }
 
     /// Keeps that the vacancy is on offer to the person.

@@ -1,11 +1,11 @@
-ghost use Rattle.std.specs.Prelude.{◌≡◌, ◌≤◌, ◌<◌, ◌+◌, ◌++◌, ◌∷◌, [], ℕ, nat_eq, if◌then◌else◌, None, Some, IfOk, is_some, length};
+ghost use Rattle.std.specs.Prelude.{◌≡◌, ◌≤◌, ◌<◌, ◌+◌, ◌++◌, ◌∷◌, [], ℕ, nat_eq, if◌then◌else◌, None, Some, IfOk, IfSome, is_some, length};
 ghost use Rattle.std.specs.Option.{option_copied, option_map};
 ghost use Rattle.desk_register.specs.Among.{place_among};
 ghost use Rattle.desk_register.specs.Vacancies.{vacancy_under, vacancy_numbers};
 ghost use Rattle.desk_model.specs.declared.limits.TheConstants.{VACANCY_LIMIT};
 
 use crate::add_last::add_last;
-use crate::find_in::find_in;
+use crate::find_in::{HINT_BITS, find_in};
 use crate::kept_vacancy::KeptVacancy;
 use crate::placed::Placed;
 use crate::vacancies::Vacancies;
@@ -21,7 +21,7 @@ impl Vacancies {
         ensures keys { IfOk result (λ r. vacancy_numbers r ≡ []) }
     {
         let kept = IndexMap::with_capacity(alloc, VACANCY_LIMIT)?;
-        let hints = PlaceHints::new(alloc)?;
+        let hints = PlaceHints::new(alloc, HINT_BITS)?;
         Ok(Vacancies { kept, hints })
     }
 
@@ -29,6 +29,7 @@ impl Vacancies {
     pub(crate) fn find(&self, vac: VacNo) -> Option<Placed<'_, KeptVacancy>>
         ensures place { option_map (λ x. x.place) result ≡ place_among (vacancy_numbers self.now) vac }
         ensures kept { option_map (λ x. x.value.now) result ≡ vacancy_under self.now vac }
+        ensures range { IfSome result (λ x. x.place < VACANCY_LIMIT) }
     {
         find_in(&self.kept, &vac, self.hints.of(vac.number()))
     }
@@ -38,6 +39,15 @@ impl Vacancies {
         ensures { option_copied result ≡ vacancy_under self.now vac }
     {
         Some(self.find(vac)?.value)
+    }
+
+    /// The place of this vacancy among all, below 20,000; `None` where it was never made.
+    pub fn place(&self, vac: VacNo) -> Option<usize>
+        ensures place { result ≡ place_among (vacancy_numbers self.now) vac }
+        ensures range { IfSome result (λ i. i < VACANCY_LIMIT) }
+        ensures found { is_some result ≡ is_some (vacancy_under self.now vac) }
+    {
+        Some(self.find(vac)?.place)
     }
 
     /// How many were made.

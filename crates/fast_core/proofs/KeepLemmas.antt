@@ -1,9 +1,12 @@
 -- Of whom an entry tells an event, and who declines by it, it names.
-use Rattle.std.proofs.Common.{◌≡◌, ℕ, Bool, true, false, cond, Option, None, Some}
+use Rattle.std.proofs.Common.{◌≡◌, ℕ, Bool, true, false, cond, ◌++◌, [], append-nil, Option, None, Some, refl, ap, ◌∙◌}
+use Rattle.std.specs.List.{cons_option}
 use Rattle.desk_model.specs.declared.command.Cmd.{Cmd}
 use Rattle.desk_model.specs.declared.command.Cmd.TheVariants as cmd
 use Rattle.desk_model.specs.Entry.{EntryValue}
-use Rattle.desk_model.specs.History.{is_done, said}
+use Rattle.desk_model.specs.History.{History, is_done, said, with_entry}
+use Rattle.desk_model.specs.Register.{enrols_any, persons}
+use Rattle.desk_model.specs.Comes.{Comes}
 use Rattle.desk_duty.specs.Told.{teller}
 use Rattle.desk_offers.specs.Told.{decliner}
 use Rattle.desk_lists.specs.Lists.{mover}
@@ -30,3 +33,20 @@ teller-mover = said-wider teller mover teller-moves
 
 pub decliner-mover : (e : EntryValue) (p : ℕ) → said decliner e ≡ Some p → said mover e ≡ Some p
 decliner-mover = said-wider decliner mover decliner-moves
+
+-- and where it names such a person nobody is enrolled
+mover-enrols-none : (c : Cmd) (p : ℕ) → mover c ≡ Some p → enrols_any c ≡ None
+mover-enrols-none (cmd.List person board) p named = refl
+mover-enrols-none (cmd.Unlist person board) p named = refl
+mover-enrols-none (cmd.MarkOn person) p named = refl
+mover-enrols-none (cmd.Decline vac person) p named = refl
+mover-enrols-none (cmd.Past person event) p named = refl
+mover-enrols-none (cmd.Happened person event) p named = refl
+mover-enrols-none other p named = cc
+
+pub persons-moved : (h : History) (e : EntryValue) (p : ℕ) → Comes h e → said mover e ≡ Some p → persons (with_entry h e) ≡ persons h
+persons-moved h e p comes named = comes.persons ∙ ap (λ who. persons h ++ cons_option who []) (go (is_done e.reply) named) ∙ append-nil (persons h)
+  where
+    go : (done : Bool) → cond done (mover e.stated.cmd) None ≡ Some p → cond done (enrols_any e.stated.cmd) None ≡ None
+    go true named = mover-enrols-none e.stated.cmd p named
+    go false named = cc

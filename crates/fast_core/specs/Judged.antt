@@ -1,22 +1,22 @@
 -- Whom a desk judges, and for what, beside what a history says of them.
 use Rattle.std.specs.Prelude.{◌≡◌, ℕ, Option, None, Some}
-use Rattle.std.specs.Option.{option_copied}
 use Rattle.month_hours.specs.Plan.{plan_of}
 use Rattle.desk_model.specs.History.{History}
 use Rattle.desk_model.specs.Register.{person_of, persons}
 use Rattle.desk_answers.specs.Asked.{IsAsked}
 use Rattle.desk_register.specs.Among.{place_among}
 use Rattle.desk_register.specs.Persons.{IsPerson}
-use Rattle.desk_register.specs.Vacancies.{IsVacancy}
+use Rattle.desk_register.specs.TurnedDown.{turned_at, turned_for}
+use Rattle.desk_model.specs.TurnedDown.{has_turned_down}
 use Rattle.desk_duty.specs.Clocks.{IsClock}
 use Rattle.fast_core.specs.declared.candidate.Candidate.{Candidate}
 use Rattle.fast_core.specs.declared.job_asked.JobAsked.{JobAsked}
 
--- the vacancy is asked about in the history, and what is found of it is the history's
+-- the vacancy is asked about in the history, and who has turned it down is the history's
 pub record IsJobAsked (a : JobAsked) (h : History) : Type 0 where
   pub asked : IsAsked h a.moment a.job.now
   pub plan : a.plan ≡ plan_of a.job.now.report a.job.now.duty a.job.now.limbo
-  pub vacancy : IsVacancy (option_copied a.vacancy) h a.job.now.vac
+  pub turned : (p : ℕ) → turned_for (turned_at a.turned_down.now) (place_among (persons h) p) a.vacancy ≡ has_turned_down h a.job.now.vac p
 
 -- it is this enrolled person, by what the history says of them
 pub record IsCandidate (c : Candidate) (h : History) (p : ℕ) : Type 0 where

@@ -48,7 +48,7 @@ impl Candidate<'_> {
             → result ≡ has_turned_down h asked.now.job.now.vac p }
     {
         match asked.vacancy {
-            Some(vacancy) => vacancy.turned_down.has(self.place),
+            Some(vacancy) => asked.turned_down.has(self.place, vacancy),
             None => false,
         }
     }

@@ -1,13 +1,15 @@
 //! What a person did, by their clock.
-ghost use Rattle.std.specs.Prelude.{◌≡◌, true};
+ghost use Rattle.std.specs.Prelude.{◌≡◌, ℕ, true};
 ghost use Rattle.std.specs.Option.{option_copied};
 ghost use Rattle.duty_events.specs.Allowed.{judge};
 ghost use Rattle.duty_events.specs.Lists.{stage_of, latest};
 ghost use Rattle.month_hours.specs.Used.{used};
 ghost use Rattle.month_hours.specs.Capped.{capped};
 ghost use Rattle.desk_model.specs.History.{History};
+ghost use Rattle.desk_model.specs.Register.{persons};
 ghost use Rattle.desk_model.specs.Duty.{events};
 ghost use Rattle.desk_model.specs.HoursAnswer.{has_month};
+ghost use Rattle.desk_register.specs.Among.{place_among};
 ghost use Rattle.fast_core.specs.Crew.{KeepsCrew, IsClockOf};
 
 use crate::crew::Crew;
@@ -26,13 +28,20 @@ fn has_month(window: &Window, month: Month) -> bool
 }
 
 impl Crew {
-    /// The clock of an enrolled person.
-    pub fn clock(&self, person: PersonNo) -> Option<&PersonClock>
-        ensures { (h : History) → KeepsCrew self.now h → IsClockOf (option_copied result) h person }
+    /// The clock of the person at this place among all; `None` for who has no place.
+    pub fn clock_at(&self, place: Option<usize>) -> Option<&PersonClock>
+        ensures { (h : History) (p : ℕ) → KeepsCrew self.now h → place ≡ place_among (persons h) p
+            → IsClockOf (option_copied result) h p }
     {
         who_is_enrolled_has_a_place();
-        let place = self.register.persons().place(person)?;
-        self.duty.clock(place)
+        self.duty.clock(place?)
+    }
+
+    // The clock of an enrolled person.
+    fn clock(&self, person: PersonNo) -> Option<&PersonClock>
+        ensures { (h : History) → KeepsCrew self.now h → IsClockOf (option_copied result) h person }
+    {
+        self.clock_at(self.register.persons().place(person))
     }
 
     /// The stage that an event leads to after the person's events, or why it is not allowed.

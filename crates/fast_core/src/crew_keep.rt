@@ -8,7 +8,7 @@ ghost use Rattle.desk_lists.specs.Lists.{mover, ready_minute};
 ghost use Rattle.fast_core.specs.Crew.{KeepsCrew};
 
 use crate::crew::Crew;
-use desk_base::{Minute, PersonNo};
+use desk_base::Minute;
 use desk_lists::NEVER;
 use desk_model::Entry;
 use duty_events::Stage;
@@ -26,24 +26,15 @@ impl Crew {
         self.duty.keep(entry, place);
     }
 
-    /// The minute from which a person is ready.
-    pub fn ready(&self, person: PersonNo) -> Minute
-        ensures { (h : History) → KeepsCrew self.now h → result ≡ ready_minute h person }
+    /// The minute from which the person at this place among all is ready, and from which anybody is who has no place.
+    pub fn ready_of(&self, place: Option<usize>) -> Minute
+        ensures { (h : History) (p : ℕ) → KeepsCrew self.now h → place ≡ place_among (persons h) p
+            → result ≡ ready_minute h p }
     {
-        match self.clock(person) {
+        match self.clock_at(place) {
             Some(clock) if clock.stage() == Stage::Off => clock.rest_end(),
             Some(_) => Minute::new(NEVER).unwrap_or(Minute::FIRST),
             None => rest_end(&[]),
-        }
-    }
-
-    /// The minute from which this person is ready; the first of all where there is none such.
-    pub fn ready_of(&self, person: &Option<PersonNo>) -> Minute
-        ensures { (h : History) (p : ℕ) → KeepsCrew self.now h → person.now ≡ Some p → result ≡ ready_minute h p }
-    {
-        match person {
-            Some(person) => self.ready(*person),
-            None => Minute::FIRST,
         }
     }
 }

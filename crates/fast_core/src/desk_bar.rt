@@ -41,7 +41,8 @@ impl Desk {
             moment,
             job,
             plan: months_of(job),
-            vacancy: self.crew.register.vacancies().get(job.vac()),
+            vacancy: self.crew.register.vacancies().place(job.vac()),
+            turned_down: self.crew.register.turned_down(),
         }
     }
 

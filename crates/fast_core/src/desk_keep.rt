@@ -48,7 +48,7 @@ impl Desk {
         let offered = self.offered_board(entry);
         self.crew.keep(entry, person);
         self.offers.keep(entry, person, offered);
-        let ready = self.crew.ready_of(&mover);
+        let ready = self.crew.ready_of(person);
         let named = Named {
             person,
             board,

@@ -4,7 +4,8 @@ use Rattle.indexmap.specs.IndexMap.{get, keys}
 use Rattle.desk_model.specs.History.{is_done, with_entry}
 use Rattle.desk_register.specs.Persons.{ArePersons}
 use Rattle.desk_register.specs.Vacancies.{AreVacancies}
-use Rattle.desk_register.proofs.StayLemmas.{persons-stay, persons-offered, boards-stay, vacancies-stay, vacancies-offered}
+use Rattle.desk_register.specs.TurnedDown.{turned_at}
+use Rattle.desk_register.proofs.StayLemmas.{persons-stay, persons-offered, boards-stay, vacancies-stay, vacancies-offered, turned-stays}
 use Rattle.desk_register.proofs.register.Register.keep.Goals as goal
 
 pub returns-in-Some : goal.returns-in-Some
@@ -23,6 +24,7 @@ returns-in-Some c h legal next kept =
       vacancies = subst (λ vs. AreVacancies (get nat_eq c.offer.new.self.kept) vs (with_entry h e)) (sym c.offer.ensures.keys)
           (vacancies-offered h e _ _ (get nat_eq desk.vacancies.kept) (get nat_eq c.offer.new.self.kept) (keys desk.vacancies.kept) comes
           (λ v. c.what_an_entry_makes_of_the_desk.ensures.state h e v legal next) next refused c.in-Some.ensures.some.0 c.in-Some.ensures.some.1 c.offer.ensures.under kept.vacancies);
+      turned_down = turned-stays h e (turned_at desk.turned_down) comes refused kept.turned_down;
     }
 
 pub returns-in_default : goal.returns-in_default
@@ -37,4 +39,5 @@ returns-in_default c h legal next kept =
       boards = boards-stay h e (get bytes_eq desk.boards.kept) (keys desk.boards.kept) comes refused kept.boards;
       vacancies = vacancies-stay h e (get nat_eq desk.vacancies.kept) (keys desk.vacancies.kept) comes
           (λ v. c.what_an_entry_makes_of_the_desk.ensures.state h e v legal next) refused (c.offered.ensures.none c.in_default.is) kept.vacancies;
+      turned_down = turned-stays h e (turned_at desk.turned_down) comes refused kept.turned_down;
     }

@@ -5,7 +5,10 @@ use Rattle.desk_register.proofs.ValueLemmas.{get-changed_at}
 use Rattle.desk_register.proofs.vacancies.Vacancies.offer.Goals as goal
 
 pub invariant_of-self : goal.invariant_of-self
-invariant_of-self c = record { room = rw index_map_len-with_value_at c.args.self.now.room }
+invariant_of-self c = record {
+  room = rw index_map_len-with_value_at c.args.self.now.room;
+  few = rw index_map_len-with_value_at c.args.self.now.few;
+}
 
 pub returns-in-Some-get_index_mut-clause-under : goal.returns-in-Some-get_index_mut-clause-under
 returns-in-Some-get_index_mut-clause-under c =

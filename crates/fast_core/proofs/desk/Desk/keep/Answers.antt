@@ -1,10 +1,10 @@
-use Rattle.std.proofs.Common.{◌≡◌, ℕ, Some, sym, ◌∙◌}
+use Rattle.std.proofs.Common.{◌≡◌, ℕ, Some, sym, ap, ◌∙◌}
 use Rattle.desk_model.specs.History.{with_entry, said}
 use Rattle.desk_model.specs.Register.{persons}
 use Rattle.desk_model.proofs.LegalLemmas.{legal-with}
 use Rattle.desk_register.specs.Among.{place_among}
 use Rattle.desk_lists.specs.Lists.{mover}
-use Rattle.fast_core.proofs.KeepLemmas.{decliner-mover}
+use Rattle.fast_core.proofs.KeepLemmas.{decliner-mover, persons-moved}
 use Rattle.fast_core.proofs.desk.Desk.keep.Goals as goal
 
 pub returns-clause-tells : goal.returns-clause-tells
@@ -23,6 +23,6 @@ returns-clause-tells c h tells next =
         person = person;
         board = λ b told. c.named_board-board.ensures.named h b tells told;
         set_up = λ b told. c.named_board-board.ensures.set_up h b tells told;
-        ready = λ p told. c.ready_of-ready.ensures (with_entry h e) p crew (c.mover-mover.ensures ∙ told);
+        ready = λ p told. c.ready_of-ready.ensures (with_entry h e) p crew (person p told ∙ sym (ap (λ ps. place_among ps p) (persons-moved h e p (c.what_an_entry_makes_of_the_desk.ensures.comes h e) told)));
       }) tells.lists;
     }

@@ -1,0 +1,68 @@
+ghost use Rattle.std.specs.Prelude.{◌≡◌, ◌<◌, ℕ, false, Some, IfOk, IfSome, length, slice_index_or};
+ghost use Rattle.desk_model.specs.declared.limits.TheConstants.{PERSON_LIMIT, VACANCY_LIMIT};
+ghost use Rattle.desk_register.specs.TurnedDown.{turned_at, TurnsDown};
+ghost use Rattle.desk_register.specs.declared.turned_down.TheConstants.{WORDS};
+
+use crate::turned_down::{TurnedDown, WORDS};
+use desk_base::NoMemory;
+use desk_model::{PERSON_LIMIT, VACANCY_LIMIT};
+use std::alloc::Global;
+
+impl TurnedDown {
+    /// Nobody has turned anything down; `NoMemory` where there is none for 1,000 persons and 20,000 vacancies.
+    pub(crate) fn new(alloc: Global) -> Result<TurnedDown, NoMemory>
+        ensures { IfOk result (λ x. (i j : ℕ) → turned_at x i j ≡ false) }
+    {
+        let words = Vec::with_capacity(alloc, WORDS)?;
+        Ok(TurnedDown { words })
+    }
+
+    /// Whether the person at one place, below 1,000, has turned down the vacancy at another.
+    pub fn has(&self, person: usize, vacancy: usize) -> bool
+        requires { person < PERSON_LIMIT }
+        ensures { result ≡ turned_at self.now person vacancy }
+    {
+        if vacancy >= VACANCY_LIMIT {
+            return false;
+        }
+        let bit = person * VACANCY_LIMIT + vacancy;
+        match self.words.get(bit / 64) {
+            Some(word) => (word >> (bit % 64)) & 1 == 1,
+            None => false,
+        }
+    }
+
+    // Keeps the words up to a place, of which those that were not kept have no bit.
+    fn reach(&mut self, place: usize)
+        requires { place < WORDS }
+        ensures reached { place < length self.new.words.items }
+        ensures same { (i : ℕ) → slice_index_or self.new.words.items i 0 ≡ slice_index_or self.old.words.items i 0 }
+    {
+        if self.words.len() <= place {
+            let _reached = self.words.resize(place + 1, 0);
+        }
+    }
+
+    // Keeps that the person at one place has turned down the vacancy at another.
+    fn add(&mut self, person: usize, vacancy: usize)
+        requires person { person < PERSON_LIMIT }
+        requires vacancy { vacancy < VACANCY_LIMIT }
+        ensures { TurnsDown (Some person) (Some vacancy) (turned_at self.old) (turned_at self.new) }
+    {
+        let bit = person * VACANCY_LIMIT + vacancy;
+        self.reach(bit / 64);
+        let word = self.words[bit / 64];
+        self.words[bit / 64] = word | 1 << (bit % 64);
+    }
+
+    /// Keeps that the person at one place has turned down the vacancy at another, where there are both.
+    pub(crate) fn keep(&mut self, person: Option<usize>, vacancy: Option<usize>)
+        requires person { IfSome person (λ i. i < PERSON_LIMIT) }
+        requires vacancy { IfSome vacancy (λ j. j < VACANCY_LIMIT) }
+        ensures { TurnsDown person vacancy (turned_at self.old) (turned_at self.new) }
+    {
+        if let (Some(person), Some(vacancy)) = (person, vacancy) {
+            self.add(person, vacancy);
+        }
+    }
+}
