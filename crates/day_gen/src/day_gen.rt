@@ -5,6 +5,7 @@ ghost use Rattle.day_gen.specs.Day.{day_opening, generated_day, day_statement};
 ghost use Rattle.day_gen.specs.Due.{plans};
 ghost use Rattle.day_gen.specs.Generator.{generator_of, most_commands, one_more};
 
+use crate::codes::Codes;
 use crate::course::Course;
 use crate::due::Due;
 use crate::laws::a_generated_day_is_legal;
@@ -23,6 +24,7 @@ pub struct DayGen {
     given: u32,
     course: Course,
     job: Option<Job>,
+    codes: Codes,
 }
 
 impl Model for DayGen {
@@ -50,6 +52,7 @@ impl DayGen {
             given: 0,
             course: Course::first(number),
             job: None,
+            codes: Codes::read(),
         }
     }
 
@@ -75,9 +78,13 @@ impl DayGen {
         if self.given == self.commands {
             return None;
         }
-        let cmd = self
-            .course
-            .turn(self.edition, self.given, &self.job, Due::by(last));
+        let cmd = self.course.turn(
+            &self.codes,
+            self.edition,
+            self.given,
+            &self.job,
+            Due::by(last),
+        );
         keep_planned(&mut self.job, &cmd);
         self.given += 1;
         Some(Stated::new(self.course.minute, cmd).unwrap())

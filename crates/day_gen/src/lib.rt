@@ -1,6 +1,7 @@
 //! Days that are made from a number, for a desk to be tried on: each command follows from the number and from the last entry.
 #![tactic(auto)]
 
+mod codes;
 mod course;
 mod day_gen;
 mod due;

@@ -5,20 +5,28 @@ ghost use Rattle.day_gen.specs.SetUp.{set_up};
 ghost use Rattle.day_gen.specs.Day.{turn_at};
 ghost use Rattle.day_gen.specs.Rules.{answer_turn, report_of, report_turn, duty_of, release_turn, hours_turn, place_turn, least_duty, vacancy_turn, is_relief, idle_turn, turn_by};
 
+use crate::codes::Codes;
 use crate::course::Course;
 use crate::due::Due;
 use crate::plan::Plan;
-use crate::set_up::{chain_of, home, no_quals, pool_of, set_up_command};
+use crate::set_up::{no_quals, set_up_command};
 use crate::{PERSONS, SET_UP};
 use desk_base::{Minute, Month, PersonNo, VacNo};
 use desk_model::{Cmd, Edition, Job};
 use duty_events::Event;
-use qualifications::Craft;
 
 impl Course {
     /// The next command, where so many were given: one that sets the desk up, or what the rules give by what there is to do, and
-    /// for which job.
-    pub(crate) fn turn(&mut self, edition: Edition, given: u32, job: &Option<Job>, due: Due) -> Cmd
+    /// for which job. It stays a call: inlined, each part of a command is carried along for all others.
+    #[inline(never)]
+    pub(crate) fn turn(
+        &mut self,
+        codes: &Codes,
+        edition: Edition,
+        given: u32,
+        job: &Option<Job>,
+        due: Due,
+    ) -> Cmd
         requires { HasRoom self.old }
         ensures course { self.new ≡ (turn_at edition self.old (slice_get set_up given) job.now due).course }
         ensures cmd { result ≡ (turn_at edition self.old (slice_get set_up given) job.now due).cmd }
@@ -26,12 +34,12 @@ impl Course {
         if given < SET_UP {
             set_up_command(given)
         } else {
-            self.by_rule(edition, job, due)
+            self.by_rule(codes, edition, job, due)
         }
     }
 
     // What the rules give.
-    fn by_rule(&mut self, edition: Edition, job: &Option<Job>, due: Due) -> Cmd
+    fn by_rule(&mut self, codes: &Codes, edition: Edition, job: &Option<Job>, due: Due) -> Cmd
         requires { HasRoom self.old }
         ensures course { self.new ≡ (turn_by edition self.old job.now due).course }
         ensures cmd { result ≡ (turn_by edition self.old job.now due).cmd }
@@ -39,9 +47,9 @@ impl Course {
         match due {
             Due::Answer { vac, person } => self.answer(vac, person),
             Due::Report { person, .. } => self.report(job, person),
-            Due::Release { person } => self.release(job, person),
+            Due::Release { person } => self.release(codes, job, person),
             Due::Call { vac } => Cmd::Next { vac },
-            Due::Nothing => self.idle(edition),
+            Due::Nothing => self.idle(codes, edition),
         }
     }
 
@@ -70,7 +78,7 @@ impl Course {
     }
 
     // Who went on duty is released.
-    fn release(&mut self, job: &Option<Job>, person: PersonNo) -> Cmd
+    fn release(&mut self, codes: &Codes, job: &Option<Job>, person: PersonNo) -> Cmd
         requires { HasRoom self.old }
         ensures course { self.new ≡ (release_turn self.old job.now person).course }
         ensures cmd { result ≡ (release_turn self.old job.now person).cmd }
@@ -78,12 +86,12 @@ impl Course {
         self.minute = self.minute.after(u64::from(duty_of(job)));
         Cmd::Happened {
             person,
-            event: Event::Final(self.minute, home()),
+            event: Event::Final(self.minute, codes.home()),
         }
     }
 
     // There is nothing to do: time goes by, and then something is asked or a vacancy made.
-    fn idle(&mut self, edition: Edition) -> Cmd
+    fn idle(&mut self, codes: &Codes, edition: Edition) -> Cmd
         requires { HasRoom self.old }
         ensures course { self.new ≡ (idle_turn edition self.old).course }
         ensures cmd { result ≡ (idle_turn edition self.old).cmd }
@@ -92,8 +100,8 @@ impl Course {
         self.minute = self.minute.after(minutes);
         match self.draw(8) {
             0 => self.hours(),
-            1 => self.place(),
-            draw => self.vacancy(is_relief(edition, draw)),
+            1 => self.place(codes),
+            draw => self.vacancy(codes, is_relief(edition, draw)),
         }
     }
 
@@ -110,18 +118,18 @@ impl Course {
     }
 
     // It is asked who stands at a place.
-    fn place(&mut self) -> Cmd
+    fn place(&mut self, codes: &Codes) -> Cmd
         ensures course { self.new ≡ (place_turn self.old).course }
         ensures cmd { result ≡ (place_turn self.old).cmd }
     {
         Cmd::At {
-            board: pool_of(Craft::E),
+            board: codes.pool(),
             place: 1 + self.draw(12) as u16,
         }
     }
 
     // A vacancy is made.
-    fn vacancy(&mut self, relief: bool) -> Cmd
+    fn vacancy(&mut self, codes: &Codes, relief: bool) -> Cmd
         requires { HasVacancyRoom self.old }
         ensures course { self.new ≡ (vacancy_turn self.old relief).course }
         ensures cmd { result ≡ (vacancy_turn self.old relief).cmd }
@@ -132,11 +140,11 @@ impl Course {
             VacNo::new(self.made).unwrap(),
             plan.craft,
             no_quals(),
-            home(),
+            codes.home(),
             self.minute.after(60 + plan.wait),
             least_duty(relief) + plan.length,
             0,
-            chain_of(plan.craft),
+            *codes.chain_of(plan.craft),
             relief,
         );
         Cmd::Vacancy(job.unwrap())

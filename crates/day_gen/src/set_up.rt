@@ -1,7 +1,6 @@
 //! The commands that set the desk of a generated day up.
-ghost use Rattle.std.specs.Prelude.{◌≡◌, ◌<◌, Some, [], ◌∷◌, slice_get};
+ghost use Rattle.std.specs.Prelude.{◌≡◌, ◌<◌, Some, slice_get};
 ghost use Rattle.desk_base.specs.Code.{IsCode};
-ghost use Rattle.desk_model.specs.Chain.{IsChain, chain_text};
 ghost use Rattle.day_gen.specs.SetUp.{HOME, pool_of, extra_of, craft_of, listed_on, sets_up_board, enrols_person, lists_person, join_command, set_up};
 ghost use Rattle.day_gen.specs.Rules.{chain_of};
 
@@ -129,8 +128,5 @@ pub(crate) fn set_up_command(place: u32) -> Cmd
 pub(crate) fn chain_of(craft: Craft) -> Chain
     ensures { result ≡ chain_of craft }
 {
-    match craft {
-        Craft::E => Chain::read(b"PE+XE").unwrap(),
-        _ => Chain::read(b"PC+XC").unwrap(),
-    }
+    Chain::of(pool_of(craft)).with(extra_of(craft)).unwrap()
 }

@@ -2,6 +2,7 @@
 ghost use Rattle.std.specs.Bool.{Decides};
 ghost use Rattle.day_gen.specs.Room.{HasRoom};
 
+use crate::codes::Codes;
 use crate::course::Course;
 use crate::day_gen::keep_planned;
 use crate::due::Due;
@@ -47,7 +48,9 @@ impl Told {
             return None;
         }
         let due = Due::by(self.last.as_ref());
-        let cmd = self.course.turn(self.edition, self.given, &self.job, due);
+        let cmd = self
+            .course
+            .turn(&Codes::read(), self.edition, self.given, &self.job, due);
         keep_planned(&mut self.job, &cmd);
         self.given = self.given.saturating_add(1);
         let stated = Stated::new(self.course.minute, cmd)?;
