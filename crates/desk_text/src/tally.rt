@@ -25,11 +25,11 @@ pub struct Tally {
     pub(crate) moment: Minute,
 }
 
-// One more where it is so, up to the last number that there is.
+// One more where it is so; behind the last number that there is comes 0.
 fn raised(count: u64, so: bool) -> u64
     ensures { count + 1 < 2 ^ 64 → result ≡ count + (if so then 1 else 0) }
 {
-    count.saturating_add(u64::from(so))
+    count.wrapping_add(u64::from(so))
 }
 
 impl Tally {
