@@ -1,11 +1,11 @@
 -- Bits that are set.
-use Rattle.std.proofs.Common.{◌≡◌, ◌≢◌, ◌<◌, ◌^◌, ◌*◌, ◌/◌, ◌%◌, ◌||◌, ◌&&◌, ◌+◌, nat_lt, ◌∙◌, ◌==◌, ℕ, Bool, true, false, List, length, nat_eq, slice_index_or, slice_set, bit_or, refl, sym, ap, arith, w64}
+use Rattle.std.proofs.Common.{◌≡◌, ◌≢◌, ◌<◌, ◌^◌, ◌*◌, ◌/◌, ◌%◌, ◌||◌, ◌&&◌, nat_lt, ◌∙◌, ◌==◌, ℕ, Bool, true, false, List, length, nat_eq, slice_index_or, slice_set, bit_or, refl, sym, ap, arith, w64}
 use Rattle.std.proofs.lemmas.Bool.Decides.{nat_tests}
 use Rattle.std.proofs.lemmas.List.{get_or-set_same, get_or-set_other}
 use Rattle.std.proofs.lemmas.Nat.Bits.{bit_at_set_same, bit_at_set_other}
 use Rattle.std.specs.Int.{bit_at}
 use Rattle.desk_register.specs.Places.{has_place}
-use Rattle.desk_register.specs.TurnedDown.{turned_in}
+use Rattle.desk_register.specs.TurnedDown.{bit_of, turned_in}
 
 -- the word with the bit of this number set
 abbrev pub with_bit : ℕ → ℕ → ℕ
@@ -49,34 +49,34 @@ or-turned false false = refl
 -- ---- bits of persons and vacancies
 
 -- the bit of one of each is that of another of each just where both are the same
-same-bit : (person vacancy i j : ℕ) → vacancy < 20000 → j < 20000 → nat_eq (person * 20000 + vacancy) (i * 20000 + j) ≡ (nat_eq person i && nat_eq vacancy j)
+same-bit : (person vacancy i j : ℕ) → vacancy < 20000 → j < 20000 → nat_eq (bit_of person vacancy) (bit_of i j) ≡ (nat_eq person i && nat_eq vacancy j)
 same-bit person vacancy i j low within = go (nat_eq person i) (nat_eq vacancy j) refl refl
   where
-    go : (a b : Bool) → nat_eq person i ≡ a → nat_eq vacancy j ≡ b → nat_eq (person * 20000 + vacancy) (i * 20000 + j) ≡ (a && b)
+    go : (a b : Bool) → nat_eq person i ≡ a → nat_eq vacancy j ≡ b → nat_eq (bit_of person vacancy) (bit_of i j) ≡ (a && b)
     go true true x y = grind (arith, nat_tests, x, y)
     go true false x y = grind (arith, nat_tests, x, y)
     go false b x y = grind (arith, nat_tests, x, low, within)
 
 -- where a bit is set, that is kept of the two, and of all others what was
-pub turned-inserted : (words old : List ℕ) (person vacancy : ℕ) → vacancy < 20000 → (person * 20000 + vacancy) / 64 < length words
+pub turned-inserted : (words old : List ℕ) (person vacancy : ℕ) → vacancy < 20000 → bit_of person vacancy / 64 < length words
     → ((i : ℕ) → slice_index_or words i 0 ≡ slice_index_or old i 0) → (i j : ℕ)
-    → turned_in (slice_set words ((person * 20000 + vacancy) / 64) (with_bit (slice_index_or words ((person * 20000 + vacancy) / 64) 0) ((person * 20000 + vacancy) % 64))) i j
+    → turned_in (slice_set words (bit_of person vacancy / 64) (with_bit (slice_index_or words (bit_of person vacancy / 64) 0) (bit_of person vacancy % 64))) i j
     ≡ (turned_in old i j || (nat_eq person i && nat_eq vacancy j))
 turned-inserted words old person vacancy low within same i j = go (nat_lt j 20000) refl
   where
     bit : ℕ
-    bit = person * 20000 + vacancy
+    bit = bit_of person vacancy
 
     set : List ℕ
     set = slice_set words (bit / 64) (with_bit (slice_index_or words (bit / 64) 0) (bit % 64))
 
-    go : (here : Bool) → nat_lt j 20000 ≡ here → (here && has_place set (i * 20000 + j)) ≡ ((here && has_place old (i * 20000 + j)) || (nat_eq person i && nat_eq vacancy j))
+    go : (here : Bool) → nat_lt j 20000 ≡ here → (here && has_place set (bit_of i j)) ≡ ((here && has_place old (bit_of i j)) || (nat_eq person i && nat_eq vacancy j))
     go true here =
         let short : j < 20000 = grind (arith, nat_tests, here) in
-        inserted words bit (i * 20000 + j) within
-        ∙ ap (λ x. x || has_place words (i * 20000 + j)) (same-bit person vacancy i j low short)
-        ∙ or-turned (nat_eq person i && nat_eq vacancy j) (has_place words (i * 20000 + j))
-        ∙ ap (λ w. (bit_at w ((i * 20000 + j) % 64) == 1) || (nat_eq person i && nat_eq vacancy j)) (same ((i * 20000 + j) / 64))
+        inserted words bit (bit_of i j) within
+        ∙ ap (λ x. x || has_place words (bit_of i j)) (same-bit person vacancy i j low short)
+        ∙ or-turned (nat_eq person i && nat_eq vacancy j) (has_place words (bit_of i j))
+        ∙ ap (λ w. (bit_at w (bit_of i j % 64) == 1) || (nat_eq person i && nat_eq vacancy j)) (same (bit_of i j / 64))
     go false here =
         let other : nat_eq vacancy j ≡ false = grind (arith, nat_tests, here, low) in
         rw other (sym (and-false (nat_eq person i)))

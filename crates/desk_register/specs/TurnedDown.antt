@@ -1,5 +1,5 @@
 -- Who is kept as having turned which vacancy down, beside what a history says of it.
-use Rattle.std.specs.Prelude.{◌≡◌, ℕ, ◌+◌, ◌*◌, ◌≤◌, Bool, false, ◌&&◌, ◌||◌, nat_lt, Option, Some, List, length}
+use Rattle.std.specs.Prelude.{◌≡◌, ℕ, ◌+◌, ◌*◌, ◌/◌, ◌%◌, ◌≤◌, Bool, false, ◌&&◌, ◌||◌, nat_lt, Option, Some, List, length}
 use Rattle.std.specs.Option.{option_and_then}
 use Rattle.desk_model.specs.declared.limits.TheConstants.{VACANCY_LIMIT}
 use Rattle.desk_model.specs.declared.command.Cmd.{Cmd}
@@ -12,10 +12,14 @@ use Rattle.desk_register.specs.Among.{place_among}
 use Rattle.desk_register.specs.Vacancies.{target, turner, had_by}
 use Rattle.desk_register.specs.declared.turned_down.TurnedDown.{TurnedDown}
 
--- the person at a place has turned down the vacancy at a place: the bits of one person's vacancies stand after those of another's,
--- 20,000 of each; nobody has turned down what has no such place
+-- the bit of the person at a place and the vacancy at a place: 64 persons have a word of each of 20,000 vacancies, and their words
+-- stand behind those of the 64 persons before them
+abbrev pub bit_of : ℕ → ℕ → ℕ
+bit_of person vacancy = (person / 64 * VACANCY_LIMIT + vacancy) * 64 + person % 64
+
+-- the one has turned down the other; nobody has turned down what has no such place
 abbrev pub turned_in : List ℕ → ℕ → ℕ → Bool
-turned_in words person vacancy = nat_lt vacancy VACANCY_LIMIT && has_place words (person * VACANCY_LIMIT + vacancy)
+turned_in words person vacancy = nat_lt vacancy VACANCY_LIMIT && has_place words (bit_of person vacancy)
 
 abbrev pub turned_at : TurnedDown → ℕ → ℕ → Bool
 turned_at x person vacancy = turned_in x.words.items person vacancy

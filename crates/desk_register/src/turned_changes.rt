@@ -1,12 +1,22 @@
-ghost use Rattle.std.specs.Prelude.{◌≡◌, ◌<◌, ℕ, false, Some, IfOk, IfSome, length, slice_index_or};
+ghost use Rattle.std.specs.Prelude.{◌≡◌, ◌<◌, ◌/◌, ℕ, false, Some, IfOk, IfSome, length, slice_index_or};
 ghost use Rattle.desk_model.specs.declared.limits.TheConstants.{PERSON_LIMIT, VACANCY_LIMIT};
-ghost use Rattle.desk_register.specs.TurnedDown.{turned_at, TurnsDown};
+ghost use Rattle.desk_register.specs.TurnedDown.{bit_of, turned_at, TurnsDown};
 ghost use Rattle.desk_register.specs.declared.turned_down.TheConstants.{WORDS};
 
 use crate::turned_down::{TurnedDown, WORDS};
 use desk_base::NoMemory;
 use desk_model::{PERSON_LIMIT, VACANCY_LIMIT};
 use std::alloc::Global;
+
+// The bit of the person at one place and the vacancy at another.
+fn bit_of(person: usize, vacancy: usize) -> usize
+    requires person { person < PERSON_LIMIT }
+    requires vacancy { vacancy < VACANCY_LIMIT }
+    ensures value { result ≡ bit_of person vacancy }
+    ensures range { result / 64 < WORDS }
+{
+    (person / 64 * VACANCY_LIMIT + vacancy) * 64 + person % 64
+}
 
 impl TurnedDown {
     /// Nobody has turned anything down; `NoMemory` where there is none for 1,000 persons and 20,000 vacancies.
@@ -25,7 +35,7 @@ impl TurnedDown {
         if vacancy >= VACANCY_LIMIT {
             return false;
         }
-        let bit = person * VACANCY_LIMIT + vacancy;
+        let bit = bit_of(person, vacancy);
         match self.words.get(bit / 64) {
             Some(word) => (word >> (bit % 64)) & 1 == 1,
             None => false,
@@ -49,7 +59,7 @@ impl TurnedDown {
         requires vacancy { vacancy < VACANCY_LIMIT }
         ensures { TurnsDown (Some person) (Some vacancy) (turned_at self.old) (turned_at self.new) }
     {
-        let bit = person * VACANCY_LIMIT + vacancy;
+        let bit = bit_of(person, vacancy);
         self.reach(bit / 64);
         let word = self.words[bit / 64];
         self.words[bit / 64] = word | 1 << (bit % 64);

@@ -1,11 +1,11 @@
 ghost use Rattle.std.specs.Prelude.{◌≤◌, length, vec_capacity};
 ghost use Rattle.desk_register.specs.declared.turned_down.TheConstants.{WORDS};
 
-// How many words have a bit for each of 1,000 persons and each of 20,000 vacancies.
-pub(crate) const WORDS: usize = 312_500;
+// How many words there are: for each 64 of 1,000 persons, 16 times, one of each of 20,000 vacancies.
+pub(crate) const WORDS: usize = 320_000;
 
-/// Who has turned which vacancy down, by the places of both among all: a bit for each, those of one person after those of another,
-/// up to the last that is set. There is memory for all.
+/// Who has turned which vacancy down, by the places of both among all: for each 64 persons a word of each vacancy, up to the last word
+/// with a bit that is set. So the words of vacancies that were made one after the other lie side by side. There is memory for all.
 #[derive(Drop)]
 pub struct TurnedDown {
     pub(crate) words: Vec<u64>,
