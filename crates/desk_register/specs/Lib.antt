@@ -1,3 +1,4 @@
+pub mod Hashed
 pub mod Persons
 pub mod Changes
 pub mod Done

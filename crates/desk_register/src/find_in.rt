@@ -4,14 +4,17 @@ ghost use Rattle.indexmap.specs.IndexMap.{get, index_of, index_map_len};
 
 use crate::placed::Placed;
 use indexmap::IndexMap;
-use std::hash::Hash;
+use std::hash::{BuildHasher, Hash};
 
 /// The hints of each map are 2^12.
 pub(crate) const HINT_BITS: u32 = 12;
 
 // What the map has under a key. It stays a call, so that the way by the hint is short where it is inlined.
 #[inline(never)]
-fn search_in<'a, K: Eq + Hash, V>(map: &'a IndexMap<K, V>, key: &K) -> Option<Placed<'a, V>>
+fn search_in<'a, K: Eq + Hash, V, S: BuildHasher>(
+    map: &'a IndexMap<K, V, S>,
+    key: &K,
+) -> Option<Placed<'a, V>>
     ensures place { option_map (λ x. x.place) result ≡ index_of K.eq map.now key.now }
     ensures value { option_map (λ x. x.value.now) result ≡ get K.eq map.now key.now }
     ensures within { IfSome result (λ x. x.place < index_map_len map.now) }
@@ -21,8 +24,8 @@ fn search_in<'a, K: Eq + Hash, V>(map: &'a IndexMap<K, V>, key: &K) -> Option<Pl
 }
 
 /// What is kept under a key, with its place among all; `None` exactly where nothing is. It is looked for at the hint first.
-pub(crate) fn find_in<'a, K: Eq + Hash, V>(
-    map: &'a IndexMap<K, V>,
+pub(crate) fn find_in<'a, K: Eq + Hash, V, S: BuildHasher>(
+    map: &'a IndexMap<K, V, S>,
     key: &K,
     hint: usize,
 ) -> Option<Placed<'a, V>>

@@ -16,6 +16,7 @@ mod register_keeps;
 mod roster;
 mod roster_changes;
 mod roster_reads;
+mod row_hasher;
 mod turned_changes;
 mod turned_down;
 mod vacancies;

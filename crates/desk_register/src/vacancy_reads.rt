@@ -13,6 +13,7 @@ use desk_base::{NoMemory, PlaceHints, VacNo};
 use desk_model::VACANCY_LIMIT;
 use indexmap::IndexMap;
 use std::alloc::Global;
+use std::hash::BuildHasherDefault;
 
 impl Vacancies {
     /// No vacancies, with memory for 20,000; `NoMemory` where there is none for them.
@@ -20,7 +21,11 @@ impl Vacancies {
         ensures under { IfOk result (λ r. (v : ℕ) → vacancy_under r v ≡ None) }
         ensures keys { IfOk result (λ r. vacancy_numbers r ≡ []) }
     {
-        let kept = IndexMap::with_capacity(alloc, VACANCY_LIMIT)?;
+        let kept = IndexMap::with_capacity_and_hasher(
+            alloc,
+            VACANCY_LIMIT,
+            BuildHasherDefault::new(),
+        )?;
         let hints = PlaceHints::new(alloc, HINT_BITS)?;
         Ok(Vacancies { kept, hints })
     }
