@@ -34,9 +34,9 @@ pub behind_16 : (t : ℕ) (text front back rest : List ℕ) → IsSplitAt text 1
 behind_16 t text front back rest is e =
     (is.1 ∙ ap (take 16) e ∙ take_at (minute_text t) rest 16 (length-minute_text t), is.2 ∙ ap (drop 16) e ∙ drop_at (minute_text t) rest 16 (length-minute_text t))
 
--- two texts and a blank between them, put together
-pub with_blank : (text front back first rest : List ℕ) → IsSplitAt text 16 front back → front ≡ first → back ≡ 32 ∷ rest → text ≡ first ++ 32 ∷ rest
-with_blank text front back first rest is one other =
+-- two texts and a mark between them, put together
+pub with_mark : (mark : ℕ) (text front back first rest : List ℕ) → IsSplitAt text 16 front back → front ≡ first → back ≡ mark ∷ rest → text ≡ first ++ mark ∷ rest
+with_mark mark text front back first rest is one other =
     sym (take-append-drop 16 text) ∙ ap (λ t. t ++ drop 16 text) (sym is.1 ∙ one) ∙ ap (λ t. first ++ t) (sym is.2 ∙ other)
 
 -- a text of a minute and more is no shorter

@@ -1,7 +1,6 @@
 -- The parts of an entry's line, and the fields of what it states.
-use Rattle.std.specs.Result.{result_ok}
-use Rattle.std.proofs.Common.{◌≡◌, ◌∙◌, ℕ, suc, Result, Ok, Err, IfOk, IfSome, ◌<◌, ◌≤◌, ◌==◌, Bool, true, false, not, List, [], ◌∷◌, ◌++◌, length, get_or, take, decimal, refl, sym, ap, arith, append_assoc}
-use Rattle.std.specs.List.{All, join_with_byte}
+use Rattle.std.proofs.Common.{◌≡◌, ◌∙◌, ℕ, suc, ◌<◌, ◌≤◌, ◌==◌, Bool, true, false, not, List, [], ◌∷◌, ◌++◌, length, get_or, take, drop, decimal, refl, sym, ap, arith, append_assoc}
+use Rattle.std.specs.List.{All, IsSplitAt, join_with_byte}
 use Rattle.std.proofs.lemmas.Bool.Decides.{nat_tests}
 use Rattle.std.proofs.lemmas.List.{take_all, append_cancel_right}
 use Rattle.std.proofs.lemmas.List.Splits.{join_with_byte-slice_split}
@@ -24,6 +23,8 @@ use Rattle.desk_text.specs.SpelledEntry.{IsEntryLine, SpellsStated, SpellsEntry,
 use Rattle.desk_text.proofs.FirstFieldsLemmas.{take-short}
 use Rattle.desk_text.proofs.PlainLemmas.{Passes, IsInner, is_inner, join, weaker, number, minute_in}
 use Rattle.desk_text.proofs.LineLemmas.{stated_inner}
+use Rattle.desk_text.proofs.CutLemmas.{joined}
+use Rattle.desk_text.proofs.PartLemmas.{with_mark}
 
 -- ---- the fields of what is stated
 
@@ -32,10 +33,6 @@ few_event e = grind arith
 
 few_command : (c : Cmd) → length (command_fields c) < 11
 few_command c = grind (arith, few_event)
-
--- they are fewer than the fields of a record that are kept
-pub few_fields : (s : StatedValue) → length (stated_fields s) < 12
-few_fields s = omega (arith, few_command s.cmd)
 
 AreUnmarked-inner : (fields : List (List ℕ)) → All IsInner fields → AreUnmarked 44 fields
 AreUnmarked-inner [] all = tt
@@ -62,6 +59,36 @@ pub fields-of-text : (text : List ℕ) (front : List (List ℕ)) (first : List �
     → front ≡ take 12 (parts_by 44 text) → text ≡ join_with_byte 44 (first ∷ fields) → length (first ∷ fields) < 12 → front ≡ first ∷ fields
 fields-of-text text front first fields all is e few =
     is ∙ ap (λ l. take 12 l) (ap (parts_by 44) e ∙ fields-split first fields all) ∙ take_all 12 (first ∷ fields) (omega (arith, few))
+
+some_command : (c : Cmd) → 0 < length (command_fields c)
+some_command c = grind arith
+
+-- what stands behind the minute: a comma, and the command's fields with commas between them
+abbrev pub behind_minute : StatedValue → List ℕ
+behind_minute s = 44 ∷ join_with_byte 44 (command_fields s.cmd)
+
+pub stated-text : (s : StatedValue) → join_with_byte 44 (stated_fields s) ≡ minute_text s.minute ++ behind_minute s
+stated-text s = joined 44 (minute_text s.minute) (command_fields s.cmd) (some_command s.cmd)
+
+-- where the text of 16 bytes and the first fields behind the comma are the minute's and the command's, the whole text is what is stated
+pub text-of-stated : (text minute rest back : List ℕ) (fields : List (List ℕ)) (s : StatedValue) → IsSplitAt text 16 minute rest → rest ≡ 44 ∷ back
+    → fields ≡ take 12 (parts_by 44 back) → minute ∷ fields ≡ stated_fields s → text ≡ join_with_byte 44 (stated_fields s)
+text-of-stated text minute rest back fields s split behind is are =
+    let few : length (command_fields s.cmd) < 12 = omega (arith, few_command s.cmd) in
+    with_mark 44 text minute rest (minute_text s.minute) (join_with_byte 44 (command_fields s.cmd)) split (ap (λ fs. get_or fs 0 []) are)
+    (behind ∙ ap (λ t. 44 ∷ t) (text-of-fields back fields (command_fields s.cmd) is (ap (drop 1) are) few))
+    ∙ sym (stated-text s)
+
+fields-of : (text : List ℕ) (front fields : List (List ℕ)) → 0 < length fields → All IsInner fields
+    → front ≡ take 12 (parts_by 44 text) → text ≡ join_with_byte 44 fields → length fields < 12 → front ≡ fields
+fields-of text front [] some all is e few = absurd (omega (arith, some))
+fields-of text front (first ∷ fields) some all is e few = fields-of-text text front first fields all is e few
+
+-- and behind the comma of what is stated these are the first fields
+pub fields-of-command : (back : List ℕ) (fields : List (List ℕ)) (s : StatedValue) → IsStated s → fields ≡ take 12 (parts_by 44 back)
+    → back ≡ join_with_byte 44 (command_fields s.cmd) → fields ≡ command_fields s.cmd
+fields-of-command back fields s valid is e =
+    fields-of back fields (command_fields s.cmd) (some_command s.cmd) (λ k d within. stated_inner s valid (suc k) d (omega (arith, within))) is e (omega (arith, few_command s.cmd))
 
 -- ---- the parts of a line
 
@@ -103,11 +130,6 @@ stated-unbarred e is = statement-unbarred e.stated is.stated
 
 pub moment-unbarred : (e : EntryValue) → Fits e → All (λ b. (b == 124) ≡ false) (minute_text e.moment)
 moment-unbarred e is = unbarred _ (inner_no_bar _ (minute_in e.moment is.moment))
-
--- what holds of a result's value, where there is one, holds of the value that is kept of it
-pub ok-some : {T E : Type 0} (r : Result T E) (P Q : T → Type 0) → ((x : T) → P x → Q x) → IfOk r P → IfSome (result_ok r) Q
-ok-some (Ok x) P Q each h = each x h
-ok-some (Err e) P Q each h = tt
 
 -- what stands before a line's line feed
 pub before-line_feed : (line front text : List ℕ) → line ≡ front ++ 10 ∷ [] → line ≡ text ++ 10 ∷ [] → front ≡ text

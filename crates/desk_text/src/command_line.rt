@@ -11,7 +11,7 @@ use crate::last_minute::LastMinute;
 use crate::read_fail::ReadFail;
 use crate::record_row::read_row;
 use desk_model::Stated;
-use record_rows::{Row, Rows, fields_of_line, is_plain};
+use record_rows::{Fields, Row, Rows, fill_with_line, is_plain};
 use std::alloc::Global;
 
 /// The command that a caller's line states, and the minute at which it was stated. The line has to be one record, as
@@ -47,7 +47,9 @@ fn read_plain(line: &[u8]) -> Result<Stated, ReadFail>
     ensures some { IfOk result (IsCommandLine line.now) }
     ensures fail { IfErr result (λ fail. fail ≢ ReadFail.NoMemory → HasFail line.now fail) }
 {
-    match read_record(&mut LastMinute::new(), fields_of_line(line).as_slice()) {
+    let mut fields = Fields::new();
+    fill_with_line(&mut fields, line);
+    match read_record(&mut LastMinute::new(), fields.as_slice()) {
         Ok(stated) => Ok(stated),
         Err(field) => Err(ReadFail::Malformed(field)),
     }

@@ -1,5 +1,5 @@
 //! Commands, read from the fields of a record.
-ghost use Rattle.std.specs.Prelude.{◌≡◌, IfSome, IfOk, IfErr, map};
+ghost use Rattle.std.specs.Prelude.{◌≡◌, ◌∷◌, IfSome, IfOk, IfErr, map};
 ghost use Rattle.desk_model.specs.declared.command.Cmd.{Cmd as CmdValue};
 ghost use Rattle.desk_model.specs.Statement.{StatedValue};
 ghost use Rattle.desk_text.specs.Spelled.{SpellsCommand, StatesCommand};
@@ -58,6 +58,15 @@ fn read_stated(last: &mut LastMinute, fields: &[&[u8]]) -> Option<Stated>
     let [minute, command @ ..] = fields else {
         return None;
     };
+    stated_by(last, minute, command)
+}
+
+/// What the text of a minute and the fields of a command state; `None` where they state nothing.
+pub(crate) fn stated_by(last: &mut LastMinute, minute: &[u8], command: &[&[u8]]) -> Option<Stated>
+    ensures some { IfSome result (StatesCommand (minute.now ∷ map (λ field. field.now) command.now)) }
+    ensures only { (s : StatedValue) → StatesCommand (minute.now ∷ map (λ field. field.now) command.now) s
+        → result ≡ Some s }
+{
     let minute = last.read(minute)?;
     match read_cmd(command) {
         Some(cmd) => Stated::new(minute, cmd),

@@ -2,6 +2,7 @@
 ghost use Rattle.std.specs.Prelude.{◌≡◌, ◌≢◌, ◌==◌, ◌∷◌, ◌++◌, ℕ, List, false, IfSome, IfNone, IsSomeAnd};
 ghost use Rattle.std.specs.List.{All};
 
+use desk_base::split_once;
 use memchr::memchr;
 
 /// What stands before the first mark, and what stands behind it; `None` where there is no mark.
@@ -13,6 +14,17 @@ pub fn cut(text: &[u8], mark: u8) -> Option<(&[u8], &[u8])>
 {
     let at = memchr(mark, text)?;
     Some((&text[..at], &text[at + 1..]))
+}
+
+/// As `cut`, byte by byte: for a mark that stands among the first few bytes.
+pub fn cut_near(text: &[u8], mark: u8) -> Option<(&[u8], &[u8])>
+    ensures some { IfSome result (λ parts. text.now ≡ parts.0.now ++ mark ∷ parts.1.now) }
+    ensures only { (front back : List ℕ) → All (λ b. (b == mark) ≡ false) front
+        → text.now ≡ front ++ mark ∷ back
+        → IsSomeAnd result (λ parts. (parts.0.now ≡ front) × (parts.1.now ≡ back)) }
+{
+    let (front, back) = split_once(text, mark);
+    Some((front, back?))
 }
 
 /// What stands behind the head of a text; `None` where the text begins otherwise.

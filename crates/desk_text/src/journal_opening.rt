@@ -6,7 +6,7 @@ ghost use Rattle.desk_text.specs.OpeningRecord.{IsOpeningLine};
 use crate::cut::before;
 use crate::opening_record::opening_of;
 use desk_model::Opening;
-use record_rows::fields_of_line;
+use record_rows::{Fields, fill_with_line};
 
 /// The opening of the journal's first line, `M,open,month,months,answer` with its line feed, in the second edition with a sixth
 /// field, `2`; `None` for every other text: the line is the one spelling of its opening.
@@ -14,5 +14,7 @@ pub fn read_opening(line: &[u8]) -> Option<Opening>
     ensures some { IfSome result (IsOpeningLine line.now) }
     ensures only { (o : OpeningValue) → IsOpeningLine line.now o → result ≡ Some o }
 {
-    opening_of(fields_of_line(before(line, b"\n")?).as_slice())
+    let mut fields = Fields::new();
+    fill_with_line(&mut fields, before(line, b"\n")?);
+    opening_of(fields.as_slice())
 }

@@ -11,7 +11,7 @@ use crate::command_record::read_record;
 use crate::last_minute::LastMinute;
 use crate::opening_record::opening_of;
 use desk_model::{Opening, Stated};
-use record_rows::Row;
+use record_rows::{Fields, Row};
 
 /// The command that a record states, and the minute at which it was stated. Where it states none it is the place, from 1,
 /// of its first wrong field.
@@ -20,7 +20,9 @@ pub fn read_row(last: &mut LastMinute, row: &Row) -> Result<Stated, u8>
     ensures only { (s : StatedValue) → StatesCommand (row_fields row.now) s → result ≡ Ok s }
     ensures wrong { IfErr result (IsWrongAt (row_fields row.now)) }
 {
-    read_record(last, row.first_fields().as_slice())
+    let mut fields = Fields::new();
+    row.fill_fields(&mut fields);
+    read_record(last, fields.as_slice())
 }
 
 /// The opening that a record states; `None` where it states none.
@@ -29,5 +31,7 @@ pub fn read_opening_row(row: &Row) -> Option<Opening>
     ensures only { (opening : OpeningValue) → StatesOpening (row_fields row.now) opening
         → result ≡ Some opening }
 {
-    opening_of(row.first_fields().as_slice())
+    let mut fields = Fields::new();
+    row.fill_fields(&mut fields);
+    opening_of(fields.as_slice())
 }

@@ -6,14 +6,14 @@ ghost use Rattle.desk_model.specs.Statement.{StatedValue};
 ghost use Rattle.desk_text.specs.SpelledEntry.{IsEntryLine, SpellsStated, SpellsEntry, BeginsEntry};
 ghost use Rattle.desk_text.specs.declared.statement.Statement.{Statement as StatementValue};
 
-use crate::command_record::read_record;
-use crate::cut::{before, cut};
+use crate::command_record::stated_by;
+use crate::cut::{before, behind, cut, cut_near};
 use crate::last_minute::LastMinute;
 use crate::spelled_reply::read_reply;
 use crate::statement::Statement;
 use desk_base::read_decimal;
 use desk_model::{Entry, LAST_CALLER, Stated};
-use record_rows::fields_of_line;
+use record_rows::{Fields, fill_with_line};
 
 /// The entry of a line of the journal, `caller|command|moment|reply` with its line feed; `None` for every other text: the line
 /// is the one spelling of its entry. A command and a reply that the desk would never give it are read all the same.
@@ -34,7 +34,7 @@ pub fn read_next_entry(
     ensures some { IfSome result (IsEntryLine line.now) }
     ensures only { (e : EntryValue) → IsEntryLine line.now e → result ≡ Some e }
 {
-    let (caller, rest) = cut(before(line, b"\n")?, b'|')?;
+    let (caller, rest) = cut_near(before(line, b"\n")?, b'|')?;
     let (stated, rest) = cut(rest, b'|')?;
     let (moment, reply) = cut(rest, b'|')?;
     read_parts(stated_last, moment_last, caller, stated, moment, reply)
@@ -48,7 +48,7 @@ pub fn read_statement<'a>(last: &mut LastMinute, line: &'a [u8]) -> Option<(Stat
     ensures only { (s : StatementValue) (outcome : List ℕ) → BeginsEntry line.now outcome s
         → IsSomeAnd result (λ read. (read.0 ≡ s) × (read.1.now ≡ outcome)) }
 {
-    let (caller, rest) = cut(line, b'|')?;
+    let (caller, rest) = cut_near(line, b'|')?;
     let (stated, outcome) = cut(rest, b'|')?;
     let statement = Statement {
         caller: read_caller(caller)?,
@@ -91,10 +91,13 @@ fn read_caller(text: &[u8]) -> Option<u8>
     }
 }
 
-// What was stated, and when: its record with plain commas.
+// What was stated, and when: its record with plain commas, the first behind the 16 bytes of the minute.
 fn read_stated(last: &mut LastMinute, text: &[u8]) -> Option<Stated>
     ensures some { IfSome result (SpellsStated text.now) }
     ensures only { (s : StatedValue) → SpellsStated text.now s → result ≡ Some s }
 {
-    read_record(last, fields_of_line(text).as_slice()).ok()
+    let (minute, rest) = text.split_at_checked(16)?;
+    let mut command = Fields::new();
+    fill_with_line(&mut command, behind(rest, b",")?);
+    stated_by(last, minute, command.as_slice())
 }

@@ -9,30 +9,32 @@ use csv::ByteRecord;
 /// How many fields of a record are given, at most. No command has as many.
 pub const FIELD_LIMIT: usize = 12;
 
-// The fields of a record that was read, the first 12 of a longer one.
-pub(crate) fn fields_of_record(row: &ByteRecord) -> ArrayVec<&[u8], FIELD_LIMIT>
-    ensures { map (λ field. field.now) result.items ≡ take FIELD_LIMIT (fields_of row.now) }
+/// Fields, at most 12: a list that is filled again and again where it stands.
+pub type Fields<'a> = ArrayVec<&'a [u8], FIELD_LIMIT>;
+
+// Puts the fields of a record that was read, the first 12 of a longer one, in place of those that stand there.
+pub(crate) fn fill_with_record<'a>(fields: &mut Fields<'a>, row: &'a ByteRecord)
+    ensures { map (λ field. field.now) fields.new.items ≡ take FIELD_LIMIT (fields_of row.now) }
 {
-    let mut fields = ArrayVec::new();
+    fields.clear();
     for place in 0..FIELD_LIMIT {
         match row.get(place) {
             Some(field) => fields.push(field),
-            None => return fields,
+            None => return,
         }
     }
-    fields
 }
 
-/// The fields of a text between its commas, the first 12 of more.
-pub fn fields_of_line(text: &[u8]) -> ArrayVec<&[u8], FIELD_LIMIT>
-    ensures { map (λ field. field.now) result.items ≡ take FIELD_LIMIT (parts_by 44 text.now) }
+/// Puts the fields of a text between its commas, the first 12 of more, in place of those that stand there.
+pub fn fill_with_line<'a>(fields: &mut Fields<'a>, text: &'a [u8])
+    ensures { map (λ field. field.now) fields.new.items ≡ take FIELD_LIMIT (parts_by 44 text.now) }
 {
-    let mut fields = ArrayVec::new();
+    fields.clear();
     let mut start = 0;
     for (at, byte) in text.iter().enumerate() {
         if *byte == b',' {
             if fields.is_full() {
-                return fields;
+                return;
             }
             fields.push(&text[start..at]);
             start = at + 1;
@@ -41,5 +43,4 @@ pub fn fields_of_line(text: &[u8]) -> ArrayVec<&[u8], FIELD_LIMIT>
     if !fields.is_full() {
         fields.push(&text[start..]);
     }
-    fields
 }

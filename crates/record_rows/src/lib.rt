@@ -7,7 +7,7 @@ mod plain;
 mod row;
 mod rows;
 
-pub use fields::{FIELD_LIMIT, fields_of_line};
+pub use fields::{Fields, fill_with_line};
 pub use plain::is_plain;
 pub use row::Row;
 pub use rows::Rows;

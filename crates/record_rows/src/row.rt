@@ -1,8 +1,7 @@
 ghost use Rattle.std.specs.Prelude.{◌≡◌, [], map, take};
 ghost use Rattle.record_rows.specs.declared.fields.TheConstants.{FIELD_LIMIT};
 
-use crate::fields::{FIELD_LIMIT, fields_of_line, fields_of_record};
-use arrayvec::ArrayVec;
+use crate::fields::{Fields, fill_with_line, fill_with_record};
 use csv::ByteRecord;
 use std::alloc::Global;
 
@@ -28,13 +27,13 @@ impl<'a> Row<'a> {
         }
     }
 
-    /// Its fields, the first 12 of more.
-    pub fn first_fields(&self) -> ArrayVec<&[u8], FIELD_LIMIT>
-        ensures { map (λ field. field.now) result.items ≡ take FIELD_LIMIT (row_fields self.now) }
+    /// Puts the record's fields, the first 12 of more, in place of those that stand there.
+    pub fn fill_fields<'r>(&'r self, fields: &mut Fields<'r>)
+        ensures { map (λ field. field.now) fields.new.items ≡ take FIELD_LIMIT (row_fields self.now) }
     {
-        if let Some(line) = self.line {
-            return fields_of_line(line);
+        match self.line {
+            Some(line) => fill_with_line(fields, line),
+            None => fill_with_record(fields, &self.read),
         }
-        fields_of_record(&self.read)
     }
 }

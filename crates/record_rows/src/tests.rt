@@ -1,8 +1,20 @@
-use crate::{Row, Rows};
+use crate::{Fields, Row, Rows};
 use desk_base::NoMemory;
 use std::alloc::Global;
 
-// The records of a text, each as its fields with `;` between them, with `/` behind each record.
+// Adds a record, as its fields with `;` behind each of them, and `/` behind it.
+fn tell_row(told: &mut Vec<u8>, row: &Row) -> Result<(), NoMemory> {
+    let mut fields = Fields::new();
+    row.fill_fields(&mut fields);
+    for field in fields.as_slice() {
+        told.extend_from_slice(field)?;
+        told.push(b';')?;
+    }
+    told.push(b'/')?;
+    Ok(())
+}
+
+// The records of a text, each told so.
 fn told(alloc: Global, text: &[u8]) -> Result<Vec<u8>, NoMemory> {
     let mut rows = Rows::of(alloc, text);
     let mut row = Row::new(alloc);
@@ -11,11 +23,7 @@ fn told(alloc: Global, text: &[u8]) -> Result<Vec<u8>, NoMemory> {
         if !rows.next(&mut row)? {
             return Ok(told);
         }
-        for field in row.first_fields().as_slice() {
-            told.extend_from_slice(field)?;
-            told.push(b';')?;
-        }
-        told.push(b'/')?;
+        tell_row(&mut told, &row)?;
     }
     Ok(told)
 }

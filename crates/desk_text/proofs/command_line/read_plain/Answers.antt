@@ -7,7 +7,7 @@ use Rattle.desk_text.proofs.command_line.read_plain.Goals as goal
 pub returns-in-Err-clause-fail : goal.returns-in-Err-clause-fail
 returns-in-Err-clause-fail c = λ told.
     let parts = parts_by 44 c.args.line.now in
-    let fields = ap (map (λ field. field.now)) c.as_slice.ensures.value ∙ c.fields_of_line.ensures in
+    let fields = ap (map (λ field. field.now)) c.as_slice.ensures.value ∙ c.fill_with_line.ensures in
     inr record {
       fields = parts;
       one = c.requires;

@@ -7,5 +7,5 @@ use Rattle.desk_text.proofs.record_row.read_row.Goals as goal
 
 pub returns-clause-wrong : goal.returns-clause-wrong
 returns-clause-wrong c =
-    let fields = ap (map (λ field. field.now)) c.as_slice.ensures.value ∙ c.first_fields.ensures in
+    let fields = ap (map (λ field. field.now)) c.as_slice.ensures.value ∙ c.fill_fields.ensures in
     IfErr-weaker c.read_record.result _ _ (λ place wrong. wrong-take (row_fields c.args.row.now) place (subst (λ list. IsWrongAt list place) fields wrong)) c.read_record.ensures.wrong

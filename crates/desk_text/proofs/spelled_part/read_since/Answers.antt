@@ -1,6 +1,6 @@
 use Rattle.std.proofs.Common.{◌≡◌, ◌∙◌, ◌∷◌, drop, ap, sym}
 use Rattle.desk_text.proofs.SpelledLemmas.{same}
-use Rattle.desk_text.proofs.PartLemmas.{behind_16, with_blank, no_shorter}
+use Rattle.desk_text.proofs.PartLemmas.{behind_16, with_mark, no_shorter}
 use Rattle.desk_text.proofs.spelled_part.read_since.Goals as goal
 
 pub returns-in_err-minute-clause-only : goal.returns-in_err-minute-clause-only
@@ -19,7 +19,7 @@ returns-in_err-behind-clause-only c = λ minute rest in_years e.
 pub returns-clause-some : goal.returns-clause-some
 returns-clause-some c =
     let read = c.in_ok-read.ensures.some in
-    (read.0, with_blank _ _ _ _ _ c.in_ok-minute.ensures.cases read.1 c.in_ok-behind.ensures.some)
+    (read.0, with_mark 32 _ _ _ _ _ c.in_ok-minute.ensures.cases read.1 c.in_ok-behind.ensures.some)
 
 pub returns-clause-only : goal.returns-clause-only
 returns-clause-only c = λ minute rest in_years e.

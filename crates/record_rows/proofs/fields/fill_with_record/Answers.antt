@@ -3,7 +3,7 @@ use Rattle.std.proofs.lemmas.List.{map-append}
 use Rattle.csv.specs.Records.{fields_of}
 use Rattle.record_rows.specs.declared.fields.TheConstants.{FIELD_LIMIT}
 use Rattle.record_rows.proofs.FieldLemmas.{field-there, field-none}
-use Rattle.record_rows.proofs.fields.fields_of_record.Goals as goal
+use Rattle.record_rows.proofs.fields.fill_with_record.Goals as goal
 
 pub returns-in-None : goal.returns-in-None
 returns-in-None c =

@@ -5,8 +5,8 @@ use Rattle.std.proofs.lemmas.Bool.{eqb-true, eqb-false}
 use Rattle.desk_base.specs.Parts.{parts_by}
 use Rattle.record_rows.proofs.FieldLemmas.{take-front}
 use Rattle.record_rows.proofs.CommaLemmas.{parts-comma, parts-last, AreUncut-more, AreUncut-none}
-use Rattle.record_rows.proofs.fields.fields_of_line.Goals as goal
-use Rattle.record_rows.proofs.fields.fields_of_line.Goals.{then-byte-eq44+else-is_full, else-byte-eq44}
+use Rattle.record_rows.proofs.fields.fill_with_line.Goals as goal
+use Rattle.record_rows.proofs.fields.fill_with_line.Goals.{then-byte-eq44+else-is_full, else-byte-eq44}
 
 pub returns-then-is_full : goal.returns-then-is_full
 returns-then-is_full c = take-front _ (parts_by 44 (drop c.loop-at.start c.args.text.now)) _ c.loop-at.invariant.parts

@@ -1,7 +1,7 @@
 use Rattle.std.proofs.Common.{◌≡◌, ◌++◌, ◌-◌, ◌≤◌, ◌==◌, false, length, map, take, drop}
 use Rattle.std.specs.List.{All}
 use Rattle.desk_base.specs.Parts.{parts_by}
-use Rattle.record_rows.proofs.fields.fields_of_line.Given as goal
+use Rattle.record_rows.proofs.fields.fill_with_line.Given as goal
 
 abbrev pub invariant-loop-at : goal.invariant-loop-at
 invariant-loop-at l = record {

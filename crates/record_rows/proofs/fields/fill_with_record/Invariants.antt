@@ -1,6 +1,6 @@
 use Rattle.std.proofs.Common.{◌≡◌, ◌≤◌, map, take, length}
 use Rattle.csv.specs.Records.{fields_of}
-use Rattle.record_rows.proofs.fields.fields_of_record.Given as goal
+use Rattle.record_rows.proofs.fields.fill_with_record.Given as goal
 
 abbrev pub invariant-loop-place : goal.invariant-loop-place
 invariant-loop-place l = (map (λ field. field.now) l.fields.items ≡ take l.place (fields_of l.row)) × (length l.fields.items ≤ l.place)
