@@ -77,15 +77,16 @@ fn answer<R: Reads>(reads: &R, work: &mut R::Work, taken: Minute, stated: &State
 }
 
 /// The entry that the rules give for what caller 0 to 63 states.
-pub fn next_entry<R: Reads>(reads: &R, work: &mut R::Work, caller: u8, stated: Stated) -> Entry
+pub fn next_entry<R: Reads>(reads: &R, work: &mut R::Work, caller: u8, stated: &Stated) -> Entry
     requires caller { caller ≤ LAST_CALLER }
     requires suits { R.suits reads.now work.old }
-    ensures entry { (h : History) → R.tells reads.now h → result ≡ next h caller stated }
-    ensures stated { IsStated stated }
+    ensures entry { (h : History) → R.tells reads.now h → result ≡ next h caller stated.now }
+    ensures stated { IsStated stated.now }
     ensures suits { R.suits reads.now work.new }
     ensures steps { (h : History) → R.tells reads.now h
-        → R.steps work.new ≤ R.steps work.old + most_steps (R.most reads.now h) h (moment h stated.minute) stated.cmd }
+        → R.steps work.new ≤ R.steps work.old + most_steps (R.most reads.now h) h (moment h stated.now.minute) stated.now.cmd }
 {
     let taken = moment(reads, stated.minute());
-    Entry::new(caller, stated, taken, answer(reads, work, taken, &stated))
+    let reply = answer(reads, work, taken, stated);
+    Entry::new(caller, *stated, taken, reply)
 }

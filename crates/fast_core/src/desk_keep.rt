@@ -36,7 +36,9 @@ impl Desk {
         })
     }
 
-    /// Keeps what the next entry changes.
+    /// Keeps what the next entry changes. It stays a call: inlined, the entry is copied twice more on its
+    /// way to the caller.
+    #[inline(never)]
     pub fn keep(&mut self, entry: &Entry)
         ensures tells { (h : History) → Tells self.old h → IsNext h entry.now → Tells self.new (with_entry h entry.now) }
         ensures opening { self.new.opening ≡ self.old.opening }

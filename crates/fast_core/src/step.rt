@@ -52,7 +52,7 @@ impl FastCore {
             desk: &self.desk,
             ledger: PhantomData,
         };
-        let entry = next_entry(&looks, steps, caller, stated);
+        let entry = next_entry(&looks, steps, caller, &stated);
         self.desk.keep(&entry);
         self.left -= 1;
         entry

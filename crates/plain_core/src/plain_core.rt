@@ -57,7 +57,7 @@ impl DeskCore for PlainCore {
     ghost stands = { λ core h. IsKept core.kept.opening core.kept.entries.items h };
 
     fn step(&mut self, caller: u8, stated: Stated) -> Entry {
-        let entry = next_entry(&self.kept, &mut self.lists, caller, stated);
+        let entry = next_entry(&self.kept, &mut self.lists, caller, &stated);
         self.kept.entries.push_reserved(entry);
         self.left -= 1;
         entry

@@ -22,6 +22,7 @@ returns-in-Some c h p who tells asked is known =
 pub returns-in-None : goal.returns-in-None
 returns-in-None c h p who tells asked is known =
     let a = c.args.asked.now in
+    let facts = facts_of h a.moment a.job.now p who in
     let until = c.held-until.ensures h p tells is.place ∙ ap (λ chain. held h a.moment chain p) c.chain.ensures in
     c.law.ensures h p who tells.legal is asked known
-    ∙ sym (first_bar-known (facts_of h a.moment a.job.now p who) c.facts.result _ (c.the_law_comes_last.ensures _) (c.facts.ensures h p who tells.legal is asked known until) (sym c.in-None.is ∙ c.first_bar.ensures.first))
+    ∙ sym (first_bar-known facts c.facts.result _ (c.the_law_comes_last.ensures facts) (c.facts.ensures h p who tells.legal is asked known until) (sym c.in-None.is ∙ c.first_bar.ensures.first))
