@@ -178,3 +178,16 @@ fn a_hint_is_where_a_number_was_put_last(rt: HostRuntime) -> Result<(), Fail> {
     assert!(rt; copy.of(7) == 499);
     Ok(())
 }
+
+// With 2^13 hints they don't.
+#[test]
+fn more_hints_are_of_fewer_numbers(rt: HostRuntime) -> Result<(), Fail> {
+    let mut hints = PlaceHints::new(rt.alloc(), 13)?;
+    hints.set(7, 499);
+    hints.set(4_103, 12);
+    assert!(rt; hints.of(7) == 499);
+    assert!(rt; hints.of(4_103) == 12);
+    hints.set(8_199, 3);
+    assert!(rt; hints.of(7) == 3);
+    Ok(())
+}
