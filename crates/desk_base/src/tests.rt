@@ -179,7 +179,7 @@ fn a_hint_is_where_a_number_was_put_last(rt: HostRuntime) -> Result<(), Fail> {
     Ok(())
 }
 
-// With 2^13 hints they don't.
+// With 2^13 hints, numbers that are 4,096 apart have one each, and 8,192 apart share one.
 #[test]
 fn more_hints_are_of_fewer_numbers(rt: HostRuntime) -> Result<(), Fail> {
     let mut hints = PlaceHints::new(rt.alloc(), 13)?;
