@@ -27,9 +27,11 @@ if [ $failed = 0 ]; then
     kept sh tools/callers.sh crates/crewdesk_main/out/crewdesk_main || failed=1
     callers=$(tail -n 1 "$log")
 fi
+kept python3 -B tools/listed.py || failed=1
+listed=$(tail -n 1 "$log")
 kept sh tools/promises.sh || failed=1
 promises=$(tail -n 1 "$log")
 rm -f build/gate.status
 [ $failed = 0 ] || echo "build/gate.log says what failed"
-echo "gate: $proofs; examples: $examples; journals: $journals; callers: $callers; promises: $promises"
+echo "gate: $proofs; examples: $examples; journals: $journals; callers: $callers; crates: $listed; promises: $promises"
 [ $failed = 0 ]

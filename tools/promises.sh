@@ -1,9 +1,8 @@
 #!/bin/sh
-# promises.sh: compares two documents with the sources. Every function, clause and definition that a row of the table in
-# docs/PROVED.md names is there, and the column 'Stands on' of docs/ARCHITECTURE.md is what crates.txt says.
+# promises.sh: compares the table in docs/PROVED.md with the sources. Every function, clause and definition that a row names is there.
 # A row names functions as `crate::function` or `crate::Type::function`, a trait as `crate::Trait`, each followed by a
 # colon and its clauses where these have names, and definitions as `crate.File.name`.
-# The last line is 'N passed, M failed': rows of both tables.
+# The last line is 'N passed, M failed': rows.
 cd "$(dirname "$0")/.." || exit 2
 work=$(mktemp -d) || exit 2
 trap 'rm -rf "$work"' EXIT
@@ -63,22 +62,8 @@ awk -v functions="$work/functions" -v definitions="$work/definitions" '
 ' docs/PROVED.md > "$work/promises"
 sed '$d' "$work/promises"
 
-# The crates, each with those of this repository that it stands on, by crates.txt and by the table.
-sed 's/#.*//' crates.txt | awk -F: 'NF == 2 { split($1, name, " "); own[name[1]] = 1; order[++n] = name[1]; deps[name[1]] = $2 }
-    END { for (i = 1; i <= n; i++) { count = split(deps[order[i]], dep, " "); for (j = 1; j <= count; j++) if (dep[j] in own) print order[i], dep[j]; print order[i], "-" } }' | sort > "$work/listed"
-awk -F'|' '/^\| `/ { split($2, name, "`"); count = split($4, dep, "`"); for (j = 2; j <= count; j += 2) print name[2], dep[j]; print name[2], "-" }' docs/ARCHITECTURE.md | sort > "$work/told"
-comm -3 "$work/listed" "$work/told" > "$work/differs"
-awk -F'\t' '
-    { split($1 == "" ? $2 : $1, pair, " ") }
-    pair[2] == "-" { print "docs/ARCHITECTURE.md: `" pair[1] "` " ($1 == "" ? "is no crate of crates.txt" : "has no row"); next }
-    $1 == "" { print "docs/ARCHITECTURE.md: `" pair[1] "` does not stand on `" pair[2] "` in crates.txt"; next }
-    { print "docs/ARCHITECTURE.md: `" pair[1] "` stands on `" pair[2] "` in crates.txt" }
-' "$work/differs"
-crates=$(cut -d' ' -f1 "$work/listed" | sort -u | wc -l)
-apart=$(awk -F'\t' '{ split($1 == "" ? $2 : $1, pair, " "); print pair[1] }' "$work/differs" | sort -u | wc -l)
-
 tail -n 1 "$work/promises" | {
     read -r passed failed
-    echo "$((passed + crates - apart)) passed, $((failed + apart)) failed"
-    [ "$passed" != 0 ] && [ $((failed + apart)) = 0 ]
+    echo "$passed passed, $failed failed"
+    [ "$passed" != 0 ] && [ "$failed" = 0 ]
 }
