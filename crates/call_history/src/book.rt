@@ -9,13 +9,21 @@ use desk_model::{Booked, DeskCore, Entry, LAST_CALLER, Stated};
 use std::alloc::Global;
 
 /// A desk, and all entries that it has answered.
-#[derive(Drop)]
 pub struct Book<C: DeskCore> {
     core: C,
     entries: Vec<Entry>,
     ghost stands: { ∥ C.stands core (history_of (C.opening core) entries.items) ∥₁ },
     ghost room: { vec_len entries + C.room core ≤ vec_capacity entries },
     ghost few: { vec_len entries + C.room core < 2 ^ 32 },
+}
+
+impl<C: DeskCore> Drop for Book<C> {
+    fn drop(self) {
+        let Self {
+            core: _,
+            entries: _,
+        } = self;
+    }
 }
 
 impl<C: DeskCore> Book<C> {

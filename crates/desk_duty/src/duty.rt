@@ -5,9 +5,17 @@ use desk_base::Window;
 use person_clock::PersonClock;
 
 /// The clocks of a desk's persons, in the order in which these were enrolled, with memory for 1,000.
-#[derive(Drop)]
 pub struct Duty {
     pub(crate) clocks: Vec<PersonClock>,
     pub(crate) window: Window,
     ghost room: { PERSON_LIMIT ≤ vec_capacity clocks },
+}
+
+impl Drop for Duty {
+    fn drop(self) {
+        let Self {
+            clocks: _,
+            window: _,
+        } = self;
+    }
 }

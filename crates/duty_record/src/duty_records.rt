@@ -17,11 +17,20 @@ use duty_events::Event;
 use std::alloc::Global;
 
 /// The records of the tours of all persons, as entries are read one after another. It keeps no entry.
-#[derive(Drop)]
 pub struct DutyRecords {
     pub(crate) book: TourBook,
     pub(crate) assignments: Assignments,
     pub(crate) relief: ReliefMarks,
+}
+
+impl Drop for DutyRecords {
+    fn drop(self) {
+        let Self {
+            book: _,
+            assignments: _,
+            relief: _,
+        } = self;
+    }
 }
 
 impl DutyRecords {

@@ -18,13 +18,24 @@ pub const MOST_MEMBERS: u16 = 500;
 /// A board of persons in order, each with the minute from which they are ready. It belongs to a place, and is a pool or an
 /// extra board. Nobody is listed twice, and at most 500 are. Places count from 1. Boards share the hints of where each person
 /// stands; the number of each is its own.
-#[derive(Drop)]
 pub struct Board {
     number: u8,
     place: Code,
     extra: bool,
     listed: u16,
     tree: SlotTree,
+}
+
+impl Drop for Board {
+    fn drop(self) {
+        let Self {
+            number: _,
+            place: _,
+            extra: _,
+            listed: _,
+            tree: _,
+        } = self;
+    }
 }
 
 impl Model for Board {
