@@ -20,3 +20,5 @@ pub mod SpelledReplyLemmas
 pub mod SpelledEntryLemmas
 pub mod BeginningLemmas
 pub mod JournalLemmas
+mod WordLemmas
+mod PlainReplyLemmas
