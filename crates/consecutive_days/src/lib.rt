@@ -12,8 +12,3 @@ pub use laws::{days_in_words, days_when_an_event_comes};
 pub use run::{
     OFF_AFTER_SEVEN_DAYS, OFF_AFTER_SIX_DAYS, Run, SIX_DAYS, last_run, need, next_run, run_days,
 };
-
-#[cfg(test)]
-mod tests;
-#[cfg(test)]
-mod time_off_tests;

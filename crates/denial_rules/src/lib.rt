@@ -10,6 +10,3 @@ pub use bar::{Bar, name};
 pub use facts::Facts;
 pub use laws::the_law_comes_last;
 pub use table::{busy_bar, first_bar};
-
-#[cfg(test)]
-mod tests;

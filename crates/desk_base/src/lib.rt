@@ -28,6 +28,3 @@ pub use place_hints::PlaceHints;
 pub use span::Span;
 pub use vac_no::VacNo;
 pub use window::{WINDOW_MONTHS, Window};
-
-#[cfg(test)]
-mod tests;

@@ -31,6 +31,3 @@ pub use sure_sink::SureSink;
 pub use sure_source::SureSource;
 pub use taking::Taking;
 pub use writer_sink::WriterSink;
-
-#[cfg(test)]
-mod tests;

@@ -40,10 +40,3 @@ pub use sequence::{allowed, stage_of};
 pub use spell::{between, kind_behind, kind_during, kind_until};
 pub use stage::Stage;
 pub use tour::Tour;
-
-#[cfg(test)]
-mod list_tests;
-#[cfg(test)]
-mod tests;
-#[cfg(test)]
-mod tour_tests;

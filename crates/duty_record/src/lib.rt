@@ -19,6 +19,3 @@ pub use laws::{
     each_tour_has_one_record, no_records_are_an_empty_array, the_last_excess_is_owed_to_rest,
 };
 pub use tour_record::TourRecord;
-
-#[cfg(test)]
-mod tests;

@@ -12,6 +12,3 @@ pub use laws::{
     no_bar_where_the_law_is_kept, what_a_bar_of_the_law_keeps, who_is_rested_was_off_ten_hours,
 };
 pub use section::law_bar;
-
-#[cfg(test)]
-mod tests;

@@ -21,8 +21,3 @@ pub use passed::{over_limbo, over_month};
 pub use plan::Plan;
 pub use plan_months::{MOST_PLANNED, PlanMonths};
 pub use work::used;
-
-#[cfg(test)]
-mod plan_tests;
-#[cfg(test)]
-mod tests;

@@ -7,6 +7,3 @@ mod places;
 
 pub use flight::{Flight, OFFERS};
 pub use in_flight::InFlight;
-
-#[cfg(test)]
-mod tests;

@@ -10,6 +10,3 @@ mod minutes;
 mod rest_clock;
 
 pub use clock::PersonClock;
-
-#[cfg(test)]
-mod tests;

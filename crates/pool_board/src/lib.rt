@@ -7,6 +7,3 @@ mod slots;
 
 pub use board::{Board, MOST_MEMBERS};
 pub use members_full::MembersFull;
-
-#[cfg(test)]
-mod tests;

@@ -6,6 +6,3 @@ mod quals;
 
 pub use craft::Craft;
 pub use quals::{Quals, QualsText};
-
-#[cfg(test)]
-mod tests;

@@ -11,6 +11,3 @@ pub use fields::{Fields, fill_with_line};
 pub use plain::is_plain;
 pub use row::Row;
 pub use rows::Rows;
-
-#[cfg(test)]
-mod tests;

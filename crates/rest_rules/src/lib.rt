@@ -11,6 +11,3 @@ pub use laws::{excess_when_an_event_comes, off_when_an_event_comes, rest_in_word
 pub use off_since::off_from;
 pub use rest::{REST, rest_end, rest_ok};
 pub use tour_excess::excess;
-
-#[cfg(test)]
-mod tests;

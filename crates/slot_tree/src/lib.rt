@@ -12,6 +12,3 @@ mod steps;
 pub use slot::Slot;
 pub use slot_tree::SlotTree;
 pub use steps::Steps;
-
-#[cfg(test)]
-mod tests;

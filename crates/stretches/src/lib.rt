@@ -6,6 +6,3 @@ mod laws;
 
 pub use gauge::Gauge;
 pub use laws::a_stretch_is_found_where_there_is_one;
-
-#[cfg(test)]
-mod tests;

@@ -12,6 +12,3 @@ pub use interval::Interval;
 pub use month_sums::MonthSums;
 pub use running_tour::RunningTour;
 pub use tour_totals::TourTotals;
-
-#[cfg(test)]
-mod tests;

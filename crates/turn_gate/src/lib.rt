@@ -26,6 +26,3 @@ pub use seat::Seat;
 pub use short::Short;
 pub use spent::Spent;
 pub use turn::Turn;
-
-#[cfg(test)]
-mod tests;

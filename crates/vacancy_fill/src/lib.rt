@@ -7,6 +7,3 @@ mod on_board;
 
 pub use fill::{Found, first};
 pub use judge::Judge;
-
-#[cfg(test)]
-mod tests;

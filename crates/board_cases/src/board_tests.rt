@@ -1,0 +1,268 @@
+//! Boards against lists that are changed by hand.
+ghost use Rattle.std.specs.Prelude.{◌≡◌, ◌<◌, ◌≤◌, IfSome, length, vec_len};
+
+use desk_base::{Code, Minute, PersonNo, PlaceHints};
+use pool_board::{Board, MOST_MEMBERS};
+use slot_tree::Steps;
+use std::alloc::Global;
+use std::marker::Brand;
+use std::sync::ledger::{Blank, Ledger};
+use std::test::Fail;
+
+fn person(number: u32) -> Result<PersonNo, Fail> {
+    Ok(PersonNo::new(number).ok_or("no person")?)
+}
+
+fn minute(number: u64) -> Result<Minute, Fail> {
+    Ok(Minute::new(number).ok_or("no minute")?)
+}
+
+// A board with its hints.
+#[derive(Drop)]
+struct Kept {
+    board: Board,
+    hints: PlaceHints,
+}
+
+fn board(alloc: Global) -> Result<Kept, Fail> {
+    let place = Code::read(b"HOM").ok_or("no code")?;
+    let board = Board::new(alloc, 7, place, true)?;
+    let hints = Board::hints(alloc)?;
+    Ok(Kept { board, hints })
+}
+
+// Whether a person who isn't listed was put at the bottom.
+fn list(kept: &mut Kept, number: u32, ready: u64) -> Result<bool, Fail> {
+    let person = person(number)?;
+    if kept.board.position(person, &kept.hints).is_some() {
+        return Err("listed".into());
+    }
+    let ready = minute(ready)?;
+    Ok(kept.board.list(person, ready, &mut kept.hints).is_ok())
+}
+
+// What is done to a listed person.
+#[derive(Clone, Copy)]
+enum Act {
+    Unlist,
+    ToBottom,
+    ToBottomReady(u64),
+    Ready(u64),
+}
+
+fn act_on_board(kept: &mut Kept, number: u32, act: Act) -> Result<(), Fail> {
+    let person = person(number)?;
+    if kept.board.position(person, &kept.hints).is_none() {
+        return Err("not listed".into());
+    }
+    let (board, hints) = (&mut kept.board, &mut kept.hints);
+    match act {
+        Act::Unlist => board.unlist(person, hints),
+        Act::ToBottom => board.to_bottom(person, hints),
+        Act::ToBottomReady(ready) => board.to_bottom_ready(person, minute(ready)?, hints),
+        Act::Ready(ready) => board.set_ready(person, minute(ready)?, hints),
+    }
+    Ok(())
+}
+
+// The same of the list that a board should stand for.
+fn act_on_list(order: &mut Vec<(u32, u64)>, place: usize, act: Act)
+    requires { place < vec_len order.old }
+{
+    match act {
+        Act::Unlist => {
+            order.remove(place);
+        }
+        Act::ToBottom => order[place..].rotate_left(1),
+        Act::ToBottomReady(ready) => {
+            order[place].1 = ready;
+            order[place..].rotate_left(1);
+        }
+        Act::Ready(ready) => order[place].1 = ready,
+    }
+}
+
+// The first place that is ready, with a count of steps of its own.
+fn ready_of<L: Ledger>(blank: Blank, board: &Board, place: u16, m: Minute) -> Option<u16>
+    requires name { blank.name ≡ L.name }
+    requires parts { blank.parts ≡ L.parts }
+    requires some { 0 < blank.parts }
+    requires place { 1 ≤ place }
+{
+    let mut steps = Steps::<L>::new(blank);
+    board.ready_from(place, m, &mut steps)
+}
+
+fn ready_from(board: &Board, place: u16, m: Minute) -> Option<u16>
+    requires { 1 ≤ place }
+{
+    ready_of::<Brand>(Blank::new(1), board, place, m)
+}
+
+// The numbers of the persons, from the first place on.
+fn stands_as(board: &Board, numbers: &[(u32, u64)]) -> bool {
+    let mut place = 0_u16;
+    for (number, _) in numbers {
+        place = place.saturating_add(1);
+        match board.at(place) {
+            Some(person) if person.number() == *number => {}
+            _ => return false,
+        }
+    }
+    board.length() == place && board.at(place.saturating_add(1)).is_none()
+}
+
+#[test]
+fn two_full_rounds(rt: HostRuntime) -> Result<(), Fail> {
+    let mut full = board(rt.alloc())?;
+    let mut order = Vec::new(rt.alloc());
+    for number in 1..501_u32 {
+        assert!(rt; list(&mut full, number, 7)?);
+        order.push((number, 7))?;
+    }
+    assert_eq!(rt; full.board.length(), MOST_MEMBERS);
+    assert!(rt; !list(&mut full, 501, 7)?);
+    assert!(rt; stands_as(&full.board, &order));
+    for _ in 0..1_000 {
+        let first = full.board.at(1).ok_or("nobody")?;
+        act_on_board(&mut full, first.number(), Act::ToBottom)?;
+    }
+    assert!(rt; stands_as(&full.board, &order));
+    Ok(())
+}
+
+// A board from which all were taken becomes a pool.
+fn starts_again(board: &mut Board) -> Result<(), Fail> {
+    if board.length() != 0 {
+        return Err("somebody is listed".into());
+    }
+    let place = board.place();
+    board.restart(place, false);
+    Ok(())
+}
+
+fn three(alloc: Global) -> Result<Kept, Fail> {
+    let mut pool = board(alloc)?;
+    for (number, ready) in [(7, 300), (8, 100), (9, 200)] {
+        list(&mut pool, number, ready)?;
+    }
+    Ok(pool)
+}
+
+#[test]
+fn the_first_in_order_and_not_the_longest_rested(rt: HostRuntime) -> Result<(), Fail> {
+    let pool = three(rt.alloc())?;
+    let asked = [
+        (1, 300, Some(1)),
+        (1, 200, Some(2)),
+        (3, 199, None),
+        (3, 200, Some(3)),
+    ];
+    for (from, m, expected) in asked {
+        assert_eq!(rt; ready_from(&pool.board, from, minute(m)?), expected);
+    }
+    Ok(())
+}
+
+#[test]
+fn who_is_taken_off_is_on_it_no_more(rt: HostRuntime) -> Result<(), Fail> {
+    let mut pool = three(rt.alloc())?;
+    act_on_board(&mut pool, 8, Act::Unlist)?;
+    for (number, expected) in [(6, false), (7, true), (8, false), (9, true)] {
+        assert_eq!(rt; pool.board.has(person(number)?, &pool.hints), expected);
+    }
+    Ok(())
+}
+
+#[test]
+fn a_board_starts_again(rt: HostRuntime) -> Result<(), Fail> {
+    let mut pool = three(rt.alloc())?;
+    let copy = pool.board.copy(rt.alloc())?;
+    for number in 7..10 {
+        act_on_board(&mut pool, number, Act::Unlist)?;
+    }
+    starts_again(&mut pool.board)?;
+    assert!(rt; stands_as(&pool.board, &[]) && !pool.board.is_extra());
+    assert!(rt; stands_as(&copy, &[(7, 300), (8, 100), (9, 200)]) && copy.is_extra());
+    Ok(())
+}
+
+// The next of numbers in no plain order, below one.
+fn drawn(seed: &mut u64, below: u32) -> u32
+    requires { 0 < below }
+    ensures { result < below }
+{
+    *seed = seed
+        .wrapping_mul(6_364_136_223_846_793_005)
+        .wrapping_add(1_442_695_040_888_963_407);
+    (*seed >> 33) as u32 % below
+}
+
+// Where a person stands in the list, from 0.
+fn place_of(order: &[(u32, u64)], number: u32) -> Option<usize>
+    ensures { IfSome result (λ place. place < length order.now) }
+{
+    for i in 0..order.len() {
+        if order[i].0 == number {
+            return Some(i);
+        }
+    }
+    None
+}
+
+fn drawn_act(seed: &mut u64) -> Act {
+    match drawn(seed, 8) {
+        0 => Act::Unlist,
+        1 | 2 => Act::Ready(u64::from(drawn(seed, 100))),
+        3 | 4 => Act::ToBottomReady(u64::from(drawn(seed, 100))),
+        _ => Act::ToBottom,
+    }
+}
+
+// One change of the board, and of the list that it should stand for.
+fn change(board: &mut Kept, order: &mut Vec<(u32, u64)>, seed: &mut u64) -> Result<(), Fail> {
+    let number = 1 + drawn(seed, 30);
+    match place_of(order, number) {
+        None => {
+            let ready = u64::from(drawn(seed, 100));
+            list(board, number, ready)?;
+            order.push((number, ready))?;
+        }
+        Some(place) => {
+            let drawn = drawn_act(seed);
+            act_on_board(board, number, drawn)?;
+            act_on_list(order, place, drawn);
+        }
+    }
+    Ok(())
+}
+
+// The first place of the list, from one on, that is ready.
+fn scanned(order: &[(u32, u64)], from: u16, m: u64) -> Option<u16> {
+    let mut place = 0_u16;
+    for (_, ready) in order {
+        place = place.saturating_add(1);
+        if place >= from && *ready <= m {
+            return Some(place);
+        }
+    }
+    None
+}
+
+#[test]
+fn changes_as_a_list(rt: HostRuntime) -> Result<(), Fail> {
+    let mut pool = board(rt.alloc())?;
+    let mut order = Vec::new(rt.alloc());
+    let mut seed = 11;
+    for _ in 0..4_000 {
+        change(&mut pool, &mut order, &mut seed)?;
+        assert!(rt; stands_as(&pool.board, &order));
+        let from = 1 + drawn(&mut seed, 32) as u16;
+        let m = u64::from(drawn(&mut seed, 100));
+        assert_eq!(rt;
+            ready_from(&pool.board, from, minute(m)?),
+            scanned(&order, from, m)
+        );
+    }
+    Ok(())
+}

@@ -1,4 +1,0 @@
-use Rattle.pool_board.proofs.tests.ready_from.Given as goal
-
-abbrev pub ghosts-ready_of : goal.ghosts-ready_of
-ghosts-ready_of a = record { name = a.blank.name; parts = a.blank.parts }
