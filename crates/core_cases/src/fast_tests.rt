@@ -1,4 +1,4 @@
-//! A desk that looks up beside one that searches all that was stated, and tables that are full.
+//! A desk that looks up beside one that searches all that was stated.
 use crate::commands::{enrol, list, set_up, take};
 use desk_base::{Code, Minute, Month, PersonNo, VacNo, Window};
 use desk_model::{Chain, Cmd, DeskCore, Edition, Job, Opening, Reply};
@@ -9,7 +9,6 @@ use std::test::Fail;
 mod days;
 mod drawn;
 mod draws;
-mod full;
 mod kinds;
 
 // The minute of a time of the day, 14 March 2024.

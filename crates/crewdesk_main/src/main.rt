@@ -58,6 +58,3 @@ fn given_words(rt: &(impl Env + AllocGlobal)) -> Result<Vec<String>, Status> {
     })?;
     behind_the_name(rt.alloc(), given).map_err(|_| Status::NoMemory)
 }
-
-#[cfg(test)]
-mod tests;

@@ -2,6 +2,8 @@
 #![tactic(auto)]
 
 #[cfg(test)]
+mod command_tests;
+#[cfg(test)]
 mod file_tests;
 #[cfg(test)]
 mod hear_tests;
