@@ -1,18 +1,19 @@
-# make        proves the crates, a line for each, and leaves the program at build/crewdesk
+# make        proves what the program stands on, a line for each crate, and leaves the program at build/crewdesk
 # make run    does so where needed, and replays an example
 # make try    replays the same example in seconds, for who only wants to look: it proves nothing, and says so
 # make memory refuses runs of the program each request for memory in turn; it proves nothing, and takes a C compiler
-# make test   the gate: proofs, must-fail edits, tests, examples, and the table of promises
+# make test   the gate: proofs, must-fail edits, tests, examples and other runs, and the table of promises
+# make costs  what the gate costs from nothing, by crate, in as long as the gate takes
 PROGRAM := build/crewdesk
 DAY := examples/a_denial_for_rest/stdin
 SOURCES := crates.txt HANDLES $(shell find crates -name out -prune -o -type f -print)
 
-.PHONY: all run try memory test clean
+.PHONY: all run try memory test costs clean
 
 all: $(PROGRAM)
 
 $(PROGRAM): $(SOURCES)
-	@sh tools/prove.sh $@
+	@python3 -B tools/prove.py $@
 
 run: $(PROGRAM)
 	@$(PROGRAM) replay < $(DAY)
@@ -26,6 +27,9 @@ memory: $(PROGRAM)
 
 test:
 	@sh tools/gate.sh
+
+costs:
+	@python3 -B tools/costs.py gate
 
 clean:
 	rm -rf build crates/*/out
