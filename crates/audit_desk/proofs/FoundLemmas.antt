@@ -9,8 +9,8 @@ use Rattle.desk_model.specs.History.{History, with_entry}
 use Rattle.desk_model.specs.Fits.{Fits}
 use Rattle.desk_model.specs.Legal.{IsLegal, next}
 use Rattle.desk_model.specs.Journal.{entry_line, journal}
-use Rattle.desk_text.specs.Line.{IsLine}
-use Rattle.desk_text.proofs.JournalLemmas.{journal-next}
+use Rattle.line_writer.specs.Line.{IsLine}
+use Rattle.line_writer.proofs.JournalLemmas.{journal-next}
 use Rattle.desk_text.specs.SpelledEntry.{IsEntryLine, statement_of}
 use Rattle.desk_text.specs.declared.statement.Statement.{Statement}
 use Rattle.audit_desk.specs.Found.{HasUnreadable, line_behind}

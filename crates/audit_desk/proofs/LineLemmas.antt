@@ -4,7 +4,7 @@ use Rattle.std.proofs.Math.Seq.{take-suc}
 use Rattle.std.proofs.lemmas.Bool.{eqb-true}
 use Rattle.memchr.specs.Find.{IsFirstByte, is_byte}
 use Rattle.desk_base.specs.Parts.{parts_by}
-use Rattle.desk_text.specs.Line.{IsLine}
+use Rattle.line_writer.specs.Line.{IsLine}
 use Rattle.desk_text.proofs.CutLemmas.{parts-one, text-parts, some-parts}
 use Rattle.desk_text.proofs.BeginningLemmas.{unfed}
 

@@ -9,7 +9,7 @@ use Rattle.desk_model.specs.History.{History, history_of, opened, with_entry, st
 use Rattle.desk_model.specs.Legal.{IsLegal, IsNext, next}
 use Rattle.desk_model.specs.Journal.{opening_line, entry_line, entry_lines, journal}
 use Rattle.desk_model.specs.Opening.{IsOpening}
-use Rattle.desk_text.specs.Line.{IsLine}
+use Rattle.line_writer.specs.Line.{IsLine}
 use Rattle.desk_text.proofs.LineLemmas.{entry_line-IsLine, opening_line-IsLine}
 use Rattle.desk_text.proofs.BeginningLemmas.{lines-two, entry_line-one, opening_line-one}
 use Rattle.audit_desk.specs.Found.{Begins, IsJournal, HasWrong, HasUnreadable, HasNoOpening, Finds, outcome_of}

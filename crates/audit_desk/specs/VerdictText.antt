@@ -1,7 +1,7 @@
 -- The lines that tell a verdict.
 use Rattle.std.specs.Prelude.{ℕ, List, [], ◌++◌, codes}
-use Rattle.desk_text.specs.Line.{outcome_line}
-use Rattle.desk_text.specs.Tally.{count_line}
+use Rattle.line_writer.specs.Line.{outcome_line}
+use Rattle.line_writer.specs.Tally.{count_line}
 use Rattle.audit_desk.specs.declared.outcome.Outcome.{Outcome}
 use Rattle.audit_desk.specs.declared.verdict.Verdict.{Verdict}
 use Rattle.audit_desk.specs.declared.verdict.Verdict.TheVariants as verdict

@@ -8,9 +8,9 @@ ghost use Rattle.audit_desk.specs.Resumed.{Resumes};
 use crate::lines::first_line;
 use crate::{Outcome, Verdict};
 use desk_model::{DeskCore, Entry};
-use desk_text::{
-    LastMinute, LineText, each_line_ends_once, fill_with_outcome, read_entry, read_statement,
-};
+use desk_text::{each_line_ends_once, read_entry, read_statement};
+use line_writer::{LineText, fill_with_outcome};
+use record_rows::LastMinute;
 
 // What the desk answered by an entry.
 fn outcome_of(entry: &Entry) -> Outcome

@@ -1,7 +1,7 @@
 //! The first line of a text.
 ghost use Rattle.std.specs.Prelude.{◌≡◌, ◌≢◌, ◌<◌, ◌==◌, ◌∷◌, ◌++◌, ℕ, List, [], false, length};
 ghost use Rattle.std.specs.List.{All};
-ghost use Rattle.desk_text.specs.Line.{IsLine};
+ghost use Rattle.line_writer.specs.Line.{IsLine};
 
 use memchr::memchr;
 

@@ -1,12 +1,12 @@
 //! The lines that tell a verdict.
 ghost use Rattle.std.specs.Prelude.{◌≡◌, ◌++◌, IfOk};
-ghost use Rattle.desk_text.specs.Tally.{count_line};
+ghost use Rattle.line_writer.specs.Tally.{count_line};
 ghost use Rattle.audit_desk.specs.VerdictText.{told_outcome, verdict_text};
 
 use crate::{Outcome, Verdict};
 use desk_base::NoMemory;
-use desk_text::write_outcome;
 use itoa::Buffer;
+use line_writer::write_outcome;
 use std::alloc::Global;
 
 /// The lines that tell a verdict: `legal n`, `unreadable n`, or the three lines `wrong n`, `written MOMENT|REPLY` and

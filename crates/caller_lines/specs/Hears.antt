@@ -1,6 +1,6 @@
 use Rattle.std.specs.Prelude.{◌≡◌, ℕ, List, ⊤}
 use Rattle.std.specs.declared.option.Option.{Option}
-use Rattle.desk_text.specs.CommandLine.{IsCommandLine, IsMalformed}
+use Rattle.command_parser.specs.CommandLine.{IsCommandLine, IsMalformed}
 use Rattle.caller_lines.specs.Given.{Given, GaveLine, GaveTooLong, GaveEnd, GaveFailed}
 use Rattle.caller_lines.specs.Told.{with_last}
 use Rattle.caller_lines.specs.declared.said.Said.{Said}

@@ -6,7 +6,7 @@ ghost use Rattle.caller_lines.specs.Told.{with_last};
 ghost use Rattle.caller_lines.specs.Hears.{Hears, ReadsAs};
 
 use crate::{CallerLine, Heard, LineBuf, Said};
-use desk_text::{ReadFail, read_command};
+use command_parser::{ReadFail, read_command};
 use std::alloc::Global;
 
 /// Asks the line once, and reads what it gives as a command. Memory is wanted only where it gave a line.

@@ -13,9 +13,9 @@ use Rattle.desk_model.specs.Fits.{IsStated}
 use Rattle.desk_model.specs.History.{History, with_entry}
 use Rattle.desk_model.specs.Journal.{journal}
 use Rattle.desk_model.specs.Legal.{next, history_from, MayState, IsLegal}
-use Rattle.desk_text.specs.MoreCommands.{AreCommands, HasMoreFault}
-use Rattle.desk_text.specs.declared.more_fault.MoreFault.{MoreFault}
-use Rattle.desk_text.specs.declared.more_fault.MoreFault.TheVariants as fault
+use Rattle.command_parser.specs.MoreCommands.{AreCommands, HasMoreFault}
+use Rattle.command_parser.specs.declared.more_fault.MoreFault.{MoreFault}
+use Rattle.command_parser.specs.declared.more_fault.MoreFault.TheVariants as fault
 use Rattle.audit_desk.specs.declared.journal.TheConstants.{BYTE_LIMIT}
 use Rattle.audit_desk.specs.declared.verdict.Verdict.{Verdict}
 use Rattle.audit_desk.specs.declared.verdict.Verdict.TheVariants as verdict

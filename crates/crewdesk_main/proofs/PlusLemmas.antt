@@ -15,7 +15,7 @@ use Rattle.desk_model.specs.StatedTexts.{stated_fields}
 use Rattle.desk_model.specs.ReplyTexts.{reply_text}
 use Rattle.desk_model.specs.Legal.{IsLegal}
 use Rattle.desk_model.specs.Journal.{opening_line, entry_line, entry_lines, journal}
-use Rattle.desk_text.specs.Line.{IsLine}
+use Rattle.line_writer.specs.Line.{IsLine}
 use Rattle.crewdesk_main.specs.Parts.{before_plus, behind_plus, journal_of, more_of}
 
 -- where a line begins, this belongs to the journal part, and a line begins behind it

@@ -8,7 +8,7 @@ use Rattle.desk_model.specs.Fits.{Fits}
 use Rattle.desk_model.specs.Opening.{OpeningValue, IsOpening}
 use Rattle.desk_model.specs.History.{History, opened, with_entry}
 use Rattle.desk_model.specs.Journal.{opening_line, entry_line, journal}
-use Rattle.desk_text.specs.Line.{IsLine}
+use Rattle.line_writer.specs.Line.{IsLine}
 use Rattle.desk_text.specs.SpelledEntry.{IsEntryLine}
 use Rattle.duty_record.specs.declared.duty_records.DutyRecords.{DutyRecords}
 use Rattle.duty_record.specs.Kept.{Keeps}

@@ -5,7 +5,7 @@ use Rattle.desk_io.specs.Faults.{Rose}
 use Rattle.desk_io.specs.Giving.{AddsFront}
 use Rattle.desk_io.specs.declared.status.Status.{Status}
 use Rattle.desk_io.specs.declared.status.Status.TheVariants.{Fine, WriteFault, NoMemory}
-use Rattle.desk_text.specs.Tally.{tally_text}
+use Rattle.line_writer.specs.Tally.{tally_text}
 use Rattle.day_gen.specs.Day.{generated_day}
 use Rattle.crewdesk_main.specs.declared.form.Form.{Form}
 use Rattle.crewdesk_main.specs.declared.form.Form.TheVariants as form

@@ -5,9 +5,9 @@ use Rattle.desk_io.specs.declared.status.Status.TheVariants.{Fine, WriteFault, T
 use Rattle.desk_model.specs.Statement.{StatedValue}
 use Rattle.desk_model.specs.History.{History}
 use Rattle.desk_model.specs.Journal.{journal}
-use Rattle.desk_text.specs.Line.{wrong_line}
-use Rattle.desk_text.specs.MoreCommands.{AreCommands, HasMoreFault}
-use Rattle.desk_text.specs.declared.more_fault.MoreFault.TheVariants as fault
+use Rattle.line_writer.specs.Line.{wrong_line}
+use Rattle.command_parser.specs.MoreCommands.{AreCommands, HasMoreFault}
+use Rattle.command_parser.specs.declared.more_fault.MoreFault.TheVariants as fault
 use Rattle.day_replay.specs.Ends.{EndsAs}
 use Rattle.day_replay.specs.Replay.{goes_on}
 

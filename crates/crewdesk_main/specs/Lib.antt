@@ -7,3 +7,4 @@ pub mod GoesOn
 pub mod Continue
 pub mod Records
 pub mod Forms
+pub mod Callers

@@ -4,7 +4,7 @@ ghost use Rattle.std.specs.Io.KnownBytes.{Appends, Keeps};
 ghost use Rattle.desk_io.specs.Faults.{Rose};
 ghost use Rattle.desk_io.specs.Giving.{AddsFront};
 ghost use Rattle.desk_model.specs.History.{opened};
-ghost use Rattle.desk_text.specs.Tally.{Counts, tally_text};
+ghost use Rattle.line_writer.specs.Tally.{Counts, tally_text};
 ghost use Rattle.day_gen.specs.Day.{day_opening, generated_day};
 ghost use Rattle.day_gen.specs.Generator.{generator_of, most_commands};
 
@@ -12,8 +12,8 @@ use crate::write_text::write_text;
 use day_gen::{DayGen, SET_UP, a_generated_day_grows};
 use desk_io::{Sink, Status};
 use desk_model::{DeskCore, Edition, Entry, Opening};
-use desk_text::Tally;
 use fast_core::FastCore;
+use line_writer::Tally;
 use std::alloc::Global;
 
 /// Makes a day of so many commands from a number, steps a new desk through them, and writes the tally of its answers to the sink.

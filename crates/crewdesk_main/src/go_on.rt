@@ -6,17 +6,17 @@ ghost use Rattle.desk_io.specs.Faults.{Rose};
 ghost use Rattle.desk_io.specs.Giving.{AddsFront};
 ghost use Rattle.desk_model.specs.History.{History};
 ghost use Rattle.desk_model.specs.Journal.{journal};
-ghost use Rattle.desk_text.specs.MoreCommands.{HasMoreFault};
+ghost use Rattle.command_parser.specs.MoreCommands.{HasMoreFault};
 ghost use Rattle.crewdesk_main.specs.Continue.{room_behind};
 ghost use Rattle.day_replay.specs.Ends.{WritesOrFails, writes};
 ghost use Rattle.crewdesk_main.specs.GoesOn.{EndsByTheCommands, FindsWrongField, GoesOn};
 ghost use Rattle.day_replay.specs.Replay.{goes_on};
 
 use crate::limits::ENTRY_LIMIT;
+use command_parser::{MoreFault, read_more};
 use day_replay::{tell_wrong, write_entries};
 use desk_io::{Sink, Status, put_all};
 use desk_model::{DeskCore, Stated};
-use desk_text::{MoreFault, read_more};
 use std::alloc::Global;
 
 // How many bytes of the journal are put into the sink at once, at most.

@@ -7,6 +7,7 @@ mod continue_text;
 mod count_lines;
 mod cut_at_plus;
 mod cut_law;
+mod exit;
 mod form;
 mod forms;
 mod generate;
@@ -25,6 +26,7 @@ mod words;
 mod write_text;
 
 use desk_io::{ReaderSource, Status, WriterSink};
+use exit::exit;
 use forms::perform;
 use named_callers::named_callers;
 use serve_form::serve_callers;
@@ -44,10 +46,7 @@ fn main(rt: HostRuntime) -> ExitCode {
         },
         Err(status) => status,
     };
-    if status != Status::Fine {
-        let _ = eprintln!(rt; "{}", status.word());
-    }
-    ExitCode::from(status.code())
+    exit(&rt, status)
 }
 
 // The words behind the program's name. One that is no UTF-8 is a faulty command line.

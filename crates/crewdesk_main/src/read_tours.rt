@@ -6,8 +6,9 @@ ghost use Rattle.desk_model.specs.Journal.{journal};
 ghost use Rattle.crewdesk_main.specs.Records.{KeepsJournal, IsUnread};
 
 use audit_desk::{BYTE_LIMIT, Verdict, first_line};
-use desk_text::{LastMinute, each_line_ends_once, read_next_entry, read_opening};
+use desk_text::{each_line_ends_once, read_next_entry, read_opening};
 use duty_record::DutyRecords;
+use record_rows::LastMinute;
 use std::alloc::Global;
 
 /// What a journal of at most 268,435,456 bytes tells of tours, whether or not it is legal; or which line is the first that is no

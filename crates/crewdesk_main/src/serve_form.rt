@@ -1,5 +1,18 @@
 //! The form that serves callers.
+ghost use Rattle.std.specs.Prelude.{◌≡◌, ◌≢◌, ◌≤◌, ◌↔◌, ◌⊎◌, length, false, IfOk};
+ghost use Rattle.std.specs.Io.KnownBytes.{Appends, Keeps};
+ghost use Rattle.desk_io.specs.Faults.{Rose};
+ghost use Rattle.desk_io.specs.Giving.{AddsFront};
+ghost use Rattle.desk_io.specs.Input.{TookMore, TookFront};
+ghost use Rattle.command_parser.specs.DayFile.{HasTooMany, HasNoOpening};
+ghost use Rattle.day_replay.specs.Ends.{WasRead, WritesOrFails, writes};
+ghost use Rattle.day_replay.specs.Replay.{FindsWrong, EndsByTheDay};
+ghost use Rattle.day_replay.specs.declared.limits.TheConstants.{BYTE_LIMIT};
+ghost use Rattle.serve_desk.specs.Serve.{IsNoNumberOfLines};
+ghost use Rattle.crewdesk_main.specs.Callers.{ServesNames};
+
 use caller_lines::{CallerLine, FileLine};
+use desk_base::NoMemory;
 use desk_io::{Sink, Source, Status};
 use desk_model::LAST_CALLER;
 use serve_desk::serve;
@@ -10,7 +23,8 @@ use std::thread::Threads;
 
 /// Serves callers behind the day file that the source has: the caller of each name says what is in the file `NAME.in`, a line at
 /// a time, and has the replies in `NAME.out`, which is made anew. Where a file can't be opened or made, the caller's line has a
-/// fault at once. Where there is no name, or there are more than 63, no file is opened.
+/// fault at once. Where there is no name, or there are more than 63, no file is opened. What is in the files, and whose they are, no
+/// clause says: the lines over them tell nothing.
 pub fn serve_callers<R, S: Source, K: Sink>(
     rt: &R,
     names: &[String],
@@ -19,23 +33,63 @@ pub fn serve_callers<R, S: Source, K: Sink>(
 ) -> Status
 where
     R: Files<File = File> + Threads + Wait + Sync + AllocGlobal,
+    ensures usage { result ≡ Status.Usage ↔ IsNoNumberOfLines (length names.now) }
+    ensures fine { result ≡ Status.Fine
+        → ServesNames (length names.now) (S.left source.old) (S.left source.new)
+        (Appends (K.held sink.old) (K.held sink.new)) }
+    ensures write_fault { result ≡ Status.WriteFault
+        → ServesNames (length names.now) (S.left source.old) (S.left source.new)
+        (AddsFront (K.held sink.old) (K.held sink.new)) }
+    ensures unread { result ≡ Status.Usage → S.left source.new ≡ S.left source.old }
+    ensures silent { writes result ≡ false → Keeps (K.held sink.old) (K.held sink.new) }
+
+    ensures read_count { result ≢ Status.ReadFault → S.faults source.new ≡ S.faults source.old }
+    ensures write_count { result ≢ Status.WriteFault → result ≢ Status.Unreadable
+        → K.faults sink.new ≡ K.faults sink.old }
+    ensures later_source { S.faults source.old ≤ S.faults source.new }
+    ensures later_sink { K.faults sink.old ≤ K.faults sink.new }
+    ensures write_cause { result ≡ Status.WriteFault
+        → Rose (K.faults sink.old) (K.faults sink.new) }
+    ensures read_cause { result ≡ Status.ReadFault
+        → Rose (S.faults source.old) (S.faults source.new) }
+    ensures too_long { result ≡ Status.TooLong
+        → TookMore (S.left source.old) (S.left source.new) BYTE_LIMIT
+        ⊎ WasRead BYTE_LIMIT (S.left source.old) (S.left source.new) HasTooMany }
+    ensures not_too_long { result ≢ Status.TooLong
+        → TookFront (S.left source.old) (S.left source.new) BYTE_LIMIT }
+    ensures no_opening { result ≡ Status.NoOpening
+        → WasRead BYTE_LIMIT (S.left source.old) (S.left source.new) HasNoOpening }
+    ensures unreadable { result ≡ Status.Unreadable
+        → FindsWrong (S.left source.old) (S.left source.new)
+        (WritesOrFails (K.held sink.old) (K.held sink.new)
+        (K.faults sink.old) (K.faults sink.new)) }
+    ensures audit_wrong { result ≢ Status.AuditWrong }
+
+    // And each of these comes where its cause is, unless memory or a fault is in the way.
+    ensures by_the_day { result ≢ Status.Usage → EndsByTheDay result (S.left source.old) }
 {
     if names.is_empty() || names.len() > usize::from(LAST_CALLER) {
         return Status::Usage;
     }
+    match lines_of(rt, names) {
+        Ok(mut lines) => serve(rt, rt.alloc(), source, &mut lines, sink),
+        Err(NoMemory) => Status::NoMemory,
+    }
+}
+
+// The lines of the callers of these names, in their order.
+fn lines_of<R>(rt: &R, names: &[String]) -> Result<Vec<Box<dyn CallerLine + Send>>, NoMemory>
+where
+    R: Files<File = File> + AllocGlobal,
+    ensures { IfOk result (λ lines. length lines.items ≡ length names.now) }
+{
     let mut lines: Vec<Box<dyn CallerLine + Send>> = Vec::new(rt.alloc());
     for name in names {
-        let Ok(line) = line_of(rt, name.as_str()) else {
-            return Status::NoMemory;
-        };
-        let Ok(line) = Box::new(rt.alloc(), line) else {
-            return Status::NoMemory;
-        };
-        if lines.push(line).is_err() {
-            return Status::NoMemory;
-        }
+        let line = line_of(rt, name.as_str())?;
+        let line = Box::new(rt.alloc(), line).map_err(|_| NoMemory)?;
+        lines.push(line).map_err(|_| NoMemory)?;
     }
-    serve(rt, rt.alloc(), source, &mut lines, sink)
+    Ok(lines)
 }
 
 // The line of a caller over the files of this name.

@@ -5,7 +5,7 @@ use Rattle.std.proofs.KnownBytes.{Appends-trans, Appends-nil}
 use Rattle.std.proofs.lemmas.List.{take-append-le}
 use Rattle.std.proofs.Math.Seq.{take-append-add}
 use Rattle.desk_io.specs.Giving.{AddsFront}
-use Rattle.desk_text.proofs.JournalLemmas.{journal-append, journal-next}
+use Rattle.line_writer.proofs.JournalLemmas.{journal-append, journal-next}
 use Rattle.desk_model.specs.Entry.{EntryValue}
 use Rattle.desk_model.specs.Opening.{OpeningValue}
 use Rattle.desk_model.specs.Statement.{StatedValue}

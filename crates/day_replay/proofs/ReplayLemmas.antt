@@ -8,16 +8,16 @@ use Rattle.desk_model.specs.Statement.{StatedValue}
 use Rattle.desk_model.specs.History.{History}
 use Rattle.std.proofs.lemmas.List.{length-map}
 use Rattle.desk_model.specs.StatedTexts.{stated_fields}
-use Rattle.desk_text.specs.declared.limits.TheConstants.{RECORD_LIMIT}
-use Rattle.desk_text.specs.Line.{wrong_line}
+use Rattle.command_parser.specs.declared.limits.TheConstants.{RECORD_LIMIT}
+use Rattle.line_writer.specs.Line.{wrong_line}
 use Rattle.day_replay.specs.declared.limits.TheConstants.{BYTE_LIMIT}
-use Rattle.desk_text.specs.declared.day_fault.DayFault.{DayFault}
-use Rattle.desk_text.specs.declared.day_fault.DayFault.TheVariants as fault
-use Rattle.desk_text.specs.DayFile.{IsDayFile, IsSomeDayFile, HasUnreadable, IsUnreadable, HasFault}
+use Rattle.command_parser.specs.declared.day_fault.DayFault.{DayFault}
+use Rattle.command_parser.specs.declared.day_fault.DayFault.TheVariants as fault
+use Rattle.command_parser.specs.DayFile.{IsDayFile, IsSomeDayFile, HasUnreadable, IsUnreadable, HasFault}
 use Rattle.day_replay.specs.Ends.{WasRead, Tells}
 use Rattle.day_replay.specs.Replay.{IsReplay, Replays, FindsWrong, EndsByTheDay, day_history}
 use Rattle.day_replay.proofs.InputLemmas.{WasRead-TookAll, TookAll-told}
-use Rattle.desk_text.proofs.DayLemmas.{HasFault-one, IsDayFile-faultless}
+use Rattle.command_parser.proofs.DayLemmas.{HasFault-one, IsDayFile-faultless}
 
 -- a day file has fewer commands than records
 pub IsDayFile-few : (bytes : List ℕ) (o : OpeningValue) (commands : List StatedValue) → IsDayFile bytes o commands → length commands < RECORD_LIMIT

@@ -11,9 +11,9 @@ use Rattle.desk_model.specs.Statement.{StatedValue}
 use Rattle.desk_model.specs.History.{History, opened}
 use Rattle.desk_model.specs.Legal.{IsLegal, given, history_from}
 use Rattle.desk_model.specs.Journal.{journal}
-use Rattle.desk_text.specs.Line.{wrong_line}
-use Rattle.desk_text.specs.Tally.{tally_text}
-use Rattle.desk_text.specs.DayFile.{IsDayFile, IsSomeDayFile, HasTooMany, HasNoOpening, HasUnreadable, IsUnreadable}
+use Rattle.line_writer.specs.Line.{wrong_line}
+use Rattle.line_writer.specs.Tally.{tally_text}
+use Rattle.command_parser.specs.DayFile.{IsDayFile, IsSomeDayFile, HasTooMany, HasNoOpening, HasUnreadable, IsUnreadable}
 use Rattle.day_replay.specs.declared.day_form.DayForm.{DayForm}
 use Rattle.day_replay.specs.declared.day_form.DayForm.TheVariants as form
 use Rattle.day_replay.specs.declared.limits.TheConstants.{BYTE_LIMIT}

@@ -5,15 +5,16 @@ ghost use Rattle.desk_io.specs.Faults.{Rose};
 ghost use Rattle.desk_io.specs.Input.{TookMore, TookFront};
 ghost use Rattle.desk_model.specs.Fits.{IsStated};
 ghost use Rattle.desk_model.specs.Opening.{IsOpening};
-ghost use Rattle.desk_text.specs.Line.{wrong_line};
-ghost use Rattle.desk_text.specs.DayFile.{IsDayFile, HasTooMany, HasNoOpening};
-ghost use Rattle.desk_text.specs.declared.limits.TheConstants.{RECORD_LIMIT};
+ghost use Rattle.line_writer.specs.Line.{wrong_line};
+ghost use Rattle.command_parser.specs.DayFile.{IsDayFile, HasTooMany, HasNoOpening};
+ghost use Rattle.command_parser.specs.declared.limits.TheConstants.{RECORD_LIMIT};
 ghost use Rattle.day_replay.specs.Ends.{WasRead, WritesOrFails};
 ghost use Rattle.day_replay.specs.Replay.{FindsWrong, EndsByTheDay, IsNoDay, taking_status};
 
 use crate::BYTE_LIMIT;
+use command_parser::{DayFault, DayFile, read_day};
 use desk_io::{Sink, Source, Status, put_all, take_all};
-use desk_text::{DayFault, DayFile, read_day, write_wrong};
+use line_writer::write_wrong;
 use std::alloc::Global;
 
 /// Takes all that the source has, and reads it as a day file. Where it is none the run ends with the status that is

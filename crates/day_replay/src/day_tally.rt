@@ -1,11 +1,11 @@
 //! The tally of a day.
 ghost use Rattle.std.specs.Prelude.{◌≤◌, ◌<◌, ◌^◌, length};
 ghost use Rattle.desk_model.specs.History.{opened};
-ghost use Rattle.desk_text.specs.Tally.{Counts};
+ghost use Rattle.line_writer.specs.Tally.{Counts};
 ghost use Rattle.day_replay.specs.Replay.{day_history};
 
 use desk_model::{DeskCore, Opening, Stated};
-use desk_text::Tally;
+use line_writer::Tally;
 
 /// Steps a desk that was opened so and has answered nothing yet through the commands as caller 0, and counts its answers.
 pub fn tally_day<C: DeskCore>(core: &mut C, opening: &Opening, commands: &[Stated]) -> Tally

@@ -12,7 +12,8 @@ ghost use Rattle.day_replay.specs.Replay.{day_history, goes_on};
 use crate::gather;
 use desk_io::{Sink, put_all};
 use desk_model::{DeskCore, Entry, Opening, Stated};
-use desk_text::{LastMinute, LineText, fill_with_entry, write_opening};
+use line_writer::{LineText, fill_with_entry, write_opening};
+use record_rows::LastMinute;
 
 /// Steps a desk that was opened so and has answered nothing yet through the commands as caller 0, and writes its journal, as
 /// many lines at once as the buffer holds. It says whether the sink took all lines, and stops at the first fault.

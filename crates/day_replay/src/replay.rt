@@ -3,15 +3,15 @@ ghost use Rattle.std.specs.Io.KnownBytes.{Appends, Keeps};
 ghost use Rattle.desk_io.specs.Faults.{Rose};
 ghost use Rattle.desk_io.specs.Giving.{AddsFront};
 ghost use Rattle.desk_io.specs.Input.{TookMore, TookFront};
-ghost use Rattle.desk_text.specs.DayFile.{HasTooMany, HasNoOpening};
+ghost use Rattle.command_parser.specs.DayFile.{HasTooMany, HasNoOpening};
 ghost use Rattle.day_replay.specs.Ends.{WasRead, WritesOrFails, writes};
 ghost use Rattle.day_replay.specs.Replay.{Replays, FindsWrong, EndsByTheDay, day_history, text_of};
 
 use crate::day_tally::tally_day;
 use crate::{BYTE_LIMIT, DayForm, take_day, write_journal};
+use command_parser::DayFile;
 use desk_io::{Sink, Source, Status, put_all};
 use desk_model::one_history_is_legal;
-use desk_text::DayFile;
 use fast_core::FastCore;
 use std::alloc::Global;
 

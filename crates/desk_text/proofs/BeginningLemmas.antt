@@ -16,11 +16,12 @@ use Rattle.desk_model.specs.ReplyTexts.{reply_text}
 use Rattle.desk_model.specs.Statement.{StatedValue}
 use Rattle.desk_model.specs.declared.reply.Reply.{Reply}
 use Rattle.desk_model.specs.StatedTexts.{stated_fields}
-use Rattle.desk_text.specs.Line.{IsPlain, IsLine}
-use Rattle.desk_text.proofs.ApartLemmas.{minute_text-one, stated_fields-one}
+use Rattle.line_writer.specs.Line.{IsPlain, IsLine}
+use Rattle.record_rows.proofs.MinuteLemmas.{minute_text-one}
+use Rattle.command_parser.proofs.ApartLemmas.{stated_fields-one}
 use Rattle.desk_text.proofs.CutLemmas.{cut-one, text-parts, some-parts}
 use Rattle.desk_text.proofs.LineLemmas.{stated_inner, opening_inner, entry_line-IsLine, opening_line-IsLine}
-use Rattle.desk_text.proofs.OpeningLemmas.{opening_fields-one}
+use Rattle.command_parser.proofs.OpeningLemmas.{opening_fields-one}
 use Rattle.desk_text.proofs.ReplyApartLemmas.{reply_text-one}
 use Rattle.desk_text.proofs.SpelledEntryLemmas.{fields-split, parts_text, entry_line-parts, caller-unbarred, stated-unbarred, moment-unbarred, joined-unbarred}
 

@@ -26,7 +26,7 @@ use Rattle.desk_model.specs.Opening.{OpeningValue, IsOpening, edition_fields, op
 use Rattle.desk_model.specs.ReplyTexts.{state_text, stage_text, fault_text, reply_text}
 use Rattle.desk_model.specs.StatedTexts.{kind_text, stated_fields}
 use Rattle.desk_model.specs.Statement.{StatedValue}
-use Rattle.desk_text.specs.Line.{IsLine}
+use Rattle.line_writer.specs.Line.{IsLine}
 use Rattle.desk_text.proofs.PlainLemmas.{Passes, IsInner, AreInner, append, mark, word, number, month_in, minute_in, code, join, weaker, craft_inner, kind_inner, late, all_inner, command_inner, literal, numbered}
 
 -- ---- what is answered

@@ -1,5 +1,5 @@
 -- What stands between blanks in a text.
-use Rattle.std.proofs.Common.{◌≡◌, ◌∙◌, ℕ, ◌+◌, ◌/◌, ◌%◌, ◌<◌, ◌≤◌, ◌==◌, false, List, [], ◌∷◌, ◌++◌, length, take, drop, decimal, refl, sym, ap, arith, length-append}
+use Rattle.std.proofs.Common.{◌≡◌, ◌∙◌, ℕ, ◌+◌, ◌/◌, ◌%◌, ◌<◌, ◌≤◌, ◌==◌, false, List, [], ◌∷◌, ◌++◌, length, take, drop, decimal, sym, ap, arith, length-append}
 use Rattle.std.specs.List.{IsSplitAt}
 use Rattle.std.proofs.lemmas.Bool.{ne_eqb, cond-true, lt-ltb}
 use Rattle.std.proofs.lemmas.List.{take_at, drop_at, take-append-drop}
@@ -8,7 +8,7 @@ use Rattle.desk_base.specs.declared.minute.TheConstants.{YEARS_END}
 use Rattle.desk_base.specs.Minute.{minute_text}
 use Rattle.desk_model.specs.BarTexts.{late_text}
 use Rattle.desk_base.specs.Month.{year_of, place_in_year, two_digits, month_text}
-use Rattle.desk_base.proofs.TextLemmas.{minute_text_spells}
+use Rattle.record_rows.proofs.MinuteLemmas.{length-minute_text}
 use Rattle.desk_text.proofs.ReplyApartLemmas.{IsUnbroken}
 
 no_blank : (b : ℕ) (rest : List ℕ) → 33 ≤ b → IsUnbroken rest → IsUnbroken (b ∷ rest)
@@ -24,10 +24,6 @@ month-unbroken m =
     let place = two_digits (place_in_year m) in
     two (year_of m / 100) (two_digits (year_of m % 100) ++ 45 ∷ place)
     (two (year_of m % 100) (45 ∷ place) (no_blank 45 place (omega arith) (two (place_in_year m) [] (All-nil (λ b. (b == 32) ≡ false)))))
-
--- a minute's text has 16 bytes
-pub length-minute_text : (t : ℕ) → length (minute_text t) ≡ 16
-length-minute_text t = (minute_text_spells (minute_text t) t refl).len
 
 -- and what is cut off behind 16 bytes stood behind it
 pub behind_16 : (t : ℕ) (text front back rest : List ℕ) → IsSplitAt text 16 front back → text ≡ minute_text t ++ rest → (front ≡ minute_text t) × (back ≡ rest)

@@ -5,8 +5,8 @@ use Rattle.desk_model.specs.declared.reply.Reply.{Reply}
 use Rattle.desk_model.specs.Fits.{FitsReply}
 use Rattle.desk_model.specs.ReplyTexts.{reply_text}
 use Rattle.desk_text.specs.SpelledReply.{SpellsReply}
-use Rattle.desk_text.proofs.SpelledLemmas.{apart}
-use Rattle.desk_text.proofs.WordLemmas.{alike}
+use Rattle.command_parser.proofs.SpelledLemmas.{apart}
+use Rattle.command_parser.proofs.WordLemmas.{alike}
 use Rattle.desk_text.proofs.ReplyApartLemmas.{reply_text-one}
 
 -- a text that compares as a reply's is the reply's

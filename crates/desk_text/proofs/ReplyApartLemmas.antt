@@ -30,8 +30,9 @@ use Rattle.desk_model.specs.Fits.{FitsState, FitsFault, FitsReply}
 use Rattle.desk_model.specs.ReplyTexts.{state_text, stage_text, fault_text, reply_text}
 use Rattle.desk_model.specs.StatedTexts.{kind_text}
 use Rattle.desk_text.proofs.CutLemmas.{cut-one}
-use Rattle.desk_text.proofs.SpelledLemmas.{apart}
-use Rattle.desk_text.proofs.ApartLemmas.{number-one, minute_text-one, month_text-one, craft_text-one, kind_text-one}
+use Rattle.command_parser.proofs.SpelledLemmas.{apart}
+use Rattle.record_rows.proofs.MinuteLemmas.{minute_text-one}
+use Rattle.command_parser.proofs.ApartLemmas.{number-one, month_text-one, craft_text-one, kind_text-one}
 
 -- ---- texts between blanks
 

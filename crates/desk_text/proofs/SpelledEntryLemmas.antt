@@ -18,7 +18,7 @@ use Rattle.desk_model.specs.StatedTexts.{event_fields, command_fields, stated_fi
 use Rattle.desk_model.specs.Statement.{StatedValue}
 use Rattle.desk_model.specs.declared.limits.TheConstants.{LAST_CALLER}
 use Rattle.desk_text.specs.declared.statement.Statement.{Statement}
-use Rattle.desk_text.specs.Line.{outcome_line}
+use Rattle.line_writer.specs.Line.{outcome_line}
 use Rattle.desk_text.specs.SpelledEntry.{IsEntryLine, SpellsStated, SpellsEntry, BeginsEntry, statement_of}
 use Rattle.desk_text.proofs.FirstFieldsLemmas.{take-short}
 use Rattle.desk_text.proofs.PlainLemmas.{Passes, IsInner, is_inner, join, weaker, number, minute_in}

@@ -8,7 +8,7 @@ use Rattle.desk_model.specs.declared.reply.Reply.TheVariants as reply
 use Rattle.desk_model.specs.ReplyTexts.{fault_text, reply_text}
 use Rattle.desk_text.specs.declared.reply_head.ReplyHead.TheVariants as head
 use Rattle.desk_text.specs.SpelledReply.{TellsReply}
-use Rattle.desk_text.proofs.SpelledLemmas.{apart}
+use Rattle.command_parser.proofs.SpelledLemmas.{apart}
 
 -- an offer, and what stands behind its word
 pub record IsOffered (kept : List ℕ) (r : Reply) : Type 0 where

@@ -1,14 +1,3 @@
-pub mod Marked
-pub mod Word
-pub mod Spelled
-pub mod Line
-pub mod RecordForms
-pub mod OpeningRecord
-pub mod DayFile
-pub mod MoreCommands
-pub mod DayCommands
-pub mod CommandLine
-pub mod Tally
 pub mod Heads
 pub mod SpelledReply
 pub mod SpelledEntry

@@ -3,7 +3,7 @@ ghost use Rattle.desk_model.specs.Opening.{OpeningValue, IsOpening};
 ghost use Rattle.desk_model.specs.Entry.{EntryValue};
 ghost use Rattle.desk_model.specs.Fits.{Fits};
 ghost use Rattle.desk_model.specs.Journal.{opening_line, entry_line};
-ghost use Rattle.desk_text.specs.Line.{IsLine};
+ghost use Rattle.line_writer.specs.Line.{IsLine};
 
 /// Each line of a journal has one line feed, its last byte, and no carriage return: that of an opening, and that of an
 /// entry whose values are in their ranges, as those of a legal history are. It does nothing: its clauses are the law.

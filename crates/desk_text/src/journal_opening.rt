@@ -1,10 +1,10 @@
 //! The opening, read from the journal's first line.
 ghost use Rattle.std.specs.Prelude.{◌≡◌, IfSome};
 ghost use Rattle.desk_model.specs.Opening.{OpeningValue};
-ghost use Rattle.desk_text.specs.OpeningRecord.{IsOpeningLine};
+ghost use Rattle.command_parser.specs.OpeningRecord.{IsOpeningLine};
 
 use crate::cut::before;
-use crate::opening_record::opening_of;
+use command_parser::opening_of;
 use desk_model::Opening;
 use record_rows::{Fields, fill_with_line};
 

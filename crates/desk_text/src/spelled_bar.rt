@@ -4,8 +4,8 @@ ghost use Rattle.denial_rules.specs.declared.bar.Bar.{Bar as BarValue};
 ghost use Rattle.desk_text.specs.SpelledReply.{SpellsBar, TellsBar, HasNoBarHead};
 
 use crate::bar_head::BarHead;
-use crate::field::read_vac;
 use crate::spelled_part::{read_late, read_numbers, read_total};
+use command_parser::read_vac;
 use denial_rules::Bar;
 use desk_base::{Code, read_decimal};
 use qualifications::Craft;

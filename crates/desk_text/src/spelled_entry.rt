@@ -6,14 +6,13 @@ ghost use Rattle.desk_model.specs.Statement.{StatedValue};
 ghost use Rattle.desk_text.specs.SpelledEntry.{IsEntryLine, SpellsStated, SpellsEntry, BeginsEntry};
 ghost use Rattle.desk_text.specs.declared.statement.Statement.{Statement as StatementValue};
 
-use crate::command_record::stated_by;
 use crate::cut::{before, behind, cut, cut_near};
-use crate::last_minute::LastMinute;
 use crate::spelled_reply::read_reply;
 use crate::statement::Statement;
+use command_parser::stated_by;
 use desk_base::read_decimal;
 use desk_model::{Entry, LAST_CALLER, Stated};
-use record_rows::{Fields, fill_with_line};
+use record_rows::{Fields, LastMinute, fill_with_line};
 
 /// The entry of a line of the journal, `caller|command|moment|reply` with its line feed; `None` for every other text: the line
 /// is the one spelling of its entry. A command and a reply that the desk would never give it are read all the same.

@@ -7,7 +7,7 @@ ghost use Rattle.desk_base.specs.Month.{IsMonthInYears, month_text};
 ghost use Rattle.desk_model.specs.BarTexts.{late_text};
 
 use crate::cut::{behind, cut};
-use crate::field::read_place;
+use command_parser::read_place;
 use desk_base::{Code, Minute, Month, YEARS_END, read_decimal};
 
 /// The minute, from the year 2000 on, that a text spells; one behind the year 2099 by its number, which spells no other.

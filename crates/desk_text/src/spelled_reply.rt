@@ -5,11 +5,11 @@ ghost use Rattle.desk_text.specs.declared.reply_head.ReplyHead.TheVariants as he
 ghost use Rattle.desk_text.specs.SpelledReply.{SpellsReply, TellsReply, HasNoReplyHead};
 
 use crate::cut::cut;
-use crate::field::{read_count, read_person, read_vac};
 use crate::reply_head::ReplyHead;
 use crate::spelled_bar::read_bar;
 use crate::spelled_part::{read_late, read_numbers, read_position};
 use crate::spelled_stage::{read_fault, read_state};
+use command_parser::{read_count, read_person, read_vac};
 use desk_base::{Code, Minute};
 use desk_model::Reply;
 

@@ -6,9 +6,8 @@ ghost use Rattle.desk_model.specs.declared.vac_state.VacState.{VacState as State
 ghost use Rattle.desk_text.specs.SpelledReply.{SpellsState, SpellsStage, SpellsFault};
 
 use crate::cut::{behind, cut};
-use crate::field::read_person;
-use crate::spelled_event::read_kind;
 use crate::spelled_part::read_since;
+use command_parser::{read_kind, read_person};
 use desk_base::{Code, Minute, read_decimal};
 use desk_model::VacState;
 use duty_events::{EventFault, Stage};

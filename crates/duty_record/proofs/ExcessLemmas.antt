@@ -1,24 +1,25 @@
 -- What is listed of all numbers is what is listed of those that something is kept under.
 use Rattle.std.proofs.Common.{◌≡◌, ℕ, zero, suc, ◌+◌, ◌≤◌, ◌<◌, false, nat_eq, nat_cmp, Less, Option, None, Some, is_some, map, filter, List, [], ◌∷◌, ◌++◌, ⊎_elim, refl, sym, ap, ◌∙◌, subst, arith}
-use Rattle.std.specs.List.{All, flat_map, range_with_len, list_any}
+use Rattle.std.specs.List.{All, IsDistinct, flat_map, range_with_len, list_any}
 use Rattle.std.specs.Prelude.{IsSome}
-use Rattle.std.specs.Ordering.{eq_by_cmp}
-use Rattle.std.specs.BTreeMap as tree
-use Rattle.std.specs.List.Sorted.{IsStrictlySortedBy}
+use Rattle.indexmap.specs.IndexMap.{get, keys, IsUnique}
+use Rattle.std.specs.List.Sorted.{IsPermutation, IsSorted, IsStrictlyIncreasing, IsStrictlySortedBy}
 use Rattle.std.proofs.lemmas.Bool.{cases_eq, false≢true}
 use Rattle.std.proofs.lemmas.Bool.Decides.{nat_tests}
 use Rattle.std.proofs.lemmas.List.Elements.{All-nil, All-cons, All-head, All-tail, All-weaker}
-use Rattle.std.proofs.lemmas.Map.Keys.{sorted_tail}
-use Rattle.std.proofs.lemmas.Map.Views.{All-after_first}
+use Rattle.std.proofs.lemmas.Cmp.{nat_eq_equiv}
+use Rattle.std.proofs.lemmas.List.Sorted.{list_any-IsPermutation}
+use Rattle.std.proofs.lemmas.Map.Keys.{IsDistinct-IsPermutation, apart_from_distinct, sorted_from_strictly_increasing, sorted_tail}
+use Rattle.std.proofs.lemmas.Map.Made.{is_some-lookup}
+use Rattle.std.proofs.lemmas.Map.Views.{All-after_first, All-from_any}
 use Rattle.desk_model.specs.History.{History}
 use Rattle.duty_record.specs.declared.person_tours.PersonTours.{PersonTours}
 use Rattle.duty_record.specs.declared.tour_book.TourBook.{TourBook}
 use Rattle.duty_record.specs.Deeds.{Deed, deeds}
 use Rattle.duty_record.specs.EndedTours.{ended_tours}
 use Rattle.duty_record.specs.Tours.{is_relief, record_of, tours, is_excess, excess_of, excess_list}
-use Rattle.duty_record.specs.Kept.{IsUnder, AreTours}
+use Rattle.duty_record.specs.Kept.{IsUnder, AreTours, AreRising}
 use Rattle.duty_record.proofs.TourLemmas.{ended_tours-none}
-use Rattle.duty_record.proofs.BookLemmas.{at-number}
 
 pub record LiesIn (first many n : ℕ) : Type 0 where
   pub from : first ≤ n
@@ -81,19 +82,27 @@ unkept : (book : TourBook) (h : History) (p : ℕ) (o : Option PersonTours) → 
 unkept book h p None none is = nothing h p is
 unkept book h p (Some k) none is = absurd (false≢true (sym none))
 
-any-number : (n : ℕ) (ks : List ℕ) → list_any (eq_by_cmp nat_cmp n) ks ≡ list_any (nat_eq n) ks
-any-number n [] = refl
-any-number n (k ∷ ks) = rw (at-number n k, any-number n ks) refl
-
-numbered : (book : TourBook) (did : ℕ → List Deed) → AreTours book did → (p : ℕ) → (o : Option PersonTours) → tree.get nat_cmp book.people p ≡ o → IsSome o → LiesIn 1 9_999_999 p
+numbered : (book : TourBook) (did : ℕ → List Deed) → AreTours book did → (p : ℕ) → (o : Option PersonTours) → get nat_eq book.people p ≡ o → IsSome o → LiesIn 1 9_999_999 p
 numbered book did are p None at some = absurd (false≢true some)
 numbered book did are p (Some k) at some = let is = are.numbered p k at in record { from = omega (arith, is.0); to = omega (arith, is.1) }
 
-pub excess-listed : (book : TourBook) (h : History) → AreTours book (deeds h) → tree.IsOrdered nat_cmp book.people → All (tree.ContainsKey nat_cmp book.people) (tree.keys book.people)
-    → ((p : ℕ) → is_some (tree.get nat_cmp book.people p) ≡ list_any (eq_by_cmp nat_cmp p) (tree.keys book.people))
-    → excess_list h ≡ flat_map (excess_of h) (tree.keys book.people)
+pub excess-listed : (book : TourBook) (h : History) (all : List ℕ) → AreTours book (deeds h) → AreRising book all → excess_list h ≡ flat_map (excess_of h) all
 unfolding excess_list
-excess-listed book h are ordered found has =
-    listed-sorted (excess_of h) 1 9_999_999 (tree.keys book.people) ordered
-    (All-weaker (tree.ContainsKey nat_cmp book.people) (LiesIn 1 9_999_999) (λ p some. numbered book (deeds h) are p (tree.get nat_cmp book.people p) refl some) (tree.keys book.people) found)
-    (λ n from gone. unkept book h n (tree.get nat_cmp book.people n) (has n ∙ any-number n (tree.keys book.people) ∙ gone) (are.each n))
+excess-listed book h all are rising =
+    listed-sorted (excess_of h) 1 9_999_999 all rising.rising
+    (All-from_any nat_eq_equiv (LiesIn 1 9_999_999) all (λ p is. numbered book (deeds h) are p (get nat_eq book.people p) refl (rising.each p ∙ is)))
+    (λ n from gone. unkept book h n (get nat_eq book.people n) (rising.each n ∙ gone) (are.each n))
+
+-- ---- those of whom something is kept
+
+rises : (all : List ℕ) → IsSorted nat_cmp all → IsDistinct nat_eq all → IsStrictlyIncreasing all
+rises all sorted apart k lt =
+    let le = sorted k 0 (omega arith) lt in
+    let ne = apart_from_distinct nat_eq all k (k + 1) 0 apart (omega arith) lt in
+    grind (arith, nat_tests, le, ne)
+
+pub are-rising : (book : TourBook) (listed all : List ℕ) → IsUnique nat_eq book.people → listed ≡ keys book.people → IsPermutation listed all → IsSorted nat_cmp all → AreRising book all
+are-rising book listed all unique are same sorted = record {
+  rising = sorted_from_strictly_increasing all (rises all sorted (IsDistinct-IsPermutation nat_eq nat_eq_equiv.symm listed all same (subst (IsDistinct nat_eq) (sym are) unique)));
+  each = λ p. is_some-lookup (nat_eq p) book.people.entries ∙ ap (list_any (nat_eq p)) (sym are) ∙ list_any-IsPermutation (nat_eq p) listed all same;
+}

@@ -1,8 +1,10 @@
 -- What is kept while entries are read, beside what the history says.
 use Rattle.std.specs.Prelude.{◌≡◌, ℕ, ◌≤◌, Bool, true, false, nat_eq, Option, None, Some, unwrap_or, if◌then◌else◌, List, []}
 use Rattle.std.specs.Option.{option_map}
+use Rattle.std.specs.List.{list_any}
+use Rattle.std.specs.List.Sorted.{IsStrictlySortedBy}
+use Rattle.std.specs.Option.{is_some}
 use Rattle.std.specs.Ordering.{nat_cmp}
-use Rattle.std.specs.BTreeMap as tree
 use Rattle.indexmap.specs.IndexMap.{get}
 use Rattle.desk_base.specs.Number.{IsNumber}
 use Rattle.desk_model.specs.Job.{JobValue}
@@ -55,8 +57,13 @@ IsUnder (Some k) ds = IsOf k ds
 
 -- what is kept of all persons; those of whom something is kept have a number
 pub record AreTours (book : TourBook) (did : ℕ → List Deed) : Type 0 where
-  pub each : (p : ℕ) → IsUnder (tree.get nat_cmp book.people p) (did p)
-  pub numbered : (p : ℕ) (k : PersonTours) → tree.get nat_cmp book.people p ≡ Some k → IsNumber p
+  pub each : (p : ℕ) → IsUnder (get nat_eq book.people p) (did p)
+  pub numbered : (p : ℕ) (k : PersonTours) → get nat_eq book.people p ≡ Some k → IsNumber p
+
+-- those of whom something is kept, by rising number
+pub record AreRising (book : TourBook) (all : List ℕ) : Type 0 where
+  pub rising : IsStrictlySortedBy nat_cmp all
+  pub each : (p : ℕ) → is_some (get nat_eq book.people p) ≡ list_any (nat_eq p) all
 
 -- ---- assignments
 

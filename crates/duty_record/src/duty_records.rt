@@ -1,4 +1,5 @@
 ghost use Rattle.std.specs.Prelude.{◌≡◌, ◌++◌, true, IfOk, OnOk, MatchResult, filter};
+ghost use Rattle.std.specs.List.{flat_map};
 ghost use Rattle.desk_model.specs.Opening.{OpeningValue};
 ghost use Rattle.desk_model.specs.Entry.{EntryValue};
 ghost use Rattle.desk_model.specs.History.{History, opened, with_entry, is_done};
@@ -99,8 +100,16 @@ impl DutyRecords {
     pub fn excess_list(&self) -> Result<Vec<TourRecord>, NoMemory>
         ensures { (h : History) → Keeps self.now h → IfOk result (λ list. list.items ≡ excess_list h) }
     {
+        self.excess_of(&self.book.persons()?)
+    }
+
+    // The records of the tours of these persons that are too long, person by person.
+    fn excess_of(&self, persons: &[PersonNo]) -> Result<Vec<TourRecord>, NoMemory>
+        ensures { (h : History) → Keeps self.now h
+            → IfOk result (λ list. list.items ≡ flat_map (excess_of h) persons.now) }
+    {
         let mut list = Vec::new(self.book.alloc);
-        for person in self.book.people.keys() {
+        for person in persons {
             self.add_excess(*person, &mut list)?;
         }
         Ok(list)

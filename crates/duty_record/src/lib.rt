@@ -8,6 +8,7 @@ mod journal;
 mod json;
 mod laws;
 mod person_tours;
+mod put;
 mod relief_marks;
 mod tour_book;
 mod tour_record;

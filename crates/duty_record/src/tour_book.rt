@@ -1,21 +1,20 @@
-ghost use Rattle.std.specs.Prelude.{[], List, MatchResult, OnOk, IsSome, is_ok, ℕ, nat_eq, if◌then◌else◌};
-ghost use Rattle.std.specs.BTreeMap as tree;
-ghost use Rattle.std.specs.BTreeMap.{is_at};
-ghost use Rattle.std.specs.Ordering.{nat_cmp};
+ghost use Rattle.std.specs.Prelude.{[], List, MatchResult, OnOk, IfOk, IsSome, is_ok, ℕ, nat_eq, if◌then◌else◌};
+ghost use Rattle.indexmap.specs.IndexMap.{get};
 ghost use Rattle.duty_record.specs.Deeds.{Deed, deed_of, keep};
-ghost use Rattle.duty_record.specs.Kept.{TakesAt, AreTours};
+ghost use Rattle.duty_record.specs.Kept.{TakesAt, AreTours, AreRising};
 
 use crate::person_tours::PersonTours;
+use crate::put::put;
 use desk_base::{NoMemory, PersonNo, VacNo};
 use duty_events::Event;
+use indexmap::IndexMap;
 use std::alloc::Global;
-use std::collections::BTreeMap;
 
-/// What is kept of all persons, by rising number.
+/// What is kept of all persons, in the order in which they first did something.
 #[derive(Drop)]
 pub struct TourBook {
     pub(crate) alloc: Global,
-    pub(crate) people: BTreeMap<PersonNo, PersonTours>,
+    pub(crate) people: IndexMap<PersonNo, PersonTours>,
 }
 
 impl TourBook {
@@ -25,7 +24,7 @@ impl TourBook {
     {
         TourBook {
             alloc,
-            people: BTreeMap::new(alloc),
+            people: IndexMap::new(alloc),
         }
     }
 
@@ -51,8 +50,8 @@ impl TourBook {
         event: &Event,
         vacancy: Option<VacNo>,
     ) -> Result<(), NoMemory>
-        ensures { (p : ℕ) → TakesAt (is_at (nat_cmp person) p) (is_ok result) (deed_of event.now vacancy)
-            (tree.get nat_cmp self.old.people p) (tree.get nat_cmp self.new.people p) }
+        ensures { (p : ℕ) → TakesAt (nat_eq person p) (is_ok result) (deed_of event.now vacancy)
+            (get nat_eq self.old.people p) (get nat_eq self.new.people p) }
     {
         match self.people.get_mut(&person) {
             Some(kept) => kept.take(event, vacancy),
@@ -63,12 +62,24 @@ impl TourBook {
     // Keeps something of the person, where nothing is kept yet.
     fn add(&mut self, person: PersonNo) -> Result<(), NoMemory>
         ensures stay { (did : ℕ → List Deed) → AreTours self.old did → AreTours self.new did }
-        ensures has { OnOk result (IsSome (tree.get nat_cmp self.new.people person)) }
+        ensures has { OnOk result (IsSome (get nat_eq self.new.people person)) }
     {
         person.number();
         if !self.people.contains_key(&person) {
-            self.people.insert(person, PersonTours::new(self.alloc))?;
+            put(&mut self.people, person, PersonTours::new(self.alloc))?;
         }
         Ok(())
+    }
+
+    /// Those of whom something is kept, by rising number; `NoMemory` where there is none for the list.
+    pub(crate) fn persons(&self) -> Result<Vec<PersonNo>, NoMemory>
+        ensures { IfOk result (λ all. AreRising self.now all.items) }
+    {
+        let mut all = Vec::new(self.alloc);
+        for person in self.people.keys() {
+            all.push(*person)?;
+        }
+        all.sort_unstable();
+        Ok(all)
     }
 }

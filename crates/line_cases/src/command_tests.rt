@@ -1,5 +1,5 @@
 //! A line with line feeds in it is one record or none.
-use desk_text::{ReadFail, read_command};
+use command_parser::{ReadFail, read_command};
 use std::alloc::Global;
 
 // Whether the line is a command (`None`), or fails so.

@@ -1,3 +1,4 @@
+pub mod MinuteLemmas
 pub mod RecordLemmas
 pub mod ReadLemmas
 pub mod FieldLemmas

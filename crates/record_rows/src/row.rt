@@ -6,12 +6,17 @@ use csv::ByteRecord;
 use std::alloc::Global;
 
 /// A record, for `Rows` to read into.
-#[derive(Drop)]
 pub struct Row<'a> {
     // The line that it is, where that is cut at its commas.
     pub(crate) line: Option<&'a [u8]>,
     // Else what `csv` read.
     pub(crate) read: ByteRecord,
+}
+
+impl Drop for Row<'_> {
+    fn drop(self) {
+        let Self { line: _, read: _ } = self;
+    }
 }
 
 impl<'a> Row<'a> {

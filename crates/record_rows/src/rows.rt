@@ -22,9 +22,14 @@ pub(crate) enum Source<'a> {
 /// The records of a text that are still to be read. Fields are separated by commas and may be quoted, as `csv` has it;
 /// there is no header row, records may be of any lengths, nothing is trimmed, and empty lines hold no record. A byte order
 /// mark at the front of the text is dropped.
-#[derive(Drop)]
 pub struct Rows<'a> {
     pub(crate) source: Source<'a>,
+}
+
+impl Drop for Rows<'_> {
+    fn drop(self) {
+        let Self { source: _ } = self;
+    }
 }
 
 // A reader of all records of a text.

@@ -1,7 +1,7 @@
 //! Lines in memory that are served at one desk at the same time.
-use crate::openings::{LOOK, has_puts, lines_of, looks, new_book};
+use crate::openings::{LOOK, has_puts, lines_of, new_book};
 use call_history::Book;
-use caller_lines::{CallerLine, MemoryLine};
+use caller_lines::CallerLine;
 use desk_model::Booked;
 use plain_core::PlainCore;
 use serve_desk::{CALLS_PER_LINE, serve_lines};
@@ -39,11 +39,8 @@ fn count_of(book: &Book<PlainCore>, caller: u8) -> usize {
 #[test]
 fn two_lines_at_one_desk(rt: HostRuntime) -> Result<(), Fail> {
     let alloc = rt.alloc();
-    let mut lines: Vec<Box<dyn CallerLine + Send>> = Vec::new(alloc);
-    for given in [[LOOK, LOOK].as_slice(), [LOOK, b"", LOOK, LOOK].as_slice()] {
-        let line = MemoryLine::new(alloc, lines_of(alloc, given)?, Vec::new(alloc), 1_000);
-        lines.push(Box::new(alloc, line.ok().ok_or("memory")?)?)?;
-    }
+    let given: [(&[&[u8]], u64); 2] = [(&[LOOK, LOOK], 0), (&[LOOK, b"", LOOK, LOOK], 0)];
+    let mut lines = lines_of(alloc, &given, 1_000).ok_or("memory")?;
     let book = serve_new(&rt, alloc, &mut lines).ok_or("no memory")?;
     assert_eq!(rt;
         (book.count(), count_of(&book, 1), count_of(&book, 2)),
@@ -74,12 +71,8 @@ fn two_lines_at_one_desk(rt: HostRuntime) -> Result<(), Fail> {
 fn a_line_that_fails_beside_one_that_does_not(rt: HostRuntime) -> Result<(), Fail> {
     let alloc = rt.alloc();
     for (failing, entries, puts) in [(1, 0, 0), (2, 1, 0), (3, 1, 1), (4, 2, 1), (5, 2, 2)] {
-        let mut lines: Vec<Box<dyn CallerLine + Send>> = Vec::new(alloc);
-        for (count, fails) in [(2, failing), (3, 0)] {
-            let failing = vec![in alloc; fails]?;
-            let line = MemoryLine::new(alloc, looks(alloc, count)?, failing, 1_000);
-            lines.push(Box::new(alloc, line.ok().ok_or("memory")?)?)?;
-        }
+        let given: [(&[&[u8]], u64); 2] = [(&[LOOK; 2], failing), (&[LOOK; 3], 0)];
+        let mut lines = lines_of(alloc, &given, 1_000).ok_or("memory")?;
         let book = serve_new(&rt, alloc, &mut lines).ok_or("no memory")?;
         assert_eq!(rt; (count_of(&book, 1), count_of(&book, 2)), (entries, 3));
         let [one, two] = lines.as_slice() else {
@@ -95,11 +88,8 @@ fn a_line_that_fails_beside_one_that_does_not(rt: HostRuntime) -> Result<(), Fai
 #[test]
 fn as_many_lines_as_there_are_seats(rt: HostRuntime) -> Result<(), Fail> {
     let alloc = rt.alloc();
-    let mut lines: Vec<Box<dyn CallerLine + Send>> = Vec::new(alloc);
-    for _ in 0..63 {
-        let line = MemoryLine::new(alloc, looks(alloc, 100)?, Vec::new(alloc), 10_000);
-        lines.push(Box::new(alloc, line.ok().ok_or("memory")?)?)?;
-    }
+    let looks = [LOOK; 100];
+    let mut lines = lines_of(alloc, &[(looks.as_slice(), 0); 63], 10_000).ok_or("memory")?;
     let book = serve_new(&rt, alloc, &mut lines).ok_or("no memory")?;
     assert_eq!(rt; book.count(), 6_300);
     for (at, line) in lines.iter().enumerate() {

@@ -3,11 +3,11 @@ ghost use Rattle.std.specs.Prelude.{◌≡◌, ◌<◌, ◌^◌, [], IfSome};
 ghost use Rattle.desk_model.specs.History.{History};
 
 use call_history::Book;
-use caller_lines::CallerLine;
+use caller_lines::{CallerLine, MemoryLine};
 use desk_base::{Minute, Month, Window};
 use desk_model::{Booked, Edition, Opening};
 use plain_core::PlainCore;
-use std::alloc::{AllocError, Global};
+use std::alloc::Global;
 
 /// A command of a line: who stands at the first place of the board P1, which there isn't.
 pub const LOOK: &[u8] = b"2024-03-04 00:01,at,P1,1";
@@ -27,22 +27,34 @@ pub fn new_book(alloc: Global, steps: u32) -> Option<Book<PlainCore>>
     Book::new(alloc, core).ok()
 }
 
-/// These lines, each with its bytes.
-pub fn lines_of(alloc: Global, texts: &[&[u8]]) -> Result<Vec<Vec<u8>>, AllocError> {
-    let mut lines = Vec::with_capacity(alloc, texts.len())?;
+/// A line in memory that gives these texts, fails at these of its calls, from 1, and has room for so many bytes of puts.
+pub fn line_of(
+    alloc: Global,
+    texts: &[&[u8]],
+    failing: &[u64],
+    room: usize,
+) -> Option<Box<dyn CallerLine + Send>> {
+    let mut given = Vec::with_capacity(alloc, texts.len()).ok()?;
     for text in texts {
-        lines.push(text.to_vec(alloc)?)?;
+        given.push(text.to_vec(alloc).ok()?).ok()?;
     }
-    Ok(lines)
+    let line = MemoryLine::new(alloc, given, failing.to_vec(alloc).ok()?, room).ok()?;
+    let boxed: Box<dyn CallerLine + Send> = Box::new(alloc, line).ok()?;
+    Some(boxed)
 }
 
-/// So many lines, each a look.
-pub fn looks(alloc: Global, count: usize) -> Result<Vec<Vec<u8>>, AllocError> {
+/// Lines in memory, each of which gives its texts and fails at its one call, from 1, or at none where that is 0; and has room for so
+/// many bytes of puts.
+pub fn lines_of(
+    alloc: Global,
+    each: &[(&[&[u8]], u64)],
+    room: usize,
+) -> Option<Vec<Box<dyn CallerLine + Send>>> {
     let mut lines = Vec::new(alloc);
-    for _ in 0..count {
-        lines.push(LOOK.to_vec(alloc)?)?;
+    for (texts, failing) in each {
+        lines.push(line_of(alloc, texts, &[*failing], room)?).ok()?;
     }
-    Ok(lines)
+    Some(lines)
 }
 
 /// Just these texts were put on the line, in this order.

@@ -1,6 +1,6 @@
 //! Lines in memory that are served behind a day file.
-use crate::openings::{LOOK, has_puts, lines_of, looks};
-use caller_lines::{CallerLine, MemoryLine};
+use crate::openings::{LOOK, has_puts, lines_of};
+use caller_lines::CallerLine;
 use desk_io::{MemorySink, MemorySource, Status};
 use serve_desk::serve;
 use std::alloc::Global;
@@ -52,12 +52,11 @@ fn served<R: Threads + Wait + Sync>(
 #[test]
 fn two_lines_behind_a_day_file(rt: HostRuntime) -> Result<(), Fail> {
     let alloc = rt.alloc();
-    let mut lines: Vec<Box<dyn CallerLine + Send>> = Vec::new(alloc);
-    for command in [b"2024-03-04 00:04,next,1", b"2024-03-04 00:04,next,2"] {
-        let given = lines_of(alloc, &[command.as_slice()])?;
-        let line = MemoryLine::new(alloc, given, Vec::new(alloc), 1_000);
-        lines.push(Box::new(alloc, line.ok().ok_or("memory")?)?)?;
-    }
+    let given: [(&[&[u8]], u64); 2] = [
+        (&[b"2024-03-04 00:04,next,1"], 0),
+        (&[b"2024-03-04 00:04,next,2"], 0),
+    ];
+    let mut lines = lines_of(alloc, &given, 1_000).ok_or("memory")?;
     let (status, sink) = served(&rt, alloc, DAY, (0, 0), &mut lines).ok_or("no memory")?;
     assert!(rt; status == Status::Fine);
     let [one, two] = lines.as_slice() else {
@@ -87,12 +86,10 @@ fn two_lines_behind_a_day_file(rt: HostRuntime) -> Result<(), Fail> {
 #[test]
 fn no_number_of_lines(rt: HostRuntime) -> Result<(), Fail> {
     let alloc = rt.alloc();
+    let look = [LOOK];
+    let given = [(look.as_slice(), 0); 64];
     for count in [0, 64] {
-        let mut lines: Vec<Box<dyn CallerLine + Send>> = Vec::new(alloc);
-        for _ in 0..count {
-            let line = MemoryLine::new(alloc, lines_of(alloc, &[LOOK])?, Vec::new(alloc), 100);
-            lines.push(Box::new(alloc, line.ok().ok_or("memory")?)?)?;
-        }
+        let mut lines = lines_of(alloc, &given[..count], 100).ok_or("memory")?;
         let (status, sink) = served(&rt, alloc, DAY, (1, 1), &mut lines).ok_or("no memory")?;
         assert!(rt; status == Status::Usage && sink.bytes().is_empty());
         for line in &lines {
@@ -116,9 +113,7 @@ fn ways_to_end(rt: HostRuntime) -> Result<(), Fail> {
         (first, (0, 1), Status::WriteFault, b"", 1),
     ];
     for (day, failing, ends, text, replies) in ways {
-        let mut lines: Vec<Box<dyn CallerLine + Send>> = Vec::new(alloc);
-        let line = MemoryLine::new(alloc, lines_of(alloc, &[LOOK])?, Vec::new(alloc), 100);
-        lines.push(Box::new(alloc, line.ok().ok_or("memory")?)?)?;
+        let mut lines = lines_of(alloc, &[(&[LOOK], 0)], 100).ok_or("memory")?;
         let (status, sink) = served(&rt, alloc, day, failing, &mut lines).ok_or("no memory")?;
         assert!(rt; status == ends);
         assert!(rt; sink.bytes() == text);
@@ -135,12 +130,9 @@ fn ways_to_end(rt: HostRuntime) -> Result<(), Fail> {
 fn spent_and_failing_lines(rt: HostRuntime) -> Result<(), Fail> {
     let alloc = rt.alloc();
     let first = b"2024-03-04 00:00,open,2024-03,1,15\n";
-    let mut lines: Vec<Box<dyn CallerLine + Send>> = Vec::new(alloc);
-    for (count, failing) in [(5_001, 0), (3, 5), (1, 2)] {
-        let failing = vec![in alloc; failing]?;
-        let line = MemoryLine::new(alloc, looks(alloc, count)?, failing, 1_000_000);
-        lines.push(Box::new(alloc, line.ok().ok_or("memory")?)?)?;
-    }
+    let looks = [LOOK; 5_001];
+    let given = [(looks.as_slice(), 0), (&looks[..3], 5), (&looks[..1], 2)];
+    let mut lines = lines_of(alloc, &given, 1_000_000).ok_or("memory")?;
     let (status, sink) = served(&rt, alloc, first, (0, 0), &mut lines).ok_or("no memory")?;
     assert!(rt; status == Status::Fine);
     let [one, two, three] = lines.as_slice() else {

@@ -2,7 +2,7 @@
 ghost use Rattle.std.specs.Prelude.{IfSome};
 ghost use Rattle.turn_gate.specs.Seats.{IsSeatOf};
 
-use crate::openings::{LOOK, has_puts, lines_of, looks, new_book};
+use crate::openings::{LOOK, has_puts, line_of, new_book};
 use call_history::Book;
 use caller_lines::{CallerLine, MemoryLine};
 use desk_shared::Desk;
@@ -45,9 +45,7 @@ fn session_of<R: Wait>(
     failing: &[u64],
     puts: &[&[u8]],
 ) -> Option<(Why, u32, bool)> {
-    let failing = failing.to_vec(alloc).ok()?;
-    let line = MemoryLine::new(alloc, lines_of(alloc, gives).ok()?, failing, 150);
-    let mut line: Box<dyn CallerLine + Send> = Box::new(alloc, line.ok()?).ok()?;
+    let mut line = line_of(alloc, gives, failing, 150)?;
     let (why, taken) = ends(rt, alloc, &mut line)?;
     Some((why, taken, has_puts(&line, puts)))
 }
@@ -90,8 +88,8 @@ fn what_follows_a_fault(rt: HostRuntime) {
 #[test]
 fn the_command_behind_the_last_call(rt: HostRuntime) -> Result<(), Fail> {
     let alloc = rt.alloc();
-    let line = MemoryLine::new(alloc, looks(alloc, 5_002)?, Vec::new(alloc), 1_000_000);
-    let mut line: Box<dyn CallerLine + Send> = Box::new(alloc, line.ok().ok_or("memory")?)?;
+    let looks = [LOOK; 5_002];
+    let mut line = line_of(alloc, looks.as_slice(), &[], 1_000_000).ok_or("memory")?;
     let ended = ends(&rt, alloc, &mut line);
     assert_eq!(rt; ended, Some((Why::Spent, 5_000)));
     assert_eq!(rt; line.put_count(), 5_001);

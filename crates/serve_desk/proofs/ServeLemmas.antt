@@ -10,7 +10,7 @@ use Rattle.desk_model.specs.Journal.{journal}
 use Rattle.desk_model.specs.Legal.{given}
 use Rattle.desk_model.specs.Opening.{OpeningValue, IsOpening}
 use Rattle.desk_model.specs.Statement.{StatedValue}
-use Rattle.desk_text.specs.DayFile.{IsDayFile}
+use Rattle.command_parser.specs.DayFile.{IsDayFile}
 use Rattle.day_replay.specs.declared.limits.TheConstants.{BYTE_LIMIT}
 use Rattle.day_replay.specs.Ends.{WasRead}
 use Rattle.day_replay.specs.Replay.{IsReplay, by_the_day_file, day_history}

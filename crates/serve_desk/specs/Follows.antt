@@ -4,7 +4,7 @@ use Rattle.std.specs.declared.option.Option.{Option}
 use Rattle.desk_model.specs.Entry.{EntryValue}
 use Rattle.desk_model.specs.Journal.{entry_line}
 use Rattle.desk_model.specs.Statement.{StatedValue}
-use Rattle.desk_text.specs.CommandLine.{IsCommandLine, IsMalformed}
+use Rattle.command_parser.specs.CommandLine.{IsCommandLine, IsMalformed}
 use Rattle.caller_lines.specs.Given.{Given, GaveLine, GaveTooLong, GaveEnd, GaveFailed}
 use Rattle.serve_desk.specs.declared.limits.TheConstants.{LINE_LIMIT}
 use Rattle.serve_desk.specs.declared.why.Why.{Why}

@@ -7,7 +7,7 @@ use Rattle.desk_model.specs.Legal.{IsLegal, given}
 use Rattle.desk_model.specs.Opening.{OpeningValue, IsOpening}
 use Rattle.desk_model.specs.Statement.{StatedValue}
 use Rattle.desk_model.specs.declared.limits.TheConstants.{LAST_CALLER}
-use Rattle.desk_text.specs.DayFile.{IsDayFile}
+use Rattle.command_parser.specs.DayFile.{IsDayFile}
 use Rattle.day_replay.specs.Ends.{WasRead}
 use Rattle.day_replay.specs.Replay.{by_the_day_file}
 use Rattle.day_replay.specs.declared.limits.TheConstants.{BYTE_LIMIT}

@@ -3,7 +3,8 @@ ghost use Rattle.std.specs.Prelude.{◌≡◌};
 ghost use Rattle.desk_model.specs.Journal.{entry_line};
 
 use desk_model::Entry;
-use desk_text::{LastMinute, LineText, fill_with_entry};
+use line_writer::{LineText, fill_with_entry};
+use record_rows::LastMinute;
 
 /// Writes the lines of entries, one after another. It keeps what spares work from one to the next.
 #[derive(Drop)]

@@ -2,8 +2,8 @@
 ghost use Rattle.std.specs.Prelude.{◌≡◌};
 ghost use Rattle.serve_desk.specs.Texts.{malformed};
 
-use desk_text::LineText;
 use itoa::Buffer;
+use line_writer::LineText;
 
 /// The text for a line that states no command, with the place of its first wrong field, from 1, or 0 where it isn't one record.
 pub fn write_malformed(field: u8) -> LineText

@@ -2,7 +2,7 @@ use Rattle.std.proofs.Common.{◌≡◌, ◌∙◌, ◌++◌, ◌∷◌, [], sym
 use Rattle.desk_model.specs.History.{with_entry}
 use Rattle.desk_model.specs.Journal.{journal}
 use Rattle.desk_text.specs.SpelledEntry.{IsEntryLine, BeginsEntry, statement_of}
-use Rattle.desk_text.specs.Line.{outcome_line}
+use Rattle.line_writer.specs.Line.{outcome_line}
 use Rattle.desk_text.proofs.SpelledEntryLemmas.{IsEntryLine-begins, entry_line-outcome}
 use Rattle.audit_desk.specs.Found.{outcome_of}
 use Rattle.audit_desk.proofs.FoundLemmas.{journal-goes_on, next-statement, statement-next, same-text, other-text, some-left, HasUnreadable-line}

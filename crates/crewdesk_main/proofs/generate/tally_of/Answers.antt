@@ -1,7 +1,7 @@
 use Rattle.std.proofs.Common.{◌≡◌, ◌∙◌, ◌+◌, Some, sym, ap, refl, subst, arith}
 use Rattle.desk_model.specs.History.{opened, with_entry}
 use Rattle.desk_model.specs.Legal.{next}
-use Rattle.desk_text.specs.Tally.{Counts}
+use Rattle.line_writer.specs.Tally.{Counts}
 use Rattle.day_gen.specs.Due.{last_entry}
 use Rattle.day_gen.specs.Day.{day_opening, generated_day}
 use Rattle.crewdesk_main.proofs.generate.tally_of.Goals as goal

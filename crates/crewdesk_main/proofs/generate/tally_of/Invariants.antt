@@ -1,5 +1,5 @@
 use Rattle.std.proofs.Common.{◌≡◌, ◌≤◌, ◌+◌, ◌-◌}
-use Rattle.desk_text.specs.Tally.{Counts}
+use Rattle.line_writer.specs.Tally.{Counts}
 use Rattle.day_gen.specs.Due.{last_entry}
 use Rattle.day_gen.specs.Day.{generated_day}
 use Rattle.crewdesk_main.proofs.generate.tally_of.Given as goal

@@ -1,7 +1,7 @@
 use Rattle.std.proofs.Common.{◌≡◌, inl, inr, sym, subst}
-use Rattle.desk_text.specs.MoreCommands.{HasMoreFault}
-use Rattle.desk_text.specs.declared.more_fault.MoreFault.{MoreFault}
-use Rattle.desk_text.specs.declared.more_fault.MoreFault.TheVariants as fault
+use Rattle.command_parser.specs.MoreCommands.{HasMoreFault}
+use Rattle.command_parser.specs.declared.more_fault.MoreFault.{MoreFault}
+use Rattle.command_parser.specs.declared.more_fault.MoreFault.TheVariants as fault
 use Rattle.crewdesk_main.specs.Continue.{room_behind}
 use Rattle.crewdesk_main.proofs.go_on.go_on.Goals as goal
 

@@ -1,9 +1,9 @@
 use Rattle.std.proofs.Common.{◌≡◌, arith, rules, subst}
 use Rattle.day_replay.specs.Ends.{Tells, WritesOrFails}
 use Rattle.day_replay.specs.declared.limits.TheConstants.{BYTE_LIMIT}
-use Rattle.desk_text.specs.declared.day_fault.DayFault.{DayFault}
-use Rattle.desk_text.specs.declared.day_fault.DayFault.TheVariants as fault
-use Rattle.desk_text.specs.DayFile.{IsDayFile, HasFault}
+use Rattle.command_parser.specs.declared.day_fault.DayFault.{DayFault}
+use Rattle.command_parser.specs.declared.day_fault.DayFault.TheVariants as fault
+use Rattle.command_parser.specs.DayFile.{IsDayFile, HasFault}
 use Rattle.day_replay.proofs.InputLemmas.{WasRead-TookAll}
 use Rattle.day_replay.proofs.ReplayLemmas.{IsDayFile-few, FindsWrong-TookAll, one-cause, cause-day, day-cause, unreadable-cause}
 use Rattle.day_replay.proofs.day_input.take_day.Goals as goal

@@ -1,6 +1,6 @@
 use Rattle.std.proofs.Common.{sym, subst, arith}
 use Rattle.desk_model.specs.History.{opened}
-use Rattle.desk_text.specs.Tally.{Counts}
+use Rattle.line_writer.specs.Tally.{Counts}
 use Rattle.day_replay.proofs.HistoryLemmas.{goes_on-none, goes_on-next, day_history-few}
 use Rattle.day_replay.proofs.day_tally.tally_day.Goals as goal
 

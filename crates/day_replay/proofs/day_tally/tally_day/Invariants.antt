@@ -1,5 +1,5 @@
 use Rattle.std.proofs.Common.{◌≤◌, ◌+◌, length, take}
-use Rattle.desk_text.specs.Tally.{Counts}
+use Rattle.line_writer.specs.Tally.{Counts}
 use Rattle.day_replay.specs.Replay.{day_history}
 use Rattle.day_replay.proofs.day_tally.tally_day.Given as goal
 

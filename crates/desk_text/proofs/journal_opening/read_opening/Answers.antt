@@ -4,7 +4,7 @@ use Rattle.desk_base.specs.Minute.{minute_text}
 use Rattle.desk_base.specs.Month.{month_text}
 use Rattle.desk_model.specs.Opening.{edition_fields, opening_fields}
 use Rattle.desk_text.proofs.LineLemmas.{opening_inner}
-use Rattle.desk_text.proofs.OpeningLemmas.{few_opening, opening_line-fields}
+use Rattle.command_parser.proofs.OpeningLemmas.{few_opening, opening_line-fields}
 use Rattle.desk_text.proofs.SpelledEntryLemmas.{text-of-fields, fields-of-text, before-line_feed}
 use Rattle.desk_text.proofs.journal_opening.read_opening.Goals as goal
 

@@ -1,5 +1,5 @@
 use Rattle.std.proofs.Common.{decimal, arith, refl}
-use Rattle.desk_text.proofs.SpelledLemmas.{same}
+use Rattle.command_parser.proofs.SpelledLemmas.{same}
 use Rattle.desk_text.proofs.ReplyApartLemmas.{decimal-unbroken}
 use Rattle.desk_text.proofs.spelled_part.read_numbers.Goals as goal
 

@@ -1,5 +1,5 @@
 use Rattle.std.proofs.Common.{◌≡◌, ◌∙◌, ◌∷◌, drop, ap, sym}
-use Rattle.desk_text.proofs.SpelledLemmas.{same}
+use Rattle.command_parser.proofs.SpelledLemmas.{same}
 use Rattle.desk_text.proofs.PartLemmas.{behind_16, with_mark, no_shorter}
 use Rattle.desk_text.proofs.spelled_part.read_since.Goals as goal
 

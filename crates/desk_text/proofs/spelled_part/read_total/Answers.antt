@@ -1,6 +1,6 @@
 use Rattle.std.proofs.Common.{decimal, refl}
 use Rattle.desk_base.specs.Month.{month_text}
-use Rattle.desk_text.proofs.SpelledLemmas.{same}
+use Rattle.command_parser.proofs.SpelledLemmas.{same}
 use Rattle.desk_text.proofs.PartLemmas.{month-unbroken}
 use Rattle.desk_text.proofs.spelled_part.read_total.Goals as goal
 

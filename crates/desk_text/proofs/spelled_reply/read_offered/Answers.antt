@@ -1,5 +1,5 @@
 use Rattle.std.proofs.Common.{◌∷◌, ◌++◌, Some, decimal, ap, sym, arith}
-use Rattle.desk_text.proofs.SpelledLemmas.{same}
+use Rattle.command_parser.proofs.SpelledLemmas.{same}
 use Rattle.desk_text.proofs.ReplyApartLemmas.{decimal-unbroken}
 use Rattle.desk_text.proofs.SpelledReplyLemmas.{offered}
 use Rattle.desk_text.proofs.spelled_reply.read_offered.Goals as goal

@@ -1,0 +1,11 @@
+pub mod FormLemmas
+pub mod RowLemmas
+pub mod RowCommandLemmas
+pub mod PlaceLemmas
+pub mod SpelledLemmas
+pub mod ApartLemmas
+pub mod OpeningLemmas
+pub mod DayLemmas
+pub mod LineReadLemmas
+pub mod MoreLemmas
+pub mod WordLemmas

@@ -1,0 +1,8 @@
+pub mod Word
+pub mod Spelled
+pub mod RecordForms
+pub mod OpeningRecord
+pub mod DayFile
+pub mod MoreCommands
+pub mod DayCommands
+pub mod CommandLine

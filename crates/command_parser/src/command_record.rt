@@ -1,0 +1,111 @@
+//! Commands, read from the fields of a record.
+ghost use Rattle.std.specs.Prelude.{◌≡◌, ◌∷◌, IfSome, IfOk, IfErr, map};
+ghost use Rattle.desk_model.specs.declared.command.Cmd.{Cmd as CmdValue};
+ghost use Rattle.desk_model.specs.Statement.{StatedValue};
+ghost use Rattle.command_parser.specs.Spelled.{SpellsCommand, StatesCommand};
+ghost use Rattle.command_parser.specs.RecordForms.{IsWrongAt};
+
+use crate::first_wrong::wrong_field;
+use crate::spelled_command::{
+    read_annul, read_at, read_board, read_next, read_vac_state, read_vacancy,
+};
+use crate::spelled_offer::{
+    read_accept, read_decline, read_explain, read_no_answer, read_offer, read_withdraw,
+};
+use crate::spelled_person::{
+    read_drop, read_enrol, read_happened, read_hours, read_list, read_off, read_on, read_past,
+    read_qualify, read_unlist,
+};
+use crate::word::Word;
+use desk_model::{Cmd, Stated};
+use record_rows::LastMinute;
+
+/// The command that a record's fields state, and the minute at which it was stated. Where they state none it is the place,
+/// from 1, of the first field that is missing, one too many, or none that may stand there behind the fields before it.
+///
+/// The first field is the minute, the second the command's word, and behind it stands what the command is about:
+///
+/// | Word | Fields behind it |
+/// |---|---|
+/// | `enrol` | person, craft, home, qualifications |
+/// | `board` | board, `pool` or `extra`, place |
+/// | `list`, `unlist` | person, board |
+/// | `off`, `on`, `drop` | person |
+/// | `qualify` | person, qualifications |
+/// | `past`, `event` | person, and an event |
+/// | `vacancy`, `relief` | vacancy, craft, qualifications, place, report, duty, limbo, chain |
+/// | `next`, `annul`, `vac` | vacancy |
+/// | `offer`, `accept`, `decline`, `noanswer`, `withdraw`, `explain` | vacancy, person |
+/// | `hours` | person, month |
+/// | `at` | board, place |
+pub fn read_record(last: &mut LastMinute, fields: &[&[u8]]) -> Result<Stated, u8>
+    ensures some { IfOk result (StatesCommand (map (λ field. field.now) fields.now)) }
+    ensures only { (s : StatedValue) → StatesCommand (map (λ field. field.now) fields.now) s
+        → result ≡ Ok s }
+    ensures wrong { IfErr result (IsWrongAt (map (λ field. field.now) fields.now)) }
+{
+    match read_stated(last, fields) {
+        Some(stated) => Ok(stated),
+        None => Err(wrong_field(fields)),
+    }
+}
+
+fn read_stated(last: &mut LastMinute, fields: &[&[u8]]) -> Option<Stated>
+    ensures some { IfSome result (StatesCommand (map (λ field. field.now) fields.now)) }
+    ensures only { (s : StatedValue) → StatesCommand (map (λ field. field.now) fields.now) s
+        → result ≡ Some s }
+{
+    let [minute, command @ ..] = fields else {
+        return None;
+    };
+    stated_by(last, minute, command)
+}
+
+/// What the text of a minute and the fields of a command state; `None` where they state nothing.
+pub fn stated_by(last: &mut LastMinute, minute: &[u8], command: &[&[u8]]) -> Option<Stated>
+    ensures some { IfSome result (StatesCommand (minute.now ∷ map (λ field. field.now) command.now)) }
+    ensures only { (s : StatedValue) → StatesCommand (minute.now ∷ map (λ field. field.now) command.now) s
+        → result ≡ Some s }
+{
+    let minute = last.read(minute)?;
+    match read_cmd(command) {
+        Some(cmd) => Stated::new(minute, cmd),
+        None => None,
+    }
+}
+
+// The command of its word and the fields behind it.
+fn read_cmd(fields: &[&[u8]]) -> Option<Cmd>
+    ensures some { IfSome result (SpellsCommand (map (λ field. field.now) fields.now)) }
+    ensures only { (cmd : CmdValue) → SpellsCommand (map (λ field. field.now) fields.now) cmd
+        → result ≡ Some cmd }
+{
+    let [word, about @ ..] = fields else {
+        return None;
+    };
+    match Word::read(word)? {
+        Word::Enrol => read_enrol(about),
+        Word::Board => read_board(about),
+        Word::List => read_list(about),
+        Word::Unlist => read_unlist(about),
+        Word::Off => read_off(about),
+        Word::On => read_on(about),
+        Word::Qualify => read_qualify(about),
+        Word::Past => read_past(about),
+        Word::Event => read_happened(about),
+        Word::Vacancy => read_vacancy(about, false),
+        Word::Relief => read_vacancy(about, true),
+        Word::Next => read_next(about),
+        Word::Offer => read_offer(about),
+        Word::Accept => read_accept(about),
+        Word::Decline => read_decline(about),
+        Word::NoAnswer => read_no_answer(about),
+        Word::Withdraw => read_withdraw(about),
+        Word::Annul => read_annul(about),
+        Word::Drop => read_drop(about),
+        Word::Hours => read_hours(about),
+        Word::At => read_at(about),
+        Word::Explain => read_explain(about),
+        Word::Vac => read_vac_state(about),
+    }
+}

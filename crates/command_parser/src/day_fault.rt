@@ -1,0 +1,30 @@
+ghost use Rattle.std.specs.Prelude.{◌≡◌};
+ghost use Rattle.command_parser.specs.declared.day_fault.DayFault.TheVariants.{NoMemory};
+
+use desk_base::NoMemory as WantOfMemory;
+
+/// Why bytes are no day file that can be replayed.
+#[derive(Clone, Copy, Debug, PartialEq, Eq)]
+pub enum DayFault {
+    /// There are more records than a day file may have.
+    TooMany,
+    /// The first record is no valid opening.
+    NoOpening,
+    /// A record after the opening states no command.
+    Unreadable {
+        /// The first such record's number, from 1; the opening is record 1.
+        record_no: u32,
+        /// The place of its first wrong field, from 1.
+        field: u8,
+    },
+    /// Memory was wanting.
+    NoMemory,
+}
+
+impl From<WantOfMemory> for DayFault {
+    ghost from_gives = { λ _ e. e ≡ NoMemory };
+
+    fn from(_fault: WantOfMemory) -> Self {
+        DayFault::NoMemory
+    }
+}

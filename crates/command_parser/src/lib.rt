@@ -1,0 +1,44 @@
+//! Commands read: of records, of day files, of callers' lines and of lists that a journal goes on with; and the first wrong field
+//! of what is none.
+#![tactic(auto)]
+
+mod command_line;
+mod command_record;
+mod day_commands;
+mod day_fault;
+mod day_file;
+mod event_word;
+mod field;
+mod first_wrong;
+mod form;
+mod limits;
+mod more_commands;
+mod more_fault;
+mod one_statement;
+mod opening_record;
+mod read_fail;
+mod record_forms;
+mod record_row;
+mod spelled_command;
+mod spelled_event;
+mod spelled_offer;
+mod spelled_person;
+mod table_of_records;
+mod word;
+mod wrong_place;
+
+pub use command_line::read_command;
+pub use command_record::{read_record, stated_by};
+pub use day_fault::DayFault;
+pub use day_file::{DayFile, bytes_are_one_day_file, read_day};
+pub use field::{read_count, read_person, read_place, read_vac};
+pub use limits::{RECORD_LIMIT, the_most_records_of_a_day_file};
+pub use more_commands::{bytes_state_one_list_of_commands, read_more};
+pub use more_fault::MoreFault;
+pub use one_statement::a_record_states_one_command;
+pub use opening_record::opening_of;
+pub use read_fail::ReadFail;
+pub use spelled_event::read_kind;
+pub use table_of_records::{
+    a_record_is_wrong_at_one_place, the_table_has_just_the_records_of_commands,
+};

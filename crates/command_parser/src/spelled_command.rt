@@ -1,0 +1,109 @@
+//! Commands about a board or a vacancy, read from the fields behind their word.
+ghost use Rattle.std.specs.Prelude.{◌≡◌, ◌∷◌, IfSome, map};
+ghost use Rattle.desk_model.specs.declared.command.Cmd.{Cmd as CmdValue};
+ghost use Rattle.command_parser.specs.declared.word.Word.TheVariants as word;
+ghost use Rattle.desk_model.specs.StatedTexts.{job_word};
+ghost use Rattle.command_parser.specs.Spelled.{Spells, SpellsCommand};
+
+use crate::field::{read_count, read_extra, read_place, read_vac};
+use desk_base::{Code, Minute};
+use desk_model::{Chain, Cmd, Job};
+use qualifications::{Craft, Quals};
+
+/// Board, sort and place.
+pub fn read_board(about: &[&[u8]]) -> Option<Cmd>
+    ensures some { IfSome result (Spells word.Board (map (λ field. field.now) about.now)) }
+    ensures only { (cmd : CmdValue) → Spells word.Board (map (λ field. field.now) about.now) cmd
+        → result ≡ Some cmd }
+{
+    let [board, sort, place] = about else {
+        return None;
+    };
+    Some(Cmd::Board {
+        board: Code::read(board)?,
+        extra: read_extra(sort)?,
+        place: Code::read(place)?,
+    })
+}
+
+/// Vacancy, craft, qualifications, place, report, duty, limbo and chain, of a relief vacancy or of another.
+pub fn read_vacancy(about: &[&[u8]], relief: bool) -> Option<Cmd>
+    ensures some { IfSome result (SpellsCommand
+        (job_word relief ∷ map (λ field. field.now) about.now)) }
+    ensures only { (cmd : CmdValue)
+        → SpellsCommand (job_word relief ∷ map (λ field. field.now) about.now) cmd
+        → result ≡ Some cmd }
+{
+    let [vac, craft, quals, place, report, duty, limbo, chain] = about else {
+        return None;
+    };
+    let job = Job::new(
+        read_vac(vac)?,
+        Craft::read(craft)?,
+        Quals::read(quals)?,
+        Code::read(place)?,
+        Minute::read(report)?,
+        read_count(duty)?,
+        read_count(limbo)?,
+        Chain::read(chain)?,
+        relief,
+    )?;
+    Some(Cmd::Vacancy(job))
+}
+
+/// Vacancy.
+pub fn read_next(about: &[&[u8]]) -> Option<Cmd>
+    ensures some { IfSome result (Spells word.Next (map (λ field. field.now) about.now)) }
+    ensures only { (cmd : CmdValue) → Spells word.Next (map (λ field. field.now) about.now) cmd
+        → result ≡ Some cmd }
+{
+    let [vac] = about else {
+        return None;
+    };
+    Some(Cmd::Next {
+        vac: read_vac(vac)?,
+    })
+}
+
+/// Vacancy.
+pub fn read_annul(about: &[&[u8]]) -> Option<Cmd>
+    ensures some { IfSome result (Spells word.Annul (map (λ field. field.now) about.now)) }
+    ensures only { (cmd : CmdValue) → Spells word.Annul (map (λ field. field.now) about.now) cmd
+        → result ≡ Some cmd }
+{
+    let [vac] = about else {
+        return None;
+    };
+    Some(Cmd::Annul {
+        vac: read_vac(vac)?,
+    })
+}
+
+/// Board and place.
+pub fn read_at(about: &[&[u8]]) -> Option<Cmd>
+    ensures some { IfSome result (Spells word.At (map (λ field. field.now) about.now)) }
+    ensures only { (cmd : CmdValue) → Spells word.At (map (λ field. field.now) about.now) cmd
+        → result ≡ Some cmd }
+{
+    let [board, place] = about else {
+        return None;
+    };
+    Some(Cmd::At {
+        board: Code::read(board)?,
+        place: read_place(place)?,
+    })
+}
+
+/// Vacancy.
+pub fn read_vac_state(about: &[&[u8]]) -> Option<Cmd>
+    ensures some { IfSome result (Spells word.Vac (map (λ field. field.now) about.now)) }
+    ensures only { (cmd : CmdValue) → Spells word.Vac (map (λ field. field.now) about.now) cmd
+        → result ≡ Some cmd }
+{
+    let [vac] = about else {
+        return None;
+    };
+    Some(Cmd::Vac {
+        vac: read_vac(vac)?,
+    })
+}

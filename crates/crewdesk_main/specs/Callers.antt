@@ -1,0 +1,12 @@
+-- What serving the callers of names makes of the source and the sink.
+use Rattle.std.specs.Prelude.{◌≡◌, ℕ, Option, List, length}
+use Rattle.serve_desk.specs.Serve.{ServesDay}
+use Rattle.serve_desk.specs.Told.{LineValue}
+
+-- so many lines were served behind a day file, one for each name; what they tell of themselves is theirs, and lines over files tell
+-- nothing
+pub record ServesNames (many : ℕ) (before after : Option (List ℕ)) (Writes : List ℕ → Type 0) : Type 0 where
+  pub lines : List LineValue
+  pub later : List LineValue
+  pub count : length lines ≡ many
+  pub serves : ServesDay before after lines later Writes

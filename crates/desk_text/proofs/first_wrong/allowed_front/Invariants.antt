@@ -1,8 +1,0 @@
-use Rattle.std.proofs.Common.{map, ℕ, ◌-◌, ◌<◌, get_or, []}
-use Rattle.desk_text.specs.declared.form.Form.TheVariants as form
-use Rattle.desk_text.specs.RecordForms.{HasForm}
-use Rattle.desk_text.proofs.first_wrong.allowed_front.Given as goal
-
-abbrev pub invariant-loop-i : goal.invariant-loop-i
-invariant-loop-i l = (i : ℕ) → i < l.i
-    → HasForm (get_or l.forms i form.Minute) (get_or (map (λ field. field.now) l.fields) (i - 1) []) (get_or (map (λ field. field.now) l.fields) i [])

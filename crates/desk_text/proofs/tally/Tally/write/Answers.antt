@@ -1,9 +1,0 @@
-use Rattle.std.proofs.Common.{arith}
-use Rattle.std.proofs.lemmas.Grind.{common_steps}
-use Rattle.desk_text.specs.Tally.{tally_text}
-use Rattle.desk_text.proofs.tally.Tally.write.Goals as goal
-
-pub returns : goal.returns
-unfolding tally_text
-returns c = λ h counts.
-    grind (arith, common_steps, counts.commands, counts.done, counts.offered, counts.unfilled, counts.denied, counts.told, counts.refused, counts.moment)

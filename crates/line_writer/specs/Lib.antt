@@ -1,0 +1,3 @@
+pub mod Marked
+pub mod Line
+pub mod Tally

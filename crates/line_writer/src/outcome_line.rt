@@ -1,0 +1,51 @@
+//! What the desk answered, and bars, as texts of their own.
+ghost use Rattle.std.specs.Prelude.{◌≡◌, ◌≤◌, ◌+◌, ◌++◌};
+ghost use Rattle.arrayvec.specs.ArrayVec.{array_vec_len};
+ghost use Rattle.desk_model.specs.BarTexts.{bar_text};
+ghost use Rattle.line_writer.specs.Line.{outcome_line};
+
+use crate::bar_line::put_bar;
+use crate::line_text::{LineText, put, put_byte};
+use crate::reply_line::put_reply;
+use denial_rules::Bar;
+use desk_base::Minute;
+use desk_model::{Entry, Reply};
+use record_rows::LastMinute;
+
+/// The line `moment|reply`, with its line feed: when the desk took a command, and what it answered.
+pub fn write_outcome(moment: Minute, reply: &Reply) -> LineText
+    ensures { result.items ≡ outcome_line moment reply.now }
+{
+    let mut line = LineText::new();
+    put_outcome(&mut line, &mut LastMinute::new(), moment, reply);
+    line
+}
+
+/// Makes a line that of the entry's outcome. What stood in it is gone. `last` is the moment that the lines before it named last:
+/// it only spares work.
+pub fn fill_with_outcome(line: &mut LineText, last: &mut LastMinute, entry: &Entry)
+    ensures { line.new.items ≡ outcome_line entry.now.moment entry.now.reply }
+{
+    line.clear();
+    put_outcome(line, last, entry.moment(), &entry.reply());
+}
+
+/// Adds that line, 66 bytes at most.
+pub(crate) fn put_outcome(line: &mut LineText, last: &mut LastMinute, moment: Minute, reply: &Reply)
+    requires { array_vec_len line.old + 66 ≤ 512 }
+    ensures { line.new.items ≡ line.old.items ++ outcome_line moment reply.now }
+{
+    put(line, &last.write(moment));
+    put_byte(line, b'|');
+    put_reply(line, reply);
+    put_byte(line, b'\n');
+}
+
+/// The text of a bar, with no line feed.
+pub fn write_bar(bar: &Bar) -> LineText
+    ensures { result.items ≡ bar_text bar.now }
+{
+    let mut text = LineText::new();
+    put_bar(&mut text, bar);
+    text
+}
