@@ -1,3 +1,6 @@
+use thiserror::Error;
+
 /// A book has no room for another entry.
-#[derive(Clone, Copy, Debug, PartialEq, Eq)]
+#[derive(Clone, Copy, Debug, PartialEq, Eq, Error)]
+#[error("the book is full")]
 pub struct Full;

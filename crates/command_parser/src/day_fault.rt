@@ -2,15 +2,19 @@ ghost use Rattle.std.specs.Prelude.{◌≡◌};
 ghost use Rattle.command_parser.specs.declared.day_fault.DayFault.TheVariants.{NoMemory};
 
 use desk_base::NoMemory as WantOfMemory;
+use thiserror::Error;
 
 /// Why bytes are no day file that can be replayed.
-#[derive(Clone, Copy, Debug, PartialEq, Eq)]
+#[derive(Clone, Copy, Debug, PartialEq, Eq, Error)]
 pub enum DayFault {
     /// There are more records than a day file may have.
+    #[error("too many records")]
     TooMany,
     /// The first record is no valid opening.
+    #[error("no opening")]
     NoOpening,
     /// A record after the opening states no command.
+    #[error("unreadable {record_no} {field}")]
     Unreadable {
         /// The first such record's number, from 1; the opening is record 1.
         record_no: u32,
@@ -18,6 +22,7 @@ pub enum DayFault {
         field: u8,
     },
     /// Memory was wanting.
+    #[error("no memory")]
     NoMemory,
 }
 

@@ -2,13 +2,16 @@ ghost use Rattle.std.specs.Prelude.{◌≡◌};
 ghost use Rattle.command_parser.specs.declared.more_fault.MoreFault.TheVariants.{NoMemory};
 
 use desk_base::NoMemory as WantOfMemory;
+use thiserror::Error;
 
 /// Why records are no commands that a journal can go on with.
-#[derive(Clone, Copy, Debug, PartialEq, Eq)]
+#[derive(Clone, Copy, Debug, PartialEq, Eq, Error)]
 pub enum MoreFault {
     /// There are more records than there is room for.
+    #[error("too many records")]
     TooMany,
     /// A record states no command.
+    #[error("unreadable {record_no} {field}")]
     Unreadable {
         /// The first such record's number, from 1.
         record_no: u32,
@@ -16,6 +19,7 @@ pub enum MoreFault {
         field: u8,
     },
     /// Memory was wanting.
+    #[error("no memory")]
     NoMemory,
 }
 

@@ -2,13 +2,16 @@ ghost use Rattle.command_parser.specs.declared.read_fail.ReadFail.TheVariants.{N
 ghost use Rattle.std.specs.Prelude.{◌≡◌};
 
 use desk_base::NoMemory as WantOfMemory;
+use thiserror::Error;
 
 /// Why a caller's line is no command.
-#[derive(Clone, Copy, Debug, PartialEq, Eq)]
+#[derive(Clone, Copy, Debug, PartialEq, Eq, Error)]
 pub enum ReadFail {
     /// The place of its first wrong field, from 1; 0 where it isn't just one record.
+    #[error("malformed {0}")]
     Malformed(u8),
     /// Memory was wanting.
+    #[error("no memory")]
     NoMemory,
 }
 

@@ -1,22 +1,10 @@
-ghost use Rattle.std.specs.Prelude.{Some, codes};
-
 use std::alloc::{AllocError, AllocFailed};
-use std::error::Error;
-use std::fmt;
+use thiserror::Error;
 
 /// The one fault for want of memory.
-#[derive(Clone, Copy, Debug, PartialEq, Eq)]
+#[derive(Clone, Copy, Debug, PartialEq, Eq, Error)]
+#[error("no memory")]
 pub struct NoMemory;
-
-impl fmt::Display for NoMemory {
-    ghost output = { λ _. Some (codes "no memory") };
-
-    fn fmt<W: fmt::Write>(&self, f: &mut fmt::Formatter<W>) -> fmt::Result {
-        f.write_str("no memory")
-    }
-}
-
-impl Error for NoMemory {}
 
 impl From<AllocError> for NoMemory {
     fn from(_fault: AllocError) -> Self {

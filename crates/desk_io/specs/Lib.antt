@@ -1,7 +1,6 @@
 pub mod Faults
 pub mod Giving
 pub mod Input
-pub mod InputFault
 pub mod MemorySink
 pub mod MemorySource
 pub mod Piece

@@ -1,35 +1,22 @@
-ghost use Rattle.std.specs.Prelude.{◌≡◌, Some};
+ghost use Rattle.std.specs.Prelude.{◌≡◌};
 ghost use Rattle.desk_io.specs.declared.input_fault.InputFault.TheVariants.{NoMemory as no_memory};
-ghost use Rattle.desk_io.specs.InputFault.{text_of};
 
 use std::alloc::AllocError;
-use std::error::Error;
-use std::fmt;
+use thiserror::Error;
 
 /// Why an input could not be taken whole.
-#[derive(Clone, Copy, Debug, PartialEq, Eq)]
+#[derive(Clone, Copy, Debug, PartialEq, Eq, Error)]
 pub enum InputFault {
     /// The source had a fault.
+    #[error("read fault")]
     ReadFault,
     /// The source has more bytes than the limit.
+    #[error("too long")]
     TooLong,
     /// Memory was wanting.
+    #[error("no memory")]
     NoMemory,
 }
-
-impl fmt::Display for InputFault {
-    ghost output = { λ fault. Some (text_of fault) };
-
-    fn fmt<W: fmt::Write>(&self, f: &mut fmt::Formatter<W>) -> fmt::Result {
-        f.write_str(match self {
-            InputFault::ReadFault => "read fault",
-            InputFault::TooLong => "too long",
-            InputFault::NoMemory => "no memory",
-        })
-    }
-}
-
-impl Error for InputFault {}
 
 impl From<AllocError> for InputFault {
     ghost from_gives = { λ _ fault. fault ≡ no_memory };

@@ -1,6 +1,7 @@
 //! Slots in a row, each empty or filled by a person, and the first of them who is ready at a minute.
 #![tactic(auto)]
 
+mod counted_nodes;
 mod keys;
 mod nodes;
 mod search;

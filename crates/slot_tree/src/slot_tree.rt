@@ -4,6 +4,7 @@ ghost use Rattle.slot_tree.specs.Search.{FindsReady, FindsFilled};
 ghost use Rattle.slot_tree.specs.Nodes.{AreLeast, AreFloorsOf, KeysStand, AreKeys};
 ghost use Rattle.slot_tree.specs.Rest.{all_slots, all_nodes, HasRoom};
 
+use crate::counted_nodes::CountedNodes;
 use crate::keys::{BLOCK, filled_as, filled_before};
 use crate::nodes::{EMPTY, fill, key_of, mend, write};
 use crate::search::first_below;
@@ -109,6 +110,7 @@ impl SlotTree {
         ensures found { FindsReady self.now from m result }
         ensures cost { (k : ℕ) → length self.now ≡ 2 ^ k → steps.new ≤ steps.old + 4 * (k + 1) }
         ensures close { (k : ℕ) → length self.now ≡ 2 ^ k → steps.new ≤ steps.old + 2 * k + 1 }
+        ensures counted { (s : ℕ) → from ≤ s → is_some (slot_at self.now s) ≡ true → steps.old < steps.new }
     {
         let many = slot_count(self.height);
         let from = from as usize;
@@ -116,7 +118,13 @@ impl SlotTree {
             return None;
         }
         let m = m.number() as u32;
-        let at = first_below(&self.nodes, self.height, many + from, m, steps)?;
+        let at = first_below(
+            &CountedNodes::new(&self.nodes),
+            self.height,
+            many + from,
+            m,
+            steps,
+        )?;
         Some((at - many) as u32)
     }
 

@@ -11,10 +11,12 @@ pub loop-left-preserved-then-read-m : goal.loop-left-preserved-then-read-m
 loop-left-preserved-then-read-m g c = record {
   comes = descends_right _ _ _ _ c.loop-left.i _ c.loop-left.left _ c.requires.least c.requires.within c.loop-left.invariant.comes (omega arith) refl (omega (arith, c.read.ensures.value, c.if-read-m.true));
   cost = omega (arith, c.read.ensures.cost, c.loop-left.invariant.cost);
+  counted = omega (arith, c.read.ensures.cost, c.loop-left.invariant.counted);
 }
 
 pub loop-left-preserved : goal.loop-left-preserved
 loop-left-preserved g c = record {
   comes = descends_left _ _ _ _ c.loop-left.i _ c.loop-left.left _ c.loop-left.invariant.comes (omega arith) refl (omega (arith, c.read.ensures.value, c.if-read-m.false));
   cost = omega (arith, c.read.ensures.cost, c.loop-left.invariant.cost);
+  counted = omega (arith, c.read.ensures.cost, c.loop-left.invariant.counted);
 }

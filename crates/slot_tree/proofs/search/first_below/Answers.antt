@@ -3,8 +3,8 @@ use Rattle.std.proofs.lemmas.Bool.{cases_lt}
 use Rattle.slot_tree.proofs.LeastLemmas.{sibling_within, sibling_below, climbs}
 use Rattle.slot_tree.proofs.search.first_below.Goals as goal
 
-pub goes_right-requires : goal.goes_right-requires
-goes_right-requires g c is_left = sibling_below _ _ _ _ _ _ c.requires.long c.loop-t.invariant.comes c.loop-t-test.true is_left
+pub goes_right-requires-clause-right : goal.goes_right-requires-clause-right
+goes_right-requires-clause-right g c is_left = sibling_below _ _ _ _ _ _ c.requires.long c.loop-t.invariant.comes c.loop-t-test.true is_left
 
 pub descend-requires-clause-within : goal.descend-requires-clause-within
 descend-requires-clause-within g c =
@@ -27,4 +27,5 @@ pub loop-t-preserved : goal.loop-t-preserved
 loop-t-preserved g c = record {
   comes = climbs _ _ _ _ _ _ c.requires.long c.requires.least c.loop-t.invariant.comes c.loop-t-test.true (c.goes_right.ensures.above c.if-goes_right.false);
   cost = omega (arith, c.goes_right.ensures.cost, c.loop-t.invariant.cost);
+  some = omega (arith, c.goes_right.ensures.counted, c.loop-t.invariant.some);
 }
