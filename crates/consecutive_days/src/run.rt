@@ -15,6 +15,13 @@ pub const OFF_AFTER_SIX_DAYS: u32 = 2_880;
 /// The minutes off at home that seven days in a row need, or more: 72 hours.
 pub const OFF_AFTER_SEVEN_DAYS: u32 = 4_320;
 
+/// What the names of the days in a row and of the minutes off behind them stand for. It does nothing: its clauses are the law.
+pub fn the_numbers_of_days_in_a_row()
+    ensures days { SIX_DAYS ≡ 6 }
+    ensures after_six { OFF_AFTER_SIX_DAYS ≡ 2_880 }
+    ensures after_seven { OFF_AFTER_SEVEN_DAYS ≡ 4_320 }
+{}
+
 /// Days in a row that have a tour's start.
 #[derive(Clone, Copy, Debug, PartialEq, Eq)]
 pub struct Run {

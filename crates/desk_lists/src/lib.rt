@@ -13,4 +13,4 @@ mod orders;
 pub use laws::who_is_kept_on_a_board_is_on_it;
 pub use listings::with_board;
 pub use lists::Lists;
-pub use named::{NEVER, Named};
+pub use named::{NEVER, Named, the_last_minute};

@@ -1,7 +1,15 @@
-use desk_base::Minute;
+ghost use Rattle.std.specs.Prelude.{◌≡◌, ◌<◌};
+
+use desk_base::{Minute, YEARS_END};
 
 /// The number of the last minute that there is: who is in a tour of duty isn't ready before it.
 pub const NEVER: u64 = 268_435_455;
+
+/// Which minute is the last, behind all of the years 2000 to 2099. It does nothing: its clauses are the law.
+pub fn the_last_minute()
+    ensures number { NEVER ≡ 268_435_455 }
+    ensures behind { YEARS_END < NEVER }
+{}
 
 /// Whom and what an entry names, by their places, and when the person is ready after it.
 #[derive(Clone, Copy, Debug)]

@@ -32,7 +32,7 @@ pub use laws::{
     the_first_events_are_lawful, the_last_tour_ends_by_the_latest_minute,
     tours_when_an_event_comes, where_an_event_leads,
 };
-pub use limits::{DUTY_LIMIT, INTERIM_LIMIT, OFF_DUTY_INTERIM};
+pub use limits::{DUTY_LIMIT, INTERIM_LIMIT, OFF_DUTY_INTERIM, the_numbers_of_a_tour};
 pub use minute_kind::MinuteKind;
 pub use minutes::shared;
 pub use places::{place, place_behind, place_until};

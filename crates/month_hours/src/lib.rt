@@ -14,7 +14,7 @@ mod work;
 
 pub use laws::{hours_in_words, limbo_when_an_event_comes};
 pub use limbo::capped;
-pub use limit::{LIMBO_LIMIT, Limit, MONTH_LIMIT};
+pub use limit::{LIMBO_LIMIT, Limit, MONTH_LIMIT, the_limits_of_a_month};
 pub use month_share::MonthShare;
 pub use over::Over;
 pub use passed::{over_limbo, over_month};

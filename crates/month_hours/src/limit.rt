@@ -19,6 +19,12 @@ pub const MONTH_LIMIT: u32 = 16_560;
 /// The minutes of limbo behind twelve hours of a tour that a month may have: 30 hours, 49 USC 21103(c)(1).
 pub const LIMBO_LIMIT: u32 = 1_800;
 
+/// What the names of a month's limits stand for, in minutes. It does nothing: its clauses are the law.
+pub fn the_limits_of_a_month()
+    ensures month { MONTH_LIMIT ≡ 16_560 }
+    ensures limbo { LIMBO_LIMIT ≡ 1_800 }
+{}
+
 /// A limit on the minutes of a month.
 #[derive(Clone, Copy, Debug, PartialEq, Eq)]
 pub enum Limit {

@@ -11,6 +11,11 @@ use std::marker::Model;
 /// At most so many offers are open, as many as there are persons.
 pub const OFFERS: usize = 1_000;
 
+/// How many offers are open at most. It does nothing: its clause is the law.
+pub fn the_most_open_offers()
+    ensures { OFFERS ≡ 1_000 }
+{}
+
 /// The offers that are open: a map from vacancies in which no person stands twice. A contract sees their list, by rising
 /// vacancy.
 #[derive(Debug, Drop)]

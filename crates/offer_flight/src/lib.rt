@@ -5,5 +5,5 @@ mod flight;
 mod in_flight;
 mod places;
 
-pub use flight::{Flight, OFFERS};
+pub use flight::{Flight, OFFERS, the_most_open_offers};
 pub use in_flight::InFlight;

@@ -9,6 +9,11 @@ use csv::ByteRecord;
 /// How many fields of a record are given, at most. No command has as many.
 pub const FIELD_LIMIT: usize = 12;
 
+/// How many fields of a record are given, at most. It does nothing: its clause is the law.
+pub fn the_most_fields_of_a_record()
+    ensures { FIELD_LIMIT ≡ 12 }
+{}
+
 /// Fields, at most 12: a list that is filled again and again where it stands.
 pub type Fields<'a> = ArrayVec<&'a [u8], FIELD_LIMIT>;
 

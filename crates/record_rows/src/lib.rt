@@ -8,7 +8,7 @@ mod plain;
 mod row;
 mod rows;
 
-pub use fields::{Fields, fill_with_line};
+pub use fields::{Fields, fill_with_line, the_most_fields_of_a_record};
 pub use last_minute::LastMinute;
 pub use plain::is_plain;
 pub use row::Row;

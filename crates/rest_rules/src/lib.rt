@@ -9,5 +9,5 @@ mod tour_excess;
 
 pub use laws::{excess_when_an_event_comes, off_when_an_event_comes, rest_in_words};
 pub use off_since::off_from;
-pub use rest::{REST, rest_end, rest_ok};
+pub use rest::{REST, rest_end, rest_ok, the_minutes_of_a_rest};
 pub use tour_excess::excess;

@@ -14,6 +14,11 @@ use stretches::Gauge;
 /// The minutes off that are a rest: ten hours, 49 USC 21103(a)(3).
 pub const REST: u64 = 600;
 
+/// How many minutes off are a rest. It does nothing: its clause is the law.
+pub fn the_minutes_of_a_rest()
+    ensures { REST ≡ 600 }
+{}
+
 /// Whether someone has rested at a minute, by a lawful list of events: no minute is worked; or the last worked one is ten
 /// hours ago at least, and they were off for ten hours and so many minutes `more` in one stretch since their last tour
 /// ended (since ever, if none has). With no minutes more it is 49 USC 21103(a)(3), with the excess (c)(4) and (e).
