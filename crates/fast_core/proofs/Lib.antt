@@ -1,5 +1,6 @@
 mod PlaceLemmas
 mod OfferLemmas
+mod StepLemmas
 mod SearchLemmas
 mod KeepLemmas
 mod CoreLemmas

@@ -23,6 +23,7 @@ use Rattle.slot_tree.specs.Slots.{is_ready}
 use Rattle.desk_model.specs.Boards.{is_on, links, order}
 use Rattle.desk_model.specs.Offers.{is_of}
 use Rattle.desk_model.specs.Duty.{events, in_tour}
+use Rattle.desk_model.specs.Rank.{IsOnce}
 use Rattle.desk_model.specs.Bars.{bar_of, may_have, is_free}
 use Rattle.desk_register.specs.Among.{place_among, board_place}
 use Rattle.desk_lists.specs.declared.named.TheConstants.{NEVER}
@@ -34,8 +35,9 @@ use Rattle.fast_core.specs.declared.job_asked.JobAsked.{JobAsked}
 use Rattle.fast_core.specs.Judged.{IsJobAsked}
 use Rattle.fast_core.specs.Desk.{Tells}
 use Rattle.desk_lists.proofs.BitLemmas.{no-board}
-use Rattle.fast_core.specs.Search.{bar_by, bar_for, bar_unless, was_searched, Judges, HasSearched, board_steps, chain_steps}
+use Rattle.fast_core.specs.Search.{bar_by, bar_for, bar_unless, was_searched, Judges, HasSearched, is_barred_though_rested, board_steps, chain_steps}
 use Rattle.fast_core.proofs.OfferLemmas.{code-at}
+use Rattle.fast_core.proofs.StepLemmas.{over-kept, asked-early}
 
 -- the law: who isn't ready is barred
 abbrev pub BarsTours : History → Type 0
@@ -122,10 +124,10 @@ pub found-none : (b : List ℕ) (found : Option Found) (whole : Option Link) →
 found-none b found whole is same = sym (ap (option_map (link_at b)) is) ∙ same
 
 -- the steps of a chain from a board on are those of the board and of those behind it
-pub chain_steps-next : (kept : List BoardValue) (barred : ℕ → Option Bar) (m : ℕ) (codes chain : List (List ℕ)) (i : ℕ) (b : List ℕ) → i < length chain → b ≡ get_or chain i b
-    → chain_steps kept barred m codes (drop i chain) ≡ board_steps kept barred m (board_place codes b) + chain_steps kept barred m codes (drop (i + 1) chain)
-chain_steps-next kept barred m codes chain i b within is =
-    at_drop_more (chain_steps kept barred m codes) chain i b within ∙ ap (λ a. chain_steps kept barred m codes (a ∷ drop (i + 1) chain)) (sym is)
+pub chain_steps-next : (h : History) (m : ℕ) (job : JobValue) (chain : List (List ℕ)) (i : ℕ) (b : List ℕ) → i < length chain → b ≡ get_or chain i b
+    → chain_steps h m job (drop i chain) ≡ board_steps h m job b + chain_steps h m job (drop (i + 1) chain)
+chain_steps-next h m job chain i b within is =
+    at_drop_more (chain_steps h m job) chain i b within ∙ ap (λ a. chain_steps h m job (a ∷ drop (i + 1) chain)) (sym is)
 
 -- the members of one board, by themselves
 alone-unready : (h : History) (m : ℕ) (job : JobValue) (kept seen : List BoardValue) (on : ℕ → ℕ → Bool) (j : ℕ) (barred : ℕ → Option Bar) → Agrees barred h m job → BarsTours h → BarsRest h
@@ -146,14 +148,15 @@ found-first h m job kept seen on b j found barred agrees tours rest lists same a
 
 -- and no more is read than its members give
 found-steps : (h : History) (m : ℕ) (job : JobValue) (kept seen : List BoardValue) (on : ℕ → ℕ → Bool) (b : List ℕ) (j old new : ℕ) (barred : ℕ → Option Bar)
-    → Agrees barred h m job → BarsTours h → BarsRest h → KeepsLists kept on h → seen ≡ kept → board_place (boards h) b ≡ Some j
+    → Agrees barred h m job → BarsTours h → BarsRest h → KeepsLists kept on h → m < NEVER → IsOnce (order h b) → seen ≡ kept → board_place (boards h) b ≡ Some j
     → (All (λ index. BarsUnready barred m (members_at seen index)) (j ∷ []) → new ≤ old + most_steps barred m seen (j ∷ []))
-    → new ≤ old + board_steps kept (bar_for h m job) m (board_place (boards h) b)
-found-steps h m job kept seen on b j old new barred agrees tours rest lists same at searched =
+    → new ≤ old + board_steps h m job b
+found-steps h m job kept seen on b j old new barred agrees tours rest lists early once same at searched =
     let cost : new ≤ old + most_steps barred m kept (j ∷ []) =
     subst (λ ks. new ≤ old + most_steps barred m ks (j ∷ [])) same (searched (alone-unready h m job kept seen on j barred agrees tours rest lists same)) in
-    let over : passed_over barred m (members_at kept j) ≡ passed_over (bar_for h m job) m (members_at kept j) = over-same barred (bar_for h m job) m (members_at kept j) agrees in
-    rw at (omega (arith, cost, ap (λ n. (n + 1) * (4 * (10 + 1))) over))
+    let over : passed_over barred m (members_at kept j) ≡ length (filter (is_barred_though_rested h m job) (order h b)) =
+    over-same barred (bar_for h m job) m (members_at kept j) agrees ∙ over-kept h m job kept on b j lists early once (code-at (boards h) b j at) in
+    omega (arith, cost, ap (λ n. (n + 1) * (4 * (10 + 1))) over)
 
 -- ---- boards that were searched
 
@@ -244,10 +247,12 @@ call-first law d h a searched seen b j found tours rest tells asked before same 
 -- and reads no more than the board's members give
 pub call-steps : KeptIsOn → (d : Desk) (h : History) (a : JobAsked) (searched : ℕ) (seen : List BoardValue) (b : List ℕ) (j old new : ℕ) → BarsTours h → BarsRest h
     → Tells d h → IsJobAsked a h → HasSearched h a.moment a.job.now searched → seen ≡ boards_kept d.lists → board_place (boards h) b ≡ Some j
+    → IsOnce (order h b)
     → ((barred : ℕ → Option Bar) → Judges d a searched barred → All (λ index. BarsUnready barred a.moment (members_at seen index)) (j ∷ [])
     → new ≤ old + most_steps barred a.moment seen (j ∷ []))
-    → new ≤ old + board_steps (boards_kept d.lists) (bar_for h a.moment a.job.now) a.moment (board_place (boards h) b)
-call-steps law d h a searched seen b j old new tours rest tells asked before same at reads =
+    → new ≤ old + board_steps h a.moment a.job.now b
+call-steps law d h a searched seen b j old new tours rest tells asked before same at once reads =
     let barred = by d h a.moment a.job.now searched in
-    found-steps h a.moment a.job.now (boards_kept d.lists) seen _ b j old new barred (by-agrees law d h a.moment a.job.now searched tells before) tours rest tells.lists.lists same at
+    found-steps h a.moment a.job.now (boards_kept d.lists) seen _ b j old new barred (by-agrees law d h a.moment a.job.now searched tells before) tours rest tells.lists.lists
+    (asked-early h a.moment a.job.now tells.legal asked.asked) once same at
     (reads barred (by-judges d h a searched tells asked))

@@ -1,17 +1,18 @@
 -- Who may have a vacancy, for a search of its chain, and how much of the boards that reads.
-use Rattle.std.specs.Prelude.{◌≡◌, ℕ, ◌+◌, ◌*◌, ◌<◌, ◌^◌, Bool, true, false, is_some, Option, None, Some, List, [], ◌∷◌}
+use Rattle.std.specs.Prelude.{◌≡◌, ℕ, ◌+◌, ◌*◌, ◌<◌, ◌^◌, Bool, true, false, not, ◌&&◌, nat_le, filter, length, is_some, Option, None, Some, List, [], ◌∷◌}
 use Rattle.std.specs.Option.{option_map_or}
+use Rattle.rest_rules.specs.Rest.{rest_end}
 use Rattle.denial_rules.specs.declared.bar.Bar.{Bar}
 use Rattle.denial_rules.specs.declared.bar.Bar.TheVariants as bar
-use Rattle.pool_board.specs.Board.{BoardValue}
-use Rattle.vacancy_fill.specs.Chain.{members_at, passed_over}
 use Rattle.desk_model.specs.declared.person.Person.{Person}
 use Rattle.desk_model.specs.Job.{JobValue}
 use Rattle.desk_model.specs.History.{History}
-use Rattle.desk_model.specs.Register.{person_of, persons, boards}
+use Rattle.desk_model.specs.Register.{person_of, persons}
+use Rattle.desk_model.specs.Boards.{order}
+use Rattle.desk_model.specs.Duty.{events, in_tour}
 use Rattle.desk_model.specs.Bars.{bar_of}
-use Rattle.desk_register.specs.Among.{place_among, board_place}
-use Rattle.desk_lists.specs.Lists.{boards_kept, is_on_one, IsOnOne}
+use Rattle.desk_register.specs.Among.{place_among}
+use Rattle.desk_lists.specs.Lists.{is_on_one, IsOnOne}
 use Rattle.fast_core.specs.Desk.{Tells}
 use Rattle.fast_core.specs.Judged.{IsJobAsked}
 use Rattle.fast_core.specs.declared.desk.Desk.{Desk}
@@ -46,17 +47,23 @@ pub record Judges (d : Desk) (a : JobAsked) (searched : ℕ) (barred : ℕ → O
   pub asked : IsJobAsked a history
   pub bars : (p : ℕ) → barred p ≡ bar_unless (was_searched d history searched p) (bar_for history a.moment a.job.now p)
 
--- a search of a board of 2^10 slots reads at most 4 * (10 + 1) nodes for each member who is ready at the moment and has a bar, and
--- as many once more
-abbrev pub board_steps : List BoardValue → (ℕ → Option Bar) → ℕ → Option ℕ → ℕ
-board_steps kept barred m None = 0
-board_steps kept barred m (Some place) = (passed_over barred m (members_at kept place) + 1) * (4 * (10 + 1))
+-- out of tour, and rested at the moment
+abbrev pub is_rested : History → ℕ → ℕ → Bool
+is_rested h m p = not (in_tour h p) && nat_le (rest_end (events h p)) m
 
--- and of a chain as many as of each of its boards
-abbrev pub chain_steps : List BoardValue → (ℕ → Option Bar) → ℕ → List (List ℕ) → List (List ℕ) → ℕ
-chain_steps kept barred m codes [] = 0
-chain_steps kept barred m codes (b ∷ chain) = board_steps kept barred m (board_place codes b) + chain_steps kept barred m codes chain
+-- so, and barred from the job all the same
+abbrev pub is_barred_though_rested : History → ℕ → JobValue → ℕ → Bool
+is_barred_though_rested h m job p = is_rested h m p && is_some (bar_for h m job p)
 
--- for a job at a moment, by the desk that is kept
-abbrev pub search_steps : Desk → History → ℕ → JobValue → ℕ
-search_steps d h m job = chain_steps (boards_kept d.lists) (bar_for h m job) m (boards h) job.chain
+-- a search of a board reads at most 4 * (10 + 1) nodes for each of them who is on it, and as many once more: a board has 2^10 slots
+abbrev pub board_steps : History → ℕ → JobValue → List ℕ → ℕ
+board_steps h m job b = (length (filter (is_barred_though_rested h m job) (order h b)) + 1) * (4 * (10 + 1))
+
+-- and one of a chain as many as of each of its boards
+abbrev pub chain_steps : History → ℕ → JobValue → List (List ℕ) → ℕ
+chain_steps h m job [] = 0
+chain_steps h m job (b ∷ chain) = board_steps h m job b + chain_steps h m job chain
+
+-- for a job at a moment
+abbrev pub search_steps : History → ℕ → JobValue → ℕ
+search_steps h m job = chain_steps h m job job.chain

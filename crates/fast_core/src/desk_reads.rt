@@ -23,7 +23,7 @@ impl<L: Ledger> Reads for Looks<'_, L> {
 
     ghost steps = { λ work. work };
 
-    ghost most = { λ looks h m job. search_steps looks.desk.now h m job };
+    ghost most = { λ _ h m job. search_steps h m job };
 
     fn opening(&self) -> Opening {
         self.desk.opening

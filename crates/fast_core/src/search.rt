@@ -36,12 +36,9 @@ impl Judge for Call<'_> {
 
 impl Call<'_> {
     ghost use Rattle.std.specs.List.{find};
-    ghost use Rattle.desk_model.specs.Register.{boards};
     ghost use Rattle.desk_model.specs.Boards.{links, order};
     ghost use Rattle.desk_model.specs.Bars.{is_free};
-    ghost use Rattle.desk_register.specs.Among.{board_place};
-    ghost use Rattle.desk_lists.specs.Lists.{boards_kept};
-    ghost use Rattle.fast_core.specs.Search.{bar_for, board_steps};
+    ghost use Rattle.fast_core.specs.Search.{board_steps};
 
     // The first place of the board whose person nothing bars; `None` where all are barred.
     fn first_on<L: Ledger>(&self, board: &Code, steps: &mut Steps<L>) -> Option<Link>
@@ -49,12 +46,13 @@ impl Call<'_> {
             → HasSearched h self.now.asked.now.moment self.now.asked.now.job.now self.now.searched → result ≡ find (λ link. is_free h self.now.asked.now.moment self.now.asked.now.job.now link.person) (links board.now 1 (order h board.now)) }
         ensures steps { (h : History) → Tells self.now.desk.now h → IsJobAsked self.now.asked.now h
             → HasSearched h self.now.asked.now.moment self.now.asked.now.job.now self.now.searched
-            → steps.new ≤ steps.old + board_steps (boards_kept self.now.desk.now.lists) (bar_for h self.now.asked.now.moment self.now.asked.now.job.now) self.now.asked.now.moment (board_place (boards h) board.now) }
+            → steps.new ≤ steps.old + board_steps h self.now.asked.now.moment self.now.asked.now.job.now board.now }
     {
         who_is_not_ready_is_barred();
         who_is_kept_on_a_board_is_on_it();
         who_is_on_a_board_is_listed();
         who_is_enrolled_has_a_place();
+        order_is_by_rank();
         let Some(at) = self.desk.board_place(board) else {
             return None;
         };
@@ -84,7 +82,7 @@ impl Desk {
         ensures first { (h : History) → Tells self.now h → IsJobAsked asked.now h
             → result ≡ first_free h asked.now.moment asked.now.job.now }
         ensures steps { (h : History) → Tells self.now h → IsJobAsked asked.now h
-            → steps.new ≤ steps.old + search_steps self.now h asked.now.moment asked.now.job.now }
+            → steps.new ≤ steps.old + search_steps h asked.now.moment asked.now.job.now }
     {
         order_is_by_rank();
         let chain = asked.job.chain();

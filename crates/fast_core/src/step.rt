@@ -45,7 +45,7 @@ impl FastCore {
         ensures room { ⟦<FastCore as DeskCore>⟧.room self.new + 1 ≡ ⟦<FastCore as DeskCore>⟧.room self.old }
         ensures opening { ⟦<FastCore as DeskCore>⟧.opening self.new ≡ ⟦<FastCore as DeskCore>⟧.opening self.old }
         ensures steps { (h : History) → ⟦<FastCore as DeskCore>⟧.stands self.old h
-            → steps.new ≤ steps.old + most_steps (search_steps self.old.desk h) h (moment h stated.minute) stated.cmd }
+            → steps.new ≤ steps.old + most_steps (search_steps h) h (moment h stated.minute) stated.cmd }
     {
         one_history_is_legal();
         let looks = Looks::<L> {

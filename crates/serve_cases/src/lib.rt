@@ -9,6 +9,8 @@ mod meeting_tests;
 #[cfg(test)]
 mod openings;
 #[cfg(test)]
+mod replay_tests;
+#[cfg(test)]
 mod serve_tests;
 #[cfg(test)]
 mod session_tests;

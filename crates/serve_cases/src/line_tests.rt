@@ -66,25 +66,6 @@ fn two_lines_at_one_desk(rt: HostRuntime) -> Result<(), Fail> {
     Ok(())
 }
 
-// The first line fails at each of its calls in turn.
-#[test]
-fn a_line_that_fails_beside_one_that_does_not(rt: HostRuntime) -> Result<(), Fail> {
-    let alloc = rt.alloc();
-    for (failing, entries, puts) in [(1, 0, 0), (2, 1, 0), (3, 1, 1), (4, 2, 1), (5, 2, 2)] {
-        let given: [(&[&[u8]], u64); 2] = [(&[LOOK; 2], failing), (&[LOOK; 3], 0)];
-        let mut lines = lines_of(alloc, &given, 1_000).ok_or("memory")?;
-        let book = serve_new(&rt, alloc, &mut lines).ok_or("no memory")?;
-        assert_eq!(rt; (count_of(&book, 1), count_of(&book, 2)), (entries, 3));
-        let [one, two] = lines.as_slice() else {
-            panic!(rt; "there are two lines")
-        };
-        assert_eq!(rt; one.put_count(), puts);
-        let reply = reply_to(alloc, 2)?;
-        assert!(rt; has_puts(two, &[reply.as_bytes(), reply.as_bytes(), reply.as_bytes()]));
-    }
-    Ok(())
-}
-
 #[test]
 fn as_many_lines_as_there_are_seats(rt: HostRuntime) -> Result<(), Fail> {
     let alloc = rt.alloc();

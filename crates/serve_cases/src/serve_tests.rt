@@ -20,7 +20,10 @@ const DAY: &[u8] = b"\
 2024-03-04 00:03,vacancy,2,E,-,HOM,2024-03-04 08:00,600,0,P1
 ";
 
-// Its journal.
+// A day file of no commands, which is its journal too.
+const OPENING: &[u8] = b"2024-03-04 00:00,open,2024-03,1,15\n";
+
+// The journal of the desk with two engineers.
 const JOURNAL: &[u8] = b"\
 2024-03-04 00:00,open,2024-03,1,15
 0|2024-03-04 00:01,board,P1,pool,HOM|2024-03-04 00:01|done
@@ -49,11 +52,13 @@ fn served<R: Threads + Wait + Sync>(
     Some((status, sink))
 }
 
+// The first line asks for the first vacancy and then how it stands, and the second for the other: the turns may fall in three ways,
+// and in each the first line is told whom its own `next` was answered with.
 #[test]
 fn two_lines_behind_a_day_file(rt: HostRuntime) -> Result<(), Fail> {
     let alloc = rt.alloc();
     let given: [(&[&[u8]], u64); 2] = [
-        (&[b"2024-03-04 00:04,next,1"], 0),
+        (&[b"2024-03-04 00:04,next,1", b"2024-03-04 00:05,vac,1"], 0),
         (&[b"2024-03-04 00:04,next,2"], 0),
     ];
     let mut lines = lines_of(alloc, &given, 1_000).ok_or("memory")?;
@@ -62,23 +67,80 @@ fn two_lines_behind_a_day_file(rt: HostRuntime) -> Result<(), Fail> {
     let [one, two] = lines.as_slice() else {
         panic!(rt; "there are two lines")
     };
-    let firsts: [&[u8]; 2] = [
-        b"1|2024-03-04 00:04,next,1|2024-03-04 00:04|offered 101 P1 1\n",
-        b"2|2024-03-04 00:04,next,2|2024-03-04 00:04|offered 101 P1 1\n",
-    ];
-    let seconds: [&[u8]; 2] = [
+    let [first, second] = [
+        b"1|2024-03-04 00:04,next,1|2024-03-04 00:04|offered 101 P1 1\n".as_slice(),
         b"1|2024-03-04 00:04,next,1|2024-03-04 00:04|offered 102 P1 2\n",
+    ];
+    let [with_first, with_second] = [
+        b"1|2024-03-04 00:05,vac,1|2024-03-04 00:05|state offered 101\n".as_slice(),
+        b"1|2024-03-04 00:05,vac,1|2024-03-04 00:05|state offered 102\n",
+    ];
+    let others = [
+        b"2|2024-03-04 00:04,next,2|2024-03-04 00:04|offered 101 P1 1\n".as_slice(),
         b"2|2024-03-04 00:04,next,2|2024-03-04 00:04|offered 102 P1 2\n",
+        b"2|2024-03-04 00:04,next,2|2024-03-04 00:05|offered 102 P1 2\n",
     ];
     let written = sink.bytes().strip_prefix(JOURNAL).ok_or("another day")?;
-    let one_first = [firsts[0], seconds[1]].concat(alloc)?;
-    let two_first = [firsts[1], seconds[0]].concat(alloc)?;
-    if has_puts(one, &firsts[..1]) {
-        assert!(rt; has_puts(two, &seconds[1..]) && written == one_first.as_slice());
-    } else {
-        assert!(rt; has_puts(one, &seconds[..1]) && has_puts(two, &firsts[1..]));
-        assert!(rt; written == two_first.as_slice());
+    let ways = [
+        (
+            [others[0], second, with_second],
+            [second, with_second],
+            others[0],
+        ),
+        (
+            [first, others[1], with_first],
+            [first, with_first],
+            others[1],
+        ),
+        (
+            [first, with_first, others[2]],
+            [first, with_first],
+            others[2],
+        ),
+    ];
+    let mut met = 0;
+    for (whole, ours, theirs) in ways {
+        if written == whole.concat(alloc)?.as_slice() {
+            met += 1;
+            assert!(rt; has_puts(one, &ours) && has_puts(two, &[theirs]));
+        }
     }
+    assert_eq!(rt; met, 1);
+    Ok(())
+}
+
+// The first line fails at each of its calls in turn: how many entries the journal has of it, and how many replies it has. The other
+// has all of its own.
+#[test]
+fn one_line_fails_and_the_other_goes_on(rt: HostRuntime) -> Result<(), Fail> {
+    let alloc = rt.alloc();
+    let reply = b"2|2024-03-04 00:01,at,P1,1|2024-03-04 00:01|unknown board P1\n".as_slice();
+    for (failing, entries, puts) in [(1, 0, 0), (2, 1, 0), (3, 1, 1), (4, 2, 1), (5, 2, 2)] {
+        let given: [(&[&[u8]], u64); 2] = [(&[LOOK; 2], failing), (&[LOOK; 3], 0)];
+        let mut lines = lines_of(alloc, &given, 1_000).ok_or("memory")?;
+        let (status, sink) = served(&rt, alloc, OPENING, (0, 0), &mut lines).ok_or("memory")?;
+        assert!(rt; status == Status::Fine);
+        assert_eq!(rt;
+            (lines_by(sink.bytes(), b'1'), lines_by(sink.bytes(), b'2')),
+            (entries, 3)
+        );
+        let [one, two] = lines.as_slice() else {
+            panic!(rt; "there are two lines")
+        };
+        assert_eq!(rt; one.put_count(), puts);
+        assert!(rt; has_puts(two, &[reply, reply, reply]));
+    }
+    Ok(())
+}
+
+// A line whose first `next` fails has no entry.
+#[test]
+fn a_next_that_fails(rt: HostRuntime) -> Result<(), Fail> {
+    let alloc = rt.alloc();
+    let mut lines = lines_of(alloc, &[(&[LOOK], 1)], 100).ok_or("memory")?;
+    let (status, sink) = served(&rt, alloc, OPENING, (0, 0), &mut lines).ok_or("memory")?;
+    assert!(rt; status == Status::Fine && sink.bytes() == OPENING);
+    assert!(rt; lines.iter().all(|line| line.put_count() == 0));
     Ok(())
 }
 
@@ -104,13 +166,12 @@ fn no_number_of_lines(rt: HostRuntime) -> Result<(), Fail> {
 fn ways_to_end(rt: HostRuntime) -> Result<(), Fail> {
     let alloc = rt.alloc();
     let wrong = b"2024-03-04 00:00,open,2024-03,1,15\nunlist\n";
-    let first = b"2024-03-04 00:00,open,2024-03,1,15\n";
     let ways: [(&[u8], (u64, u64), Status, &[u8], u32); 5] = [
         (DAY, (1, 0), Status::ReadFault, b"", 0),
         (LOOK, (0, 0), Status::NoOpening, b"", 0),
         (wrong, (0, 0), Status::Unreadable, b"unreadable 2 1\n", 0),
         (wrong, (0, 1), Status::Unreadable, b"", 0),
-        (first, (0, 1), Status::WriteFault, b"", 1),
+        (OPENING, (0, 1), Status::WriteFault, b"", 1),
     ];
     for (day, failing, ends, text, replies) in ways {
         let mut lines = lines_of(alloc, &[(&[LOOK], 0)], 100).ok_or("memory")?;
@@ -129,11 +190,10 @@ fn ways_to_end(rt: HostRuntime) -> Result<(), Fail> {
 #[test]
 fn spent_and_failing_lines(rt: HostRuntime) -> Result<(), Fail> {
     let alloc = rt.alloc();
-    let first = b"2024-03-04 00:00,open,2024-03,1,15\n";
     let looks = [LOOK; 5_001];
     let given = [(looks.as_slice(), 0), (&looks[..3], 5), (&looks[..1], 2)];
     let mut lines = lines_of(alloc, &given, 1_000_000).ok_or("memory")?;
-    let (status, sink) = served(&rt, alloc, first, (0, 0), &mut lines).ok_or("no memory")?;
+    let (status, sink) = served(&rt, alloc, OPENING, (0, 0), &mut lines).ok_or("no memory")?;
     assert!(rt; status == Status::Fine);
     let [one, two, three] = lines.as_slice() else {
         panic!(rt; "there are three lines")

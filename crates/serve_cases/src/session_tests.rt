@@ -74,6 +74,8 @@ fn what_follows_each_answer(rt: HostRuntime) {
 fn what_follows_a_fault(rt: HostRuntime) {
     let alloc = rt.alloc();
     let gives = &[LOOK, LOOK, LOOK];
+    let first_line = session_of(&rt, alloc, gives, &[1], &[]);
+    assert_eq!(rt; first_line, Some((Why::LineFault, 0, true)));
     let third_line = session_of(&rt, alloc, gives, &[5], &[REPLY, REPLY]);
     assert_eq!(rt; third_line, Some((Why::LineFault, 2, true)));
     // the entry stands whose line isn't taken

@@ -14,7 +14,6 @@ use std::sync::atomic::Ordering::SeqCst;
 use std::test::Fail;
 use std::thread;
 use std::thread::{Threads, join};
-use std::time::Instant;
 use turn_gate::{Gate, Seat};
 
 mod pile;
@@ -171,7 +170,6 @@ fn threads_take_turns(rt: HostRuntime) -> Result<(), Fail> {
     for seat in [1, 2] {
         assert_eq!(rt; callers.iter().filter(|c| **c == seat).count(), 100);
     }
-    let begun = Instant::now(&rt)?;
     let stop = AtomicU64::new(0);
     let (callers, _) = join(
         &rt,
@@ -183,7 +181,6 @@ fn threads_take_turns(rt: HostRuntime) -> Result<(), Fail> {
         || thread::map_indices(&rt, rt.alloc(), 4, &|_| toil(&rt, &stop)),
     );
     let callers = callers.ok_or("no memory")?;
-    assert!(rt; begun.elapsed(&rt)?.as_secs() < 30);
     assert_eq!(rt; callers.len(), 20_000);
     for seat in [1, 2, 3, 4] {
         assert_eq!(rt; callers.iter().filter(|c| **c == seat).count(), 5_000);

@@ -21,7 +21,7 @@ returns-in-None-clause-first g c h tells asked searched =
 pub returns-in-None-clause-steps : goal.returns-in-None-clause-steps
 returns-in-None-clause-steps g c h tells asked searched =
     call-steps c.who_is_kept_on_a_board_is_on_it.ensures _ h _ _ c.boards-boards.result.now c.args.board.now c.in-Some.at c.args.steps.now c.first.new.steps (c.who_is_not_ready_is_barred.ensures.tour h) (c.who_is_not_ready_is_barred.ensures.rest h) tells asked searched
-    c.boards-boards.ensures (sym (c.board_place.ensures.place h tells) ∙ c.in-Some.is) c.first.ensures.cost
+    c.boards-boards.ensures (sym (c.board_place.ensures.place h tells) ∙ c.in-Some.is) (c.order_is_by_rank.ensures.once h c.args.board.now) c.first.ensures.cost
 
 pub returns-in-Some-first-clause-first : goal.returns-in-Some-first-clause-first
 returns-in-Some-first-clause-first g c h tells asked searched =
@@ -32,4 +32,4 @@ returns-in-Some-first-clause-first g c h tells asked searched =
 pub returns-in-Some-first-clause-steps : goal.returns-in-Some-first-clause-steps
 returns-in-Some-first-clause-steps g c h tells asked searched =
     call-steps c.who_is_kept_on_a_board_is_on_it.ensures _ h _ _ c.boards-boards.result.now c.args.board.now c.in-Some.at c.args.steps.now c.first.new.steps (c.who_is_not_ready_is_barred.ensures.tour h) (c.who_is_not_ready_is_barred.ensures.rest h) tells asked searched
-    c.boards-boards.ensures (sym (c.board_place.ensures.place h tells) ∙ c.in-Some.is) c.first.ensures.cost
+    c.boards-boards.ensures (sym (c.board_place.ensures.place h tells) ∙ c.in-Some.is) (c.order_is_by_rank.ensures.once h c.args.board.now) c.first.ensures.cost

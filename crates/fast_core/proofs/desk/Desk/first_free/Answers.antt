@@ -1,12 +1,10 @@
 use Rattle.std.proofs.Common.{sym, ap, ◌∙◌, arith}
 use Rattle.std.specs.List.{find}
 use Rattle.std.proofs.Math.ListN.{drop_of_length-le}
-use Rattle.desk_model.specs.Register.{boards}
 use Rattle.desk_model.specs.Boards.{chain}
 use Rattle.desk_model.specs.Bars.{is_free}
-use Rattle.desk_lists.specs.Lists.{boards_kept}
 use Rattle.desk_answers.proofs.ChainLemmas.{find-chain-here, find-chain-past}
-use Rattle.fast_core.specs.Search.{bar_for, chain_steps}
+use Rattle.fast_core.specs.Search.{chain_steps}
 use Rattle.fast_core.proofs.SearchLemmas.{chain_steps-next, searched-more}
 use Rattle.fast_core.proofs.desk.Desk.first_free.Goals as goal
 
@@ -23,13 +21,12 @@ pub returns-in-Some-clause-steps : goal.returns-in-Some-clause-steps
 returns-in-Some-clause-steps g c h tells asked =
     let m = c.args.asked.now.moment in
     let job = c.args.asked.now.job.now in
-    let kept = boards_kept c.args.self.now.lists in
     omega (
       arith,
       c.loop-board.invariant.steps h tells asked,
       c.first_on.ensures.steps h tells asked (c.loop-board.invariant.searched h tells asked),
-      chain_steps-next kept (bar_for h m job) m (boards h) c.codes-board-items.result.now c.loop-board.board-index c.board-item.result c.loop-board-test.true c.board-item.is,
-      ap (chain_steps kept (bar_for h m job) m (boards h)) (c.codes-board-items.ensures.value ∙ c.chain-chain.ensures),
+      chain_steps-next h m job c.codes-board-items.result.now c.loop-board.board-index c.board-item.result c.loop-board-test.true c.board-item.is,
+      ap (chain_steps h m job) (c.codes-board-items.ensures.value ∙ c.chain-chain.ensures),
     )
 
 pub loop-board-preserved : goal.loop-board-preserved
@@ -49,7 +46,7 @@ loop-board-preserved g c =
         arith,
         c.loop-board.invariant.steps h tells asked,
         c.first_on.ensures.steps h tells asked (c.loop-board.invariant.searched h tells asked),
-        chain_steps-next (boards_kept c.args.self.now.lists) (bar_for h m job) m (boards h) c.codes-board-items.result.now c.loop-board.board-index c.board-item.result c.loop-board-test.true c.board-item.is,
+        chain_steps-next h m job c.codes-board-items.result.now c.loop-board.board-index c.board-item.result c.loop-board-test.true c.board-item.is,
       );
     }
 

@@ -1,13 +1,11 @@
 use Rattle.std.proofs.Common.{◌≡◌, ◌≤◌, ◌+◌, drop}
 use Rattle.std.specs.List.{find}
 use Rattle.desk_model.specs.History.{History}
-use Rattle.desk_model.specs.Register.{boards}
 use Rattle.desk_model.specs.Boards.{chain}
 use Rattle.desk_model.specs.Bars.{is_free}
-use Rattle.desk_lists.specs.Lists.{boards_kept}
 use Rattle.fast_core.specs.Desk.{Tells}
 use Rattle.fast_core.specs.Judged.{IsJobAsked}
-use Rattle.fast_core.specs.Search.{HasSearched, bar_for, chain_steps}
+use Rattle.fast_core.specs.Search.{HasSearched, chain_steps}
 use Rattle.fast_core.proofs.desk.Desk.first_free.Given as goal
 
 -- the boards so far have nobody, and each was searched
@@ -18,6 +16,6 @@ invariant-loop-board g l = record {
       ≡ find (λ link. is_free h l.asked.moment l.asked.job.now link.person) (chain h l.board-items);
   searched : (h : History) → Tells l.self h → IsJobAsked l.asked h → HasSearched h l.asked.moment l.asked.job.now l.searched;
   steps : (h : History) → Tells l.self h → IsJobAsked l.asked h
-      → l.steps + chain_steps (boards_kept l.self.lists) (bar_for h l.asked.moment l.asked.job.now) l.asked.moment (boards h) (drop l.board-index l.board-items)
-      ≤ l.fn.steps + chain_steps (boards_kept l.self.lists) (bar_for h l.asked.moment l.asked.job.now) l.asked.moment (boards h) l.board-items;
+      → l.steps + chain_steps h l.asked.moment l.asked.job.now (drop l.board-index l.board-items)
+      ≤ l.fn.steps + chain_steps h l.asked.moment l.asked.job.now l.board-items;
 }
