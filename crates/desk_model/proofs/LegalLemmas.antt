@@ -1,5 +1,5 @@
 -- Legal histories: they grow by the entries that the rules give, and by no others.
-use Rattle.std.proofs.Common.{◌≡◌, ◌⊎◌, inl, inr, ℕ, Bool, true, false, cond, Option, Some, List, [], ◌∷◌, ◌++◌, map, refl, sym, ap, subst, ◌∙◌, append-nil, append_assoc, arith}
+use Rattle.std.proofs.Common.{◌≡◌, ◌⊎◌, inl, inr, ℕ, ◌+◌, Bool, true, false, cond, Option, Some, List, [], ◌∷◌, ◌++◌, length, map, refl, sym, ap, subst, ◌∙◌, append-nil, append_assoc, length-append, arith}
 use Rattle.std.specs.List.{All}
 use Rattle.std.proofs.Math.Seq.{append_snoc}
 use Rattle.std.proofs.lemmas.Bool.{false≢true}
@@ -105,6 +105,28 @@ given-history_from h ((caller, s) ∷ rest) =
     given-history_from (with_entry h (next h caller s)) rest
     ∙ ap (λ front. front ++ rest) (map-append given h.entries (next h caller s ∷ []))
     ∙ append_assoc (map given h.entries) ((caller, s) ∷ []) rest
+
+-- commands behind others go on with the history of those
+pub history_from-append : (h : History) (commands later : List (ℕ × StatedValue)) → history_from h (commands ++ later) ≡ history_from (history_from h commands) later
+unfolding history_from
+history_from-append h [] later = refl
+history_from-append h ((caller, s) ∷ rest) later = history_from-append (with_entry h (next h caller s)) rest later
+
+pub history_from-none : (h : History) → history_from h [] ≡ h
+unfolding history_from
+history_from-none h = refl
+
+pub history_from-next : (h : History) (commands : List (ℕ × StatedValue)) (caller : ℕ) (s : StatedValue)
+    → history_from h (commands ++ (caller, s) ∷ []) ≡ with_entry (history_from h commands) (next (history_from h commands) caller s)
+unfolding history_from
+history_from-next h commands caller s = history_from-append h commands ((caller, s) ∷ [])
+
+-- with an entry for each
+pub history_from-length : (h : History) (commands : List (ℕ × StatedValue)) → length (history_from h commands).entries ≡ length h.entries + length commands
+unfolding history_from
+history_from-length h [] = omega arith
+history_from-length h ((caller, s) ∷ rest) =
+    omega (arith, history_from-length (with_entry h (next h caller s)) rest, length-append h.entries (next h caller s ∷ []))
 
 -- the commands of right steps give their entries again
 history_from-given : (h : History) (later : List EntryValue) → All IsRight (steps_from h later) → history_from h (map given later) ≡ history_of h.opening (h.entries ++ later)

@@ -41,4 +41,9 @@ pub mod VerdictLemmas
 pub mod AcceptedLemmas
 pub mod SettledLemmas
 pub mod EditionLemmas
+pub mod OneWayLemmas
+pub mod FrontLemmas
+pub mod FewLemmas
+pub mod StandingOfferLemmas
+pub mod StayLemmas
 mod ToldLemmas

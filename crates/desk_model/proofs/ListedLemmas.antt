@@ -49,7 +49,7 @@ puts-known h (cmd.Unlist person board) b p on put rests = go (bytes_eq board b) 
 puts-known h other b p on put rests = cc
 
 -- what was there stays so
-still-there : {X : Type 0} (known new : Option X) → is_some known ≡ true → is_some (option_or known new) ≡ true
+pub still-there : {X : Type 0} (known new : Option X) → is_some known ≡ true → is_some (option_or known new) ≡ true
 still-there None new was = absurd (false≢true was)
 still-there (Some x) new was = refl
 
@@ -86,6 +86,19 @@ order-unknown h legal b none = go (order h b) (λ p. any-order h b p)
     go (p ∷ ps) those =
         let on : is_on h p b ≡ true = sym (those p) ∙ ap (λ same. same || list_any (nat_eq p) ps) (nat_eq-same p) in
         absurd (false≢true (sym (ap is_some none) ∙ (on-listed h legal p b on).board))
+
+-- each of those in its order is on it
+each-has : (Q : ℕ → Type 0) (ps : List ℕ) → ((p : ℕ) → list_any (nat_eq p) ps ≡ true → Q p) → All Q ps
+each-has Q [] those = All-nil Q
+each-has Q (p ∷ ps) those =
+    All-cons Q p ps (those p (ap (λ same. same || list_any (nat_eq p) ps) (nat_eq-same p))) (each-has Q ps (λ q any. those q (behind q (nat_eq q p) any)))
+  where
+    behind : (q : ℕ) (same : Bool) → list_any (nat_eq q) ps ≡ true → (same || list_any (nat_eq q) ps) ≡ true
+    behind q true any = refl
+    behind q false any = any
+
+pub order-listed : (h : History) → IsLegal h → (b : List ℕ) → All (λ p. IsListed h p b) (order h b)
+order-listed h legal b = each-has (λ p. IsListed h p b) (order h b) (λ p any. on-listed h legal p b (sym (any-order h b p) ∙ any))
 
 -- ---- offers
 
