@@ -1,11 +1,16 @@
-ghost use Rattle.std.specs.Prelude.{◌≡◌, ◌↔◌, ◌+◌, ◌<◌, ◌≤◌, ◌^◌, length, IfOk, IsErr, vec_len, vec_capacity};
+ghost use Rattle.std.specs.Prelude.{◌≡◌, ◌↔◌, ℕ, ◌+◌, ◌<◌, ◌≤◌, ◌^◌, List, length, map, Some, IfOk, IsErr, vec_len, vec_capacity};
+ghost use Rattle.std.specs.List.{All, slice_get};
+ghost use Rattle.desk_model.specs.Statement.{StatedValue};
 ghost use Rattle.desk_model.specs.History.{History, history_of, opened, with_entry};
-ghost use Rattle.desk_model.specs.Legal.{IsLegal, next};
+ghost use Rattle.desk_model.specs.Legal.{IsLegal, next, history_from};
 ghost use Rattle.desk_model.specs.Mark.{no_wall};
 
 use crate::Full;
 use desk_base::NoMemory;
-use desk_model::{Booked, DeskCore, Entry, LAST_CALLER, Stated};
+use desk_model::{
+    Booked, DeskCore, Entry, LAST_CALLER, Stated, a_history_goes_on_with_commands,
+    a_history_is_legal_in_one_way,
+};
 use std::alloc::Global;
 
 /// A desk, and all entries that it has answered.
@@ -59,6 +64,54 @@ impl<C: DeskCore> Book<C> {
         Ok(entry)
     }
 
+    /// Answers these commands one after another, each as its caller, 0 to 63, and keeps their entries: the history goes on with
+    /// those that the rules give for them. The book has room for all.
+    pub fn step_all(&mut self, commands: &[(u8, Stated)])
+        requires callers { All (λ command. command.0 ≤ LAST_CALLER) commands.now }
+        requires room { length (⟦<Book<C> as Booked>⟧.history self.old).entries + length commands.now
+            ≤ ⟦<Book<C> as Booked>⟧.room self.old }
+        ensures history { ⟦<Book<C> as Booked>⟧.history self.new
+            ≡ history_from (⟦<Book<C> as Booked>⟧.history self.old) commands.now }
+        ensures room { ⟦<Book<C> as Booked>⟧.room self.new ≡ ⟦<Book<C> as Booked>⟧.room self.old }
+    {
+        self.step_each(commands.len(), |place| commands[place]);
+    }
+
+    /// Answers these commands one after another, as `step_all` does, all as one caller, 0 to 63.
+    pub fn step_as(&mut self, caller: u8, commands: &[Stated])
+        requires caller { caller ≤ LAST_CALLER }
+        requires room { length (⟦<Book<C> as Booked>⟧.history self.old).entries + length commands.now
+            ≤ ⟦<Book<C> as Booked>⟧.room self.old }
+        ensures history { ⟦<Book<C> as Booked>⟧.history self.new
+            ≡ history_from (⟦<Book<C> as Booked>⟧.history self.old) (map (λ stated. (caller, stated)) commands.now) }
+        ensures room { ⟦<Book<C> as Booked>⟧.room self.new ≡ ⟦<Book<C> as Booked>⟧.room self.old }
+    {
+        self.step_each(commands.len(), |place| (caller, commands[place]));
+    }
+
+    // Answers so many commands, the one for each place from 0 on.
+    fn step_each<F: Fn(usize) -> (u8, Stated)>(&mut self, count: usize, command_at: F)
+        requires told { (place : ℕ) → place < count → F.pre command_at place }
+        requires callers { (place : ℕ) (command : _) → place < count → F.post command_at place command
+            → command.0 ≤ LAST_CALLER }
+        requires room { length (⟦<Book<C> as Booked>⟧.history self.old).entries + count
+            ≤ ⟦<Book<C> as Booked>⟧.room self.old }
+        ensures history { (commands : List (ℕ × StatedValue)) → length commands ≡ count
+            → ((place : ℕ) (command : _) → place < count → F.post command_at place command
+            → slice_get commands place ≡ Some command)
+            → ⟦<Book<C> as Booked>⟧.history self.new
+            ≡ history_from (⟦<Book<C> as Booked>⟧.history self.old) commands }
+        ensures room { ⟦<Book<C> as Booked>⟧.room self.new ≡ ⟦<Book<C> as Booked>⟧.room self.old }
+    {
+        a_history_goes_on_with_commands();
+        for place in 0..count {
+            let (caller, stated) = command_at(place);
+            let Ok(_entry) = self.step(caller, stated) else {
+                unreachable!()
+            };
+        }
+    }
+
     /// All entries, in order.
     pub fn entries(&self) -> &[Entry]
         ensures { result.now ≡ (⟦<Book<C> as Booked>⟧.history self.now).entries }
@@ -67,13 +120,14 @@ impl<C: DeskCore> Book<C> {
     }
 
     /// What a book keeps is a legal history, it has room for fewer than 2^32 entries in all, and no wall of windows shows
-    /// them. It does nothing: its clauses are the
-    /// law.
+    /// them. It only names the law that it rests on: its clauses are the laws.
     pub fn is_legal(&self)
-        ensures legal { ∥ IsLegal (⟦<Book<C> as Booked>⟧.history self.now) ∥₁ }
+        ensures legal { IsLegal (⟦<Book<C> as Booked>⟧.history self.now) }
         ensures few { ⟦<Book<C> as Booked>⟧.room self.now < 2 ^ 32 }
         ensures mark { ⟦<Book<C> as Booked>⟧.mark self.now ≡ no_wall }
-    {}
+    {
+        a_history_is_legal_in_one_way();
+    }
 
     /// How many more entries the book has room for.
     pub fn left(&self) -> u32

@@ -2,4 +2,4 @@ use Rattle.std.proofs.Math.Logic.{∥∥₁_elim}
 use Rattle.call_history.proofs.book.Book.is_legal.Goals as goal
 
 pub returns-clause-legal : goal.returns-clause-legal
-returns-clause-legal g c = ∥∥₁_elim c.args.self.now.stands squash₁ (λ stands. ∣ g.met.C.DeskCore.legal _ _ stands ∣₁)
+returns-clause-legal g c = ∥∥₁_elim c.args.self.now.stands (c.a_history_is_legal_in_one_way.ensures _) (λ stands. g.met.C.DeskCore.legal _ _ stands)
