@@ -35,7 +35,7 @@ pub Calls-gave : ((entries : List EntryValue) (e : EntryValue) (number : ℕ) �
     → ((known entries : List EntryValue) (e : EntryValue) → IsPrefix known entries → IsPrefix known (entries ++ e ∷ []))
     → (seat later : SeatValue) (turn : TurnValue) (book given : Told) (caller place : ℕ) (s : StatedValue) (e : EntryValue) → Took seat turn book → Gave turn given later
     → caller ≡ turn.number → place ≡ turn.place → e ≡ next (history_of book.opening book.entries) caller s
-    → history_of given.opening given.entries ≡ history_of book.opening (book.entries ++ e ∷ []) → ∥ IsLegal (history_of given.opening given.entries) ∥₁
+    → history_of given.opening given.entries ≡ history_of book.opening (book.entries ++ e ∷ []) → IsLegal (history_of given.opening given.entries)
     → Calls seat.start.book.opening seat later s (record { place = place; entry = e })
 Calls-gave mine begins seat later turn book given caller place s e took gave who at is more legal =
     let opening : given.opening ≡ seat.start.book.opening = ap (λ h. h.opening) more ∙ took.of_gate.opening in
@@ -47,10 +47,11 @@ Calls-gave mine begins seat later turn book given caller place s e took gave who
       place = at ∙ sym took.place;
       entry = is ∙ ap (λ o. next (history_of o book.entries) caller s) took.of_gate.opening ∙ ap (λ n. next (history_of seat.start.book.opening book.entries) n s) number;
       known = known;
+      knew = took.knows.known;
       begins = subst (λ l. IsPrefix seat.known l) (sym known) (begins seat.known book.entries e took.knows.known);
       own_calls = ap (λ l. own l seat.number) known ∙ mine book.entries e seat.number (next-caller book.opening book.entries caller s e is ∙ number)
           ∙ ap (λ l. l ++ e ∷ []) took.knows.own;
-      legal = subst (λ l. ∥ IsLegal (history_of seat.start.book.opening l) ∥₁) (sym gave.known) (subst (λ o. ∥ IsLegal (history_of o given.entries) ∥₁) opening legal);
+      legal = subst (λ l. IsLegal (history_of seat.start.book.opening l)) (sym gave.known) (subst (λ o. IsLegal (history_of o given.entries)) opening legal);
       number = gave.number ∙ took.number;
       calls = gave.calls ∙ took.calls;
     }

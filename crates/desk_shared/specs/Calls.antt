@@ -17,9 +17,11 @@ pub record Calls (o : OpeningValue) (seat later : SeatValue) (s : StatedValue) (
   pub place : receipt.place ≡ length before
   pub entry : receipt.entry ≡ next (history_of o before) seat.number s
   pub known : later.known ≡ before ++ receipt.entry ∷ []
-  -- what the seat knew begins it, and of the seat's own number it has the call's entry beside
+  -- what the seat knew begins the entries before, so the call's own is none that it knew
+  pub knew : IsPrefix seat.known before
+  -- and so what it knows then; of its own number it has the call's entry beside
   pub begins : IsPrefix seat.known later.known
   pub own_calls : own later.known seat.number ≡ own seat.known seat.number ++ receipt.entry ∷ []
-  pub legal : ∥ IsLegal (history_of o later.known) ∥₁
+  pub legal : IsLegal (history_of o later.known)
   pub number : later.number ≡ seat.number
   pub calls : later.calls ≡ seat.calls + 1
