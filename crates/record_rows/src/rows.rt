@@ -1,5 +1,5 @@
 //! Records, one after another.
-ghost use Rattle.std.specs.Prelude.{◌≡◌, ℕ, List, [], IfOk};
+ghost use Rattle.std.specs.Prelude.{◌≡◌, ℕ, List, [], false, IfOk};
 ghost use Rattle.std.specs.Bool.{MatchBool};
 ghost use Rattle.csv.specs.Records.{fields_of};
 ghost use Rattle.record_rows.specs.Rows.{HasLeft, ReaderHas, ReaderTook, TookFirst, records_of, row_fields};
@@ -66,11 +66,12 @@ impl<'a> Rows<'a> {
         Rows { source }
     }
 
-    /// Reads the next record into `row`. It is false where none is left; `NoMemory` where there is none for what `csv` reads. Behind
-    /// either nothing is said of it any more.
+    /// Reads the next record into `row`. It is false where none is left, and then at each later call; `NoMemory` where there is none
+    /// for what `csv` reads, behind which nothing is said of it any more.
     pub fn next(&mut self, row: &mut Row<'a>) -> Result<bool, NoMemory>
-        ensures { IfOk result (λ found. (left : List (List (List ℕ))) → HasLeft self.old left
+        ensures first { IfOk result (λ found. (left : List (List (List ℕ))) → HasLeft self.old left
             → MatchBool found (TookFirst left (row_fields row.new) self.new) (left ≡ [])) }
+        ensures spent { IfOk result (λ found. found ≡ false → HasLeft self.new []) }
     {
         match &mut self.source {
             Source::Lines(left) => match next_line(left) {
@@ -83,7 +84,11 @@ impl<'a> Rows<'a> {
             },
             Source::Reader(rdr) => {
                 row.line = None;
-                read_next(rdr, &mut row.read)
+                if read_next(rdr, &mut row.read)? {
+                    return Ok(true);
+                }
+                self.source = Source::Lines(&[]);
+                Ok(false)
             }
         }
     }

@@ -4,23 +4,23 @@ use Rattle.command_parser.proofs.day_file.read_records.Goals as goal
 
 pub returns-then-not-branch-clause-fault : goal.returns-then-not-branch-clause-fault
 returns-then-not-branch-clause-fault c = λ told.
-    HasNoOpening-none _ (rw c.if-not-branch.true at (c.in_ok-next.ensures _ c.of-rows.ensures))
+    HasNoOpening-none _ (rw c.if-not-branch.true at (c.in_ok-next.ensures.first _ c.of-rows.ensures))
 
 pub returns-in_default-clause-fault : goal.returns-in_default-clause-fault
 returns-in_default-clause-fault c = λ told.
-    let first = rw c.if-not-branch.false at (c.in_ok-next.ensures _ c.of-rows.ensures) in
+    let first = rw c.if-not-branch.false at (c.in_ok-next.ensures.first _ c.of-rows.ensures) in
     let many = rw c.in_default.is at (c.in_ok-told.ensures _ first.behind) in
     omega (arith, ap length first.parts, many)
 
 pub returns-in_default-opening-clause-fault : goal.returns-in_default-opening-clause-fault
 returns-in_default-opening-clause-fault c = λ told.
-    let first = rw c.if-not-branch.false at (c.in_ok-next.ensures _ c.of-rows.ensures) in
+    let first = rw c.if-not-branch.false at (c.in_ok-next.ensures.first _ c.of-rows.ensures) in
     let rest = rw c.in-Some.is at (c.in_ok-told.ensures _ first.behind) in
     HasNoOpening-first _ _ _ first.parts (omega (arith, rest.0)) (λ o states. let is = c.read_opening_row-opening.ensures.only o states in let none = c.in_default-opening.is in cc)
 
 pub returns-in-None-clause-day : goal.returns-in-None-clause-day
 returns-in-None-clause-day c =
-    let first = rw c.if-not-branch.false at (c.in_ok-next.ensures _ c.of-rows.ensures) in
+    let first = rw c.if-not-branch.false at (c.in_ok-next.ensures.first _ c.of-rows.ensures) in
     let rest = rw c.in-Some.is at (c.in_ok-told.ensures _ first.behind) in
     record {
       rest = first.rest;
@@ -30,7 +30,7 @@ returns-in-None-clause-day c =
 
 pub returns-clause-fault : goal.returns-clause-fault
 returns-clause-fault c = λ told.
-    let first = rw c.if-not-branch.false at (c.in_ok-next.ensures _ c.of-rows.ensures) in
+    let first = rw c.if-not-branch.false at (c.in_ok-next.ensures.first _ c.of-rows.ensures) in
     let rest = rw c.in-Some.is at (c.in_ok-told.ensures _ first.behind) in
     record {
       opening = c.in-Some-opening.opening;
