@@ -57,6 +57,52 @@ impl Write for Halting {
     }
 }
 
+// A reader of four bytes, one at a call, which fails at one of its calls.
+#[derive(Drop)]
+struct FailingReader {
+    left: u8,
+    calls: u8,
+    failing: u8,
+}
+
+impl Read for FailingReader {
+    fn read(&mut self, buf: &mut [u8]) -> io::Result<usize> {
+        self.calls = self.calls.saturating_add(1);
+        if self.calls == self.failing {
+            return Err(ErrorKind::Other.into());
+        }
+        match buf {
+            [first, ..] if self.left > 0 => {
+                self.left -= 1;
+                *first = b'a';
+                Ok(1)
+            }
+            _ => Ok(0),
+        }
+    }
+}
+
+// A writer that takes all, and fails at one of its calls.
+#[derive(Drop)]
+struct FailingWriter {
+    calls: u8,
+    failing: u8,
+}
+
+impl Write for FailingWriter {
+    fn write(&mut self, buf: &[u8]) -> io::Result<usize> {
+        self.calls = self.calls.saturating_add(1);
+        if self.calls == self.failing {
+            return Err(ErrorKind::Other.into());
+        }
+        Ok(buf.len())
+    }
+
+    fn flush(&mut self) -> io::Result<()> {
+        Ok(())
+    }
+}
+
 #[test]
 fn each_status_has_its_code_and_word(rt: HostRuntime) {
     for (status, code, word) in [
@@ -174,4 +220,41 @@ fn a_writer_halts_twice(rt: HostRuntime) {
     assert_eq!(rt; sink.write(&BYTES), Giving::Failed);
     assert_eq!(rt; sink.write(&BYTES), Giving::Failed);
     assert!(rt; put_all(&mut sink, &BYTES));
+}
+
+// Four bytes come, and then the end at each call; whichever call fails, it alone does.
+#[test]
+fn a_source_fails_just_where_its_reader_does(rt: HostRuntime) {
+    for failing in 1..8u8 {
+        let mut source = ReaderSource::new(FailingReader {
+            left: 4,
+            calls: 0,
+            failing,
+        });
+        for call in 1..8u8 {
+            let answer = source.read(&mut [0; 3]);
+            assert_eq!(rt;
+                answer == Taking::Failed,
+                call == failing,
+                "call {call} of a reader that fails at {failing}"
+            );
+        }
+    }
+}
+
+// So it is with a writer, of whatever length the pieces are.
+#[test]
+fn a_sink_fails_just_where_its_writer_does(rt: HostRuntime) {
+    let bytes = [b'a'; 9_000];
+    for failing in 1..6u8 {
+        let mut sink = WriterSink::new(FailingWriter { calls: 0, failing });
+        for (call, len) in [(1u8, 0), (2, 512), (3, 4_096), (4, 4_097), (5, 9_000)] {
+            let want = if call == failing {
+                Giving::Failed
+            } else {
+                Giving::Took(len)
+            };
+            assert_eq!(rt; sink.write(&bytes[..len]), want, "a piece of {len} bytes");
+        }
+    }
 }

@@ -1,6 +1,7 @@
 //! Where the desk's bytes come from and go to: sources, sinks and the status that a run ends with.
 #![tactic(auto)]
 
+mod errors;
 mod giving;
 mod input;
 mod input_fault;
@@ -17,6 +18,7 @@ mod sure_source;
 mod taking;
 mod writer_sink;
 
+pub use errors::Errors;
 pub use giving::Giving;
 pub use input::take_all;
 pub use input_fault::InputFault;
