@@ -1,11 +1,14 @@
 -- What is taken of a reader's bytes, part by part.
-use Rattle.std.proofs.Common.{◌≡◌, ◌≢◌, ℕ, ◌+◌, ◌<◌, ◌≤◌, List, [], ◌∷◌, ◌++◌, length, Option, None, Some, inl, inr, sym, ap, subst, ◌∙◌, refl, arith, append_assoc, length-append}
+use Rattle.std.proofs.Common.{◌≡◌, ◌≢◌, ◌⊎◌, ℕ, ◌+◌, ◌<◌, ◌≤◌, List, [], ◌∷◌, ◌++◌, length, Option, None, Some, inl, inr, sym, ap, subst, ◌∙◌, refl, arith, append_assoc, length-append}
 use Rattle.std.proofs.lemmas.List.{append-nil}
-use Rattle.std.proofs.lemmas.List.Elements.{All-append, All-nil}
+use Rattle.std.proofs.lemmas.List.Elements.{All-append, All-nil, All-head, All-tail}
 use Rattle.std.specs.Fmt.{option_append}
 use Rattle.std.specs.Io.KnownBytes.{Consumes, IsAtEnd}
 use Rattle.std.proofs.KnownBytes.{Consumes-trans}
-use Rattle.caller_lines.specs.Takes.{TookLine, TookLonger, CutPart, GotPart, Gathering}
+use Rattle.caller_lines.specs.declared.heard.Heard.{Heard}
+use Rattle.caller_lines.specs.declared.heard.Heard.TheVariants as heard
+use Rattle.caller_lines.specs.Given.{answer_of}
+use Rattle.caller_lines.specs.Takes.{IsUnfed, TookLine, TookLonger, TookUnfed, EndsLine, HasLonger, Takes, CutPart, GotPart, Gathering}
 
 -- what is cut from what is held is taken from all that is left
 pub CutPart-got : (held rest before after feed : List ℕ) (count : ℕ) (r : Option (List ℕ))
@@ -90,11 +93,13 @@ Gathering-fed a b c before after len count g p = record {
 
 -- a line whose bytes all fitted is told with them, and another as too long
 pub Gathering-short : (a b c : Option (List ℕ)) (before after : List ℕ) (len count : ℕ)
-    → Gathering a b before len → GotPart b c before after (10 ∷ []) count → len + count ≤ 512 → TookLine a c after
+    → Gathering a b before len → GotPart b c before after (10 ∷ []) count → len + count ≤ 512 → TookLine a c after × (length after ≤ 512)
 Gathering-short a b c before after len count g p few =
     let is : before ≡ g.bytes = g.kept (omega (arith, few)) in
-    let whole : after ≡ g.bytes ++ p.part = p.kept (omega (arith, few, ap length is, g.counted)) ∙ ap (λ t. t ++ p.part) is in
-    subst (λ t. TookLine a c t) (sym whole) (Gathering-fed a b c before after len count g p)
+    let whole : after ≡ g.bytes ++ p.part = p.kept (omega (arith, few, ap length is, g.counted)) ∙ ap (λ t. t ++ p.part) is in (
+      subst (λ t. TookLine a c t) (sym whole) (Gathering-fed a b c before after len count g p),
+      omega (arith, ap length whole, length-append g.bytes p.part, g.counted, p.counted, few),
+    )
 
 pub Gathering-long : (a b c : Option (List ℕ)) (before after : List ℕ) (len count : ℕ)
     → Gathering a b before len → GotPart b c before after (10 ∷ []) count → 512 < len + count → len + count ≤ 16777216 → TookLonger a c
@@ -116,9 +121,10 @@ Gathering-ended a b c into len g none end some = record {
 }
 
 pub Gathering-ended_short : (a b c : Option (List ℕ)) (before after : List ℕ) (len : ℕ) → Gathering a b before len → Consumes b c []
-    → IsAtEnd c → 0 < len → len ≤ 512 → after ≡ before → TookLine a c after
+    → IsAtEnd c → 0 < len → len ≤ 512 → after ≡ before → TookLine a c after × (length after ≤ 512)
 Gathering-ended_short a b c before after len g none end some few same =
-    subst (λ t. TookLine a c t) (sym (same ∙ g.kept few)) (Gathering-ended a b c before len g none end some)
+    let whole : after ≡ g.bytes = same ∙ g.kept few in
+    (subst (λ t. TookLine a c t) (sym whole) (Gathering-ended a b c before len g none end some), omega (arith, ap length whole, g.counted, few))
 
 pub Gathering-ended_long : (a b c : Option (List ℕ)) (before : List ℕ) (len : ℕ) → Gathering a b before len → Consumes b c []
     → IsAtEnd c → 512 < len → len ≤ 16777216 → TookLonger a c
@@ -128,3 +134,78 @@ Gathering-ended_long a b c before len g none end many most = record {
   most = omega (arith, g.counted, most);
   took = Gathering-ended a b c before len g none end (omega (arith, many));
 }
+
+-- more bytes than may be skipped, with a line feed behind them or without
+pub Gathering-unfed : (a b c : Option (List ℕ)) (before after : List ℕ) (len count : ℕ)
+    → Gathering a b before len → GotPart b c before after (10 ∷ []) count → 16777216 < len + count → TookUnfed a c
+Gathering-unfed a b c before after len count g p many = record {
+  bytes = g.bytes ++ p.part;
+  behind = 10 ∷ [];
+  taken = subst (λ t. Consumes a c t) (sym (append_assoc g.bytes p.part (10 ∷ []))) (Consumes-trans a b c g.bytes (p.part ++ 10 ∷ []) g.taken p.taken);
+  unfed = All-append (λ byte. byte ≢ 10) g.bytes p.part g.unfed p.unfed;
+  more = omega (arith, length-append g.bytes p.part, g.counted, p.counted, many);
+}
+
+pub Gathering-unended : (a b : Option (List ℕ)) (into : List ℕ) (len : ℕ) → Gathering a b into len → 16777216 < len → TookUnfed a b
+Gathering-unended a b into len g many = record {
+  bytes = g.bytes;
+  behind = [];
+  taken = subst (λ t. Consumes a b t) (sym (append-nil g.bytes)) g.taken;
+  unfed = g.unfed;
+  more = omega (arith, g.counted, many);
+}
+
+-- bytes without a line feed go no further than to the end of a line
+unfed-within : (xs more ys behind : List ℕ) → IsUnfed xs → EndsLine behind → xs ++ more ≡ ys ++ behind → length xs ≤ length ys
+unfed-within [] more ys behind unfed ended same = omega arith
+unfed-within (x ∷ xs) more [] [] unfed ended same = absurd (let same = same in cc)
+unfed-within (x ∷ xs) more [] (b ∷ behind) unfed ended same =
+    let feed : x ≡ b = cc in absurd (All-head (λ byte. byte ≢ 10) x xs unfed (feed ∙ ended))
+unfed-within (x ∷ xs) more (y ∷ ys) behind unfed ended same =
+    let rest : xs ++ more ≡ ys ++ behind = cc in
+    omega (arith, unfed-within xs more ys behind (All-tail (λ byte. byte ≢ 10) x xs unfed) ended rest)
+
+-- a line that was taken is no shorter than the first that was left
+TookLine-longer : (left new : Option (List ℕ)) (line : List ℕ) → (has : HasLonger left) → TookLine left new line → 512 < length line
+TookLine-longer None new line has took = let none = has.begins in cc
+TookLine-longer (Some xs) None line has took = absurd took.taken
+TookLine-longer (Some xs) (Some ys) line has took =
+    let all : xs ≡ has.line ++ has.behind = let begins = has.begins in cc in
+    elim took.ended [
+      | inl fed ↦
+          let cut : has.line ++ has.behind ≡ line ++ 10 ∷ ys = sym all ∙ took.taken ∙ ap (λ t. t ++ ys) fed ∙ append_assoc line (10 ∷ []) ys in
+          omega (arith, has.longer, unfed-within has.line has.behind line (10 ∷ ys) has.unfed refl cut)
+      | inr last ↦
+          let cut : has.line ++ has.behind ≡ line ++ [] = sym all ∙ took.taken ∙ ap (λ t. t ++ ys) last.0 ∙ ap (λ t. line ++ t) last.2 in
+          omega (arith, has.longer, unfed-within has.line has.behind line [] has.unfed tt cut)
+    ]
+
+-- and more bytes without a line feed can't have been taken
+TookUnfed-none : (left new : Option (List ℕ)) → HasLonger left → TookUnfed left new → ⊥
+TookUnfed-none None new has took = let none = has.begins in cc
+TookUnfed-none (Some xs) None has took = absurd took.taken
+TookUnfed-none (Some xs) (Some ys) has took =
+    let all : xs ≡ has.line ++ has.behind = let begins = has.begins in cc in
+    let cut : took.bytes ++ (took.behind ++ ys) ≡ has.line ++ has.behind = sym (append_assoc took.bytes took.behind ys) ∙ sym took.taken ∙ all in
+    omega (arith, took.more, has.most, unfed-within took.bytes (took.behind ++ ys) has.line has.behind took.unfed has.ended cut)
+
+-- nor is the end there
+IsAtEnd-none : (left : Option (List ℕ)) → HasLonger left → IsAtEnd left → ⊥
+IsAtEnd-none None has end = let none = has.begins in cc
+IsAtEnd-none (Some xs) has end =
+    let none : [] ≡ has.line ++ has.behind = let begins = has.begins in cc in
+    omega (arith, has.longer, ap length none, length-append has.line has.behind)
+
+-- so a line of more than 512 bytes is told as too long, unless an error came or a file is missing
+pub HasLonger-told : (Error NoFile : Type 0) (left new : Option (List ℕ)) (into : List ℕ) (given : Heard) → HasLonger left
+    → Takes left new (answer_of given into) → (given ≡ heard.Failed → Error ⊎ (NoFile ⊎ TookUnfed left new)) → (given ≡ heard.TooLong) ⊎ (Error ⊎ NoFile)
+HasLonger-told Error NoFile left new into heard.Line has takes fails = absurd (omega (arith, takes.1, TookLine-longer left new into has takes.0))
+HasLonger-told Error NoFile left new into heard.TooLong has takes fails = inl refl
+HasLonger-told Error NoFile left new into heard.End has takes fails = absurd (IsAtEnd-none left has takes.0)
+HasLonger-told Error NoFile left new into heard.Failed has takes fails = elim (fails refl) [
+  | inl error ↦ inr (inl error)
+  | inr other ↦ elim other [
+    | inl none ↦ inr (inr none)
+    | inr unfed ↦ absurd (TookUnfed-none left new has unfed)
+  ]
+]

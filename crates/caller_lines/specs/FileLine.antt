@@ -1,15 +1,20 @@
-use Rattle.std.specs.Prelude.{ℕ, ◌<◌, ◌≤◌, List, ⊤, None, Some}
+use Rattle.std.specs.Prelude.{ℕ, ◌<◌, ◌≤◌, ◌⊎◌, List, ⊤, None, Some, IsNone}
 use Rattle.std.specs.declared.option.Option.{Option}
 use Rattle.std.specs.Io.KnownBytes.{Appends}
 use Rattle.caller_lines.specs.declared.file_line.Gathered.{Gathered}
 use Rattle.caller_lines.specs.declared.file_line.Gathered.TheVariants.{Fed, Part, End, Failed}
 
--- a reader and a writer, the bytes that were read and not given yet, and how many faults there were
+-- a reader and a writer, the bytes that were read and not given yet, and how many faults there were and errors of these two
 pub record Ends (R W : Type 0) : Type 0 where
   pub reader : Option R
   pub writer : Option W
   pub held : List ℕ
   pub faults : ℕ
+  pub errors : ℕ
+
+-- one of the files could not be opened
+abbrev pub HasNoFile : {R W : Type 0} → Ends R W → Type 0
+HasNoFile ends = IsNone ends.reader ⊎ IsNone ends.writer
 
 -- a part of a line that goes on has some bytes, and fits a piece
 abbrev pub IsSomeBytes : Gathered → Type 0

@@ -35,9 +35,32 @@ pub record TookLonger (old new : Option (List ℕ)) : Type 0 where
   pub most : length line ≤ 16777216
   pub took : TookLine old new line
 
+-- more bytes without a line feed were taken than may be skipped
+pub record TookUnfed (old new : Option (List ℕ)) : Type 0 where
+  pub bytes : List ℕ
+  pub behind : List ℕ
+  pub taken : Consumes old new (bytes ++ behind)
+  pub unfed : IsUnfed bytes
+  pub more : 16777216 < length bytes
+
+-- a line ends before these bytes: they begin with a line feed, or there are none
+abbrev pub EndsLine : List ℕ → Type 0
+EndsLine [] = ⊤
+EndsLine (byte ∷ rest) = byte ≡ 10
+
+-- the bytes that are left are told, and begin with a line of more than 512 bytes, and of no more than may be skipped
+pub record HasLonger (left : Option (List ℕ)) : Type 0 where
+  pub line : List ℕ
+  pub behind : List ℕ
+  pub begins : left ≡ Some (line ++ behind)
+  pub unfed : IsUnfed line
+  pub ended : EndsLine behind
+  pub longer : 512 < length line
+  pub most : length line ≤ 16777216
+
 -- what was taken of the bytes that were left where a line gave this; of a fault nothing is told
 abbrev pub Takes : Option (List ℕ) → Option (List ℕ) → Given → Type 0
-Takes old new (GaveLine line) = TookLine old new line
+Takes old new (GaveLine line) = TookLine old new line × (length line ≤ 512)
 Takes old new GaveTooLong = TookLonger old new
 Takes old new GaveEnd = IsAtEnd old × IsAtEnd new
 Takes old new GaveFailed = ⊤

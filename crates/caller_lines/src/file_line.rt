@@ -1,13 +1,14 @@
 ghost use Rattle.std.specs.Prelude.{◌≡◌, ◌≢◌, ◌↔◌, ◌⊎◌, ◌≤◌, ◌<◌, ◌+◌, ◌++◌, length, [], false, None, IsTrue, IsNone, IfSome};
 ghost use Rattle.std.specs.Bool.{OnTrue, OnFalse};
 ghost use Rattle.desk_io.specs.Faults.{Rose};
-ghost use Rattle.caller_lines.specs.FileLine.{IsSomeBytes, Wrote};
+ghost use Rattle.caller_lines.specs.FileLine.{HasNoFile, IsSomeBytes, Wrote};
 ghost use Rattle.std.specs.Io.KnownBytes.{Consumes, IsAtEnd};
-ghost use Rattle.caller_lines.specs.Takes.{left_of, Takes, Gathers, Cuts};
+ghost use Rattle.caller_lines.specs.Takes.{left_of, Takes, TookUnfed, HasLonger, Gathers, Cuts};
 ghost use Rattle.caller_lines.specs.Given.{answer_of};
 ghost use Rattle.caller_lines.specs.Told.{with_last, told_count, WasPut};
 
 use crate::{CallerLine, Heard, LineBuf};
+use desk_io::Errors;
 use memchr::memchr;
 use std::io::{Read, Write};
 use std::marker::Model;
@@ -20,7 +21,7 @@ const LONGEST: usize = 16_777_216;
 
 /// A line over a reader and a writer, which tells nothing of content. It reads a piece at a time, and writes each text
 /// at once. Bytes at the end without a line feed are a line; a line of more than 16,777,216 bytes is a fault, as is
-/// each error of the reader or the writer; and without either of them each call is a fault.
+/// each error of the reader or the writer; and without either of them each call is a fault. There is no other.
 #[derive(Drop)]
 pub struct FileLine<R, W> {
     reader: Option<R>,
@@ -29,6 +30,7 @@ pub struct FileLine<R, W> {
     from: usize,
     to: usize,
     faults: u64,
+    errors: Errors,
 }
 
 impl<R, W> Model for FileLine<R, W> {
@@ -42,6 +44,7 @@ impl<R, W> Model for FileLine<R, W> {
       writer = s.writer;
       held = slice_range s.piece s.from s.to;
       faults = s.faults;
+      errors = s.errors;
     } };
 
     ghost invariant = { λ s. (s.from ≤ s.to) × (s.to ≤ 4096) };
@@ -50,7 +53,7 @@ impl<R, W> Model for FileLine<R, W> {
 impl<R: Read, W: Write> FileLine<R, W> {
     /// A line of what the reader gives, which writes what is put on it. None is a file that could not be opened.
     pub fn new(reader: Option<R>, writer: Option<W>) -> FileLine<R, W>
-        ensures { result ≡ record { reader = reader; writer = writer; held = []; faults = 0 } }
+        ensures { result ≡ record { reader = reader; writer = writer; held = []; faults = 0; errors = 0 } }
     {
         FileLine {
             reader,
@@ -59,6 +62,7 @@ impl<R: Read, W: Write> FileLine<R, W> {
             from: 0,
             to: 0,
             faults: 0,
+            errors: Errors::new(),
         }
     }
 }
@@ -75,12 +79,19 @@ impl<R: Read + Drop, W: Write + Drop> CallerLine for FileLine<R, W> {
         ensures cause { result ≡ Heard.Failed → Rose self.old.faults self.new.faults }
         ensures no_fault { result ≢ Heard.Failed → self.new.faults ≡ self.old.faults }
 
-        ensures no_file { IsNone self.old.reader ⊎ IsNone self.old.writer → result ≡ Heard.Failed }
+        // It fails only where the reader gave an error, a file is missing, or a line has more bytes than may be skipped.
+        ensures fault { result ≡ Heard.Failed → Rose self.old.errors self.new.errors ⊎ (HasNoFile self.old
+            ⊎ TookUnfed (left_of R.remaining self.old) (left_of R.remaining self.new)) }
+        ensures no_error { result ≢ Heard.Failed → self.new.errors ≡ self.old.errors }
+        ensures later_error { self.old.errors ≤ self.new.errors }
+        ensures no_file { HasNoFile self.old → result ≡ Heard.Failed }
         ensures writer { self.new.writer ≡ self.old.writer }
 
         // Of a reader that tells its bytes, what is given is what it had next.
         ensures takes { Takes (left_of R.remaining self.old) (left_of R.remaining self.new)
             (answer_of result into.new.items) }
+        ensures too_long { HasLonger (left_of R.remaining self.old)
+            → (result ≡ Heard.TooLong) ⊎ (Rose self.old.errors self.new.errors ⊎ HasNoFile self.old) }
     {
         let heard = self.read_line(into);
         if heard == Heard::Failed {
@@ -94,7 +105,11 @@ impl<R: Read + Drop, W: Write + Drop> CallerLine for FileLine<R, W> {
         ensures cause { OnFalse result (Rose self.old.faults self.new.faults) }
         ensures no_fault { OnTrue result (self.new.faults ≡ self.old.faults) }
 
-        ensures no_file { IsNone self.old.reader ⊎ IsNone self.old.writer → result ≡ false }
+        // It fails only where the writer gave an error or a file is missing.
+        ensures fault { OnFalse result (Rose self.old.errors self.new.errors ⊎ HasNoFile self.old) }
+        ensures no_error { OnTrue result (self.new.errors ≡ self.old.errors) }
+        ensures later_error { self.old.errors ≤ self.new.errors }
+        ensures no_file { HasNoFile self.old → result ≡ false }
 
         // A writer that tells its bytes has the text behind them.
         ensures bytes { OnTrue result (Wrote W.contents self.old.writer self.new.writer text.now) }
@@ -120,7 +135,11 @@ impl<R: Read + Drop, W: Write + Drop> CallerLine for FileLine<R, W> {
 impl<R: Read, W: Write> FileLine<R, W> {
     // Reads the next line, a piece at a time.
     fn read_line(&mut self, into: &mut LineBuf) -> Heard
-        ensures no_file { IsNone self.old.reader ⊎ IsNone self.old.writer → result ≡ Heard.Failed }
+        ensures fault { result ≡ Heard.Failed → Rose self.old.errors self.new.errors ⊎ (HasNoFile self.old
+            ⊎ TookUnfed (left_of R.remaining self.old) (left_of R.remaining self.new)) }
+        ensures no_error { result ≢ Heard.Failed → self.new.errors ≡ self.old.errors }
+        ensures later_error { self.old.errors ≤ self.new.errors }
+        ensures no_file { HasNoFile self.old → result ≡ Heard.Failed }
         ensures takes { Takes (left_of R.remaining self.old) (left_of R.remaining self.new)
             (answer_of result into.new.items) }
         ensures writer { self.new.writer ≡ self.old.writer }
@@ -149,6 +168,10 @@ impl<R: Read, W: Write> FileLine<R, W> {
     // Gathers what is held, up to a line feed, and reads a piece first where none is held.
     fn gather(&mut self, into: &mut LineBuf) -> Gathered
         ensures some { IsSomeBytes result }
+        ensures error { result ≡ Gathered.Failed → Rose self.old.errors self.new.errors ⊎ IsNone self.old.reader }
+        ensures no_error { result ≢ Gathered.Failed → self.new.errors ≡ self.old.errors }
+        ensures later_error { self.old.errors ≤ self.new.errors }
+        ensures there { IsNone self.new.reader → IsNone self.old.reader }
         ensures gathers { Gathers (left_of R.remaining self.old) (left_of R.remaining self.new)
             into.old.items into.new.items result }
         ensures writer { self.new.writer ≡ self.old.writer }
@@ -171,6 +194,7 @@ impl<R: Read, W: Write> FileLine<R, W> {
         ensures reader { self.new.reader ≡ self.old.reader }
         ensures writer { self.new.writer ≡ self.old.writer }
         ensures faults { self.new.faults ≡ self.old.faults }
+        ensures errors { self.new.errors ≡ self.old.errors }
     {
         let held = &self.piece[self.from..self.to];
         match memchr(b'\n', held) {
@@ -190,6 +214,10 @@ impl<R: Read, W: Write> FileLine<R, W> {
 
     // Reads a piece where none is held, and says whether the reader did it without an error.
     fn fill(&mut self) -> bool
+        ensures error { OnFalse result (Rose self.old.errors self.new.errors ⊎ IsNone self.old.reader) }
+        ensures no_error { OnTrue result (self.new.errors ≡ self.old.errors) }
+        ensures later_error { self.old.errors ≤ self.new.errors }
+        ensures there { IsNone self.new.reader → IsNone self.old.reader }
         ensures kept { OnTrue result
             (Consumes (left_of R.remaining self.old) (left_of R.remaining self.new) []) }
         ensures end { OnTrue result (self.new.held ≡ [] → IsAtEnd (left_of R.remaining self.new)) }
@@ -204,7 +232,7 @@ impl<R: Read, W: Write> FileLine<R, W> {
         let Some(reader) = &mut self.reader else {
             return false;
         };
-        match reader.read(&mut self.piece) {
+        match self.errors.read(reader, &mut self.piece) {
             Ok(count) => {
                 self.to = count;
                 true
@@ -215,14 +243,17 @@ impl<R: Read, W: Write> FileLine<R, W> {
 
     // Writes a text where both files are there, and says whether it was written.
     fn write_text(&mut self, text: &[u8]) -> bool
-        ensures no_file { IsNone self.old.reader ⊎ IsNone self.old.writer → result ≡ false }
+        ensures fault { OnFalse result (Rose self.old.errors self.new.errors ⊎ HasNoFile self.old) }
+        ensures no_error { OnTrue result (self.new.errors ≡ self.old.errors) }
+        ensures later_error { self.old.errors ≤ self.new.errors }
+        ensures no_file { HasNoFile self.old → result ≡ false }
         ensures bytes { OnTrue result (Wrote W.contents self.old.writer self.new.writer text.now) }
         ensures held { self.new.held ≡ self.old.held }
         ensures reader { self.new.reader ≡ self.old.reader }
         ensures faults { self.new.faults ≡ self.old.faults }
     {
         match (&self.reader, &mut self.writer) {
-            (Some(_), Some(writer)) => writer.write_all(text).is_ok(),
+            (Some(_), Some(writer)) => self.errors.write_all(writer, text).is_ok(),
             _ => false,
         }
     }

@@ -67,6 +67,27 @@ impl Write for Expecting {
     }
 }
 
+// A writer that takes all, and fails at one of its calls.
+#[derive(Drop)]
+struct Failing {
+    calls: u8,
+    failing: u8,
+}
+
+impl Write for Failing {
+    fn write(&mut self, buf: &[u8]) -> io::Result<usize> {
+        self.calls = self.calls.saturating_add(1);
+        if self.calls == self.failing {
+            return Err(ErrorKind::Other.into());
+        }
+        Ok(buf.len())
+    }
+
+    fn flush(&mut self) -> io::Result<()> {
+        Ok(())
+    }
+}
+
 const NOBODY: Expecting = Expecting { left: b"" };
 
 // A line of these bytes, in pieces of this size; the reader fails at this call.
@@ -77,12 +98,14 @@ fn line_of(bytes: Vec<u8>, piece: usize, failing: Vec<u64>) -> FileLine<Pieces, 
     FileLine::new(Some(Pieces { source }), Some(NOBODY))
 }
 
-// A line of three bytes, one of 512, one of 513, an empty one, and four bytes at the end.
+// A line of three bytes, one of 512, one of 513, one of 4,097, an empty one, and four bytes at the end.
 fn lines(alloc: Global) -> Result<Vec<u8>, Fail> {
     let mut bytes = b"one\n".to_vec(alloc)?;
     bytes.extend_from_slice(&[b'a'; 512])?;
     bytes.extend_from_slice(b"\n")?;
     bytes.extend_from_slice(&[b'b'; 513])?;
+    bytes.extend_from_slice(b"\n")?;
+    bytes.extend_from_slice(&[b'c'; 4_097])?;
     bytes.extend_from_slice(b"\n\nlast")?;
     Ok(bytes)
 }
@@ -98,6 +121,7 @@ fn lines_go_over_the_ends_of_pieces(rt: HostRuntime) -> Result<(), Fail> {
             (Heard::Line, b"one".as_slice()),
             (Heard::Line, [b'a'; 512].as_slice()),
             (Heard::TooLong, b"".as_slice()),
+            (Heard::TooLong, b"".as_slice()),
             (Heard::Line, b"".as_slice()),
             (Heard::Line, b"last".as_slice()),
             (Heard::End, b"".as_slice()),
@@ -108,6 +132,44 @@ fn lines_go_over_the_ends_of_pieces(rt: HostRuntime) -> Result<(), Fail> {
         }
     }
     Ok(())
+}
+
+// Four bytes at a time, eleven bytes come at three calls, and the end at the fourth: whichever fails, one call of the line does, and
+// none before it.
+#[test]
+fn a_line_fails_just_where_its_reader_does(rt: HostRuntime) -> Result<(), Fail> {
+    let alloc = rt.alloc();
+    for (failing, before) in [(1, 0), (2, 1), (3, 2), (4, 2)] {
+        let bytes = b"one\ntwo\nend".to_vec(alloc)?;
+        let mut line = line_of(bytes, 4, vec![in alloc; failing]?);
+        let mut into = LineBuf::new();
+        for call in 0..5 {
+            let failed = line.next(&mut into) == Heard::Failed;
+            assert_eq!(rt;
+                failed,
+                call == before,
+                "call {call} over a reader that fails at {failing}"
+            );
+        }
+    }
+    Ok(())
+}
+
+// A text of 512 bytes and one of 513 are written at once, and none fails but where the writer does.
+#[test]
+fn a_put_fails_just_where_its_writer_does(rt: HostRuntime) {
+    let text = [b'a'; 513];
+    for failing in 1..5u8 {
+        let writer = Failing { calls: 0, failing };
+        let mut line = FileLine::new(Some(Long { left: 1 }), Some(writer));
+        for (call, len) in [(1u8, 1), (2, 512), (3, 513)] {
+            assert_eq!(rt;
+                line.put(&text[..len]),
+                call != failing,
+                "a put of {len} bytes"
+            );
+        }
+    }
 }
 
 #[test]

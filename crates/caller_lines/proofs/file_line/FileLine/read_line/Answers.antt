@@ -1,6 +1,10 @@
-use Rattle.std.proofs.Common.{◌≡◌, ◌∙◌, arith}
-use Rattle.caller_lines.proofs.TakeLemmas.{Gathering-short, Gathering-long, Gathering-more, Gathering-ended_short, Gathering-ended_long}
+use Rattle.std.proofs.Common.{◌≡◌, ◌∙◌, inr, arith}
+use Rattle.caller_lines.proofs.TakeLemmas.{Gathering-short, Gathering-long, Gathering-more, Gathering-ended_short, Gathering-ended_long, Gathering-unfed}
 use Rattle.caller_lines.proofs.file_line.FileLine.read_line.Goals as goal
+
+pub returns-in-Fed-clause-fault : goal.returns-in-Fed-clause-fault
+returns-in-Fed-clause-fault g c = λ failed.
+    inr (inr (Gathering-unfed _ _ _ _ _ _ _ c.loop-len.invariant.so_far c.in-Fed.ensures.gathers (omega arith)))
 
 pub returns-in-Fed-2-clause-takes : goal.returns-in-Fed-2-clause-takes
 returns-in-Fed-2-clause-takes g c =
@@ -16,6 +20,8 @@ pub loop-len-preserved : goal.loop-len-preserved
 loop-len-preserved g c = record {
   so_far = Gathering-more _ _ _ _ _ _ _ c.loop-len.invariant.so_far c.in-Part.ensures.gathers;
   faults = c.in-Part.ensures.faults ∙ c.loop-len.invariant.faults;
+  errors = c.in-Part.ensures.no_error (λ failed. cc) ∙ c.loop-len.invariant.errors;
+  there = λ none. c.loop-len.invariant.there (c.in-Part.ensures.there none);
   writer = c.in-Part.ensures.writer ∙ c.loop-len.invariant.writer;
 }
 

@@ -1,12 +1,14 @@
-use Rattle.std.proofs.Common.{◌≡◌, ◌-◌}
+use Rattle.std.proofs.Common.{◌≡◌, ◌-◌, IsNone}
 use Rattle.caller_lines.specs.Takes.{left_of, Gathering}
 use Rattle.caller_lines.proofs.file_line.FileLine.read_line.Given as goal
 
--- the parts of the line so far; while it is read no fault is counted and nothing is written
+-- the parts of the line so far; while it is read no fault is counted and no error, the reader stays and nothing is written
 abbrev pub invariant-loop-len : goal.invariant-loop-len
 invariant-loop-len g l = record {
   so_far : Gathering (left_of g.R.Read.remaining l.fn.self) (left_of g.R.Read.remaining l.self) l.into.items l.len;
   faults : l.self.faults ≡ l.fn.self.faults;
+  errors : l.self.errors ≡ l.fn.self.errors;
+  there : IsNone l.self.reader → IsNone l.fn.self.reader;
   writer : l.self.writer ≡ l.fn.self.writer;
 }
 
