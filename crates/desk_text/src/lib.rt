@@ -1,5 +1,5 @@
 //! The texts of the desk: a journal's lines read, each exactly where it is the one spelling of its values; and, of the crates below,
-//! all that reads commands and writes lines.
+//! what reads commands and writes lines.
 #![tactic(auto)]
 
 mod bar_head;
