@@ -29,6 +29,14 @@ fn entries_of<C: DeskCore>(alloc: Global, core: &mut C, day: &mut DayGen) -> Opt
     Some(entries)
 }
 
+// Whether they have the same caller, statement, moment and reply.
+fn is_same(one: &Entry, other: &Entry) -> bool {
+    one.caller() == other.caller()
+        && one.stated() == other.stated()
+        && one.moment() == other.moment()
+        && one.reply() == other.reply()
+}
+
 #[test]
 fn two_thousand_commands(rt: HostRuntime) -> Result<(), Fail> {
     let alloc = rt.alloc();
@@ -38,7 +46,9 @@ fn two_thousand_commands(rt: HostRuntime) -> Result<(), Fail> {
     let mut again = DayGen::new(2_000, 7, Edition::One);
     let mut plain = PlainCore::new(alloc, again.opening(), 2_000)?;
     let by_plain = entries_of(alloc, &mut plain, &mut again).ok_or("no memory")?;
-    assert_eq!(rt; by_fast.len(), 2_000);
-    assert!(rt; by_fast.as_slice() == by_plain.as_slice());
+    assert_eq!(rt; (by_fast.len(), by_plain.len()), (2_000, 2_000));
+    for (one, other) in by_fast.iter().zip(&by_plain) {
+        assert!(rt; is_same(one, other));
+    }
     Ok(())
 }
