@@ -1,4 +1,5 @@
 pub mod Given
+pub mod LineCalls
 pub mod Told
 pub mod FileLine
 pub mod MemoryLine

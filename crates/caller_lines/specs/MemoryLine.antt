@@ -2,16 +2,16 @@ use Rattle.std.specs.Prelude.{ℕ, ◌+◌, ◌-◌, ◌==◌, Bool, false, nat_
 use Rattle.std.specs.List.{list_any}
 use Rattle.desk_io.specs.Faults.{one_more}
 use Rattle.caller_lines.specs.Given.{Given, GaveLine, GaveTooLong, GaveEnd, GaveFailed}
+use Rattle.caller_lines.specs.LineCalls.{LineCall, Asked, PutText, texts_in}
 
--- what a line in memory has to give, its calls and faults so far, what it gave, and what was put, with the bytes of that
+-- what a line in memory has to give, how many calls and faults it had so far, what the calls were, and how many bytes were put
 pub record Talk : Type 0 where
   pub left : List (List ℕ)
   pub failing : List ℕ
   pub room : ℕ
   pub calls : ℕ
   pub faults : ℕ
-  pub given : List Given
-  pub puts : List (List ℕ)
+  pub told : List LineCall
   pub used : ℕ
 
 -- a line that was not called yet
@@ -22,8 +22,7 @@ new_talk lines failing room = record {
   room = room;
   calls = 0;
   faults = 0;
-  given = [];
-  puts = [];
+  told = [];
   used = 0;
 }
 
@@ -50,18 +49,18 @@ after_take talk = record talk {
 
 -- what it is after it gave that
 abbrev pub after_next : Talk → Talk
-after_next talk = record (after_take talk) { given = talk.given ++ next_given talk ∷ [] }
+after_next talk = record (after_take talk) { told = talk.told ++ Asked (next_given talk) ∷ [] }
 
 -- it takes a put of so many bytes at a call that isn't listed, where there is room for these and for one more put
 abbrev pub takes_put : Talk → ℕ → Bool
 takes_put talk len =
     if fails talk then false
     else if nat_lt (talk.room - talk.used) len then false
-    else nat_lt (length talk.puts) talk.room
+    else nat_lt (length (texts_in talk.told)) talk.room
 
 -- what it is with one text more
 abbrev pub kept : Talk → List ℕ → Talk
-kept talk text = record talk { puts = talk.puts ++ text ∷ []; used = talk.used + length text }
+kept talk text = record talk { told = talk.told ++ PutText text ∷ []; used = talk.used + length text }
 
 -- what it is after a put
 abbrev pub after_put : Talk → List ℕ → Talk

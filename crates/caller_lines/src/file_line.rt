@@ -70,9 +70,7 @@ impl<R: Read, W: Write> FileLine<R, W> {
 impl<R: Read + Drop, W: Write + Drop> CallerLine for FileLine<R, W> {
     ghost faults = { λ s. s.faults };
 
-    ghost given = { λ _. None };
-
-    ghost put_texts = { λ _. None };
+    ghost calls = { λ _. None };
 
     fn next(&mut self, into: &mut LineBuf) -> Heard
         ensures later { self.old.faults ≤ self.new.faults }

@@ -2,6 +2,7 @@
 ghost use Rattle.std.specs.Prelude.{◌≡◌, ◌≢◌, ◌≤◌};
 ghost use Rattle.desk_io.specs.Faults.{Rose};
 ghost use Rattle.caller_lines.specs.Given.{answer_of};
+ghost use Rattle.caller_lines.specs.LineCalls.{Asked};
 ghost use Rattle.caller_lines.specs.Told.{with_last};
 ghost use Rattle.caller_lines.specs.Hears.{Hears, ReadsAs};
 
@@ -11,8 +12,7 @@ use std::alloc::Global;
 
 /// Asks the line once, and reads what it gives as a command. Memory is wanted only where it gave a line.
 pub fn hear(alloc: Global, line: &mut Box<dyn CallerLine + Send>) -> Said
-    ensures hears { Hears (given line.old) (given line.new) result }
-    ensures puts { put_texts line.new ≡ put_texts line.old }
+    ensures hears { Hears (calls line.old) (calls line.new) result }
     ensures later { faults line.old ≤ faults line.new }
     ensures cause { result ≡ Said.LineFault → Rose (faults line.old) (faults line.new) }
     ensures no_fault { result ≢ Said.LineFault → faults line.new ≡ faults line.old }
@@ -24,8 +24,7 @@ pub fn hear(alloc: Global, line: &mut Box<dyn CallerLine + Send>) -> Said
 
 // Asks the line for its next.
 fn ask(line: &mut Box<dyn CallerLine + Send>, into: &mut LineBuf) -> Heard
-    ensures given { given line.new ≡ with_last (given line.old) (answer_of result into.new.items) }
-    ensures puts { put_texts line.new ≡ put_texts line.old }
+    ensures asked { calls line.new ≡ with_last (calls line.old) (Asked (answer_of result into.new.items)) }
     ensures later { faults line.old ≤ faults line.new }
     ensures cause { result ≡ Heard.Failed → Rose (faults line.old) (faults line.new) }
     ensures no_fault { result ≢ Heard.Failed → faults line.new ≡ faults line.old }

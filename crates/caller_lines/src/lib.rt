@@ -1,6 +1,7 @@
 //! The lines of callers: what each gives, what is put on it, and one line heard as a command.
 #![tactic(auto)]
 
+mod call_log;
 mod caller_line;
 mod file_line;
 mod heard;

@@ -3,20 +3,14 @@ ghost use Rattle.std.specs.Bool.{OnTrue, OnFalse};
 ghost use Rattle.std.specs.List.{list_any};
 ghost use Rattle.desk_io.specs.Faults.{Rose};
 ghost use Rattle.caller_lines.specs.Given.{answer_of};
+ghost use Rattle.caller_lines.specs.LineCalls.{Asked, PutText, texts_in};
 ghost use Rattle.caller_lines.specs.Told.{with_last, told_count, WasPut};
 
+use crate::call_log::{CallLog, Part};
 use crate::{CallerLine, Heard, LineBuf};
 use desk_base::NoMemory;
-use http_server::Log;
 use std::alloc::Global;
 use std::marker::Model;
-
-// Where a text that was put stands among the bytes of all.
-#[derive(Clone, Copy, Debug)]
-struct Put {
-    from: usize,
-    to: usize,
-}
 
 /// A line in memory, which gives the lines that it has and keeps what is put on it, as far as it has room. It fails at
 /// the calls that it is told to fail at.
@@ -27,15 +21,15 @@ pub struct MemoryLine {
     failing: Vec<u64>,
     room: usize,
     bytes: Vec<u8>,
-    puts: Vec<Put>,
+    puts: Vec<Part>,
     calls: u64,
     faults: u64,
-    heard: Log<Heard, LineBuf>,
+    told: CallLog,
 }
 
 impl Model for MemoryLine {
-    ghost use Rattle.std.specs.Prelude.{All, ◌<◌, ◌≤◌, ◌^◌, map, drop, slice_range, vec_len, vec_capacity};
-    ghost use Rattle.caller_lines.specs.Given.{answer_of};
+    ghost use Rattle.std.specs.Prelude.{All, ◌≡◌, ◌<◌, ◌≤◌, ◌^◌, map, drop, slice_range, vec_len, vec_capacity};
+    ghost use Rattle.caller_lines.specs.LineCalls.{texts_in};
     ghost use Rattle.caller_lines.specs.MemoryLine.{Talk};
 
     ghost Value = { Talk };
@@ -46,15 +40,15 @@ impl Model for MemoryLine {
       room = s.room;
       calls = s.calls;
       faults = s.faults;
-      given = map (λ answer. answer_of answer.0 answer.1.items) s.heard.items;
-      puts = map (λ put. slice_range s.bytes.items put.from put.to) s.puts.items;
+      told = s.told;
       used = vec_len s.bytes;
     } };
 
     ghost invariant = { λ s. (s.at ≤ vec_len s.lines)
         × (vec_len s.bytes ≤ s.room) × (s.room ≤ vec_capacity s.bytes)
         × (vec_len s.puts ≤ s.room) × (s.room ≤ vec_capacity s.puts) × (s.room < 2 ^ 32)
-        × All (λ put. (put.from ≤ put.to) × (put.to ≤ vec_len s.bytes)) s.puts.items };
+        × All (λ put. (put.from ≤ put.to) × (put.to ≤ vec_len s.bytes)) s.puts.items
+        × (texts_in s.told ≡ map (λ put. slice_range s.bytes.items put.from put.to) s.puts.items) };
 }
 
 impl MemoryLine {
@@ -84,7 +78,7 @@ impl MemoryLine {
             puts: Vec::with_capacity(alloc, room)?,
             calls: 0,
             faults: 0,
-            heard: Log::new(),
+            told: CallLog::new(),
         })
     }
 }
@@ -95,13 +89,10 @@ impl CallerLine for MemoryLine {
 
     ghost faults = { λ s. s.faults };
 
-    ghost given = { λ s. Some s.given };
-
-    ghost put_texts = { λ s. Some s.puts };
+    ghost calls = { λ s. Some s.told };
 
     fn next(&mut self, into: &mut LineBuf) -> Heard
-        ensures given { Some self.new.given ≡ with_last (Some self.old.given) (answer_of result into.new.items) }
-        ensures puts { Some self.new.puts ≡ Some self.old.puts }
+        ensures asked { Some self.new.told ≡ with_last (Some self.old.told) (Asked (answer_of result into.new.items)) }
         ensures later { self.old.faults ≤ self.new.faults }
         ensures cause { result ≡ Heard.Failed → Rose self.old.faults self.new.faults }
         ensures no_fault { result ≢ Heard.Failed → self.new.faults ≡ self.old.faults }
@@ -110,14 +101,13 @@ impl CallerLine for MemoryLine {
         ensures after { self.new ≡ after_next self.old }
     {
         let heard = self.take_line(into);
-        self.heard = self.heard.and(&heard, into);
+        self.told.note_answer(heard, into);
         heard
     }
 
     fn put(&mut self, text: &[u8]) -> bool
-        ensures puts { OnTrue result (Some self.new.puts ≡ with_last (Some self.old.puts) text.now) }
-        ensures no_put { OnFalse result (Some self.new.puts ≡ Some self.old.puts) }
-        ensures given { Some self.new.given ≡ Some self.old.given }
+        ensures puts { OnTrue result (Some self.new.told ≡ with_last (Some self.old.told) (PutText text.now)) }
+        ensures no_put { OnFalse result (Some self.new.told ≡ Some self.old.told) }
         ensures later { self.old.faults ≤ self.new.faults }
         ensures cause { OnFalse result (Rose self.old.faults self.new.faults) }
         ensures no_fault { OnTrue result (self.new.faults ≡ self.old.faults) }
@@ -138,13 +128,13 @@ impl CallerLine for MemoryLine {
     }
 
     fn put_count(&self) -> u32
-        ensures { result ≡ length self.now.puts }
+        ensures { result ≡ told_count (Some self.now.told) }
     {
         self.puts.len() as u32
     }
 
     fn was_put(&self, number: u32, text: &[u8]) -> bool
-        ensures { IsTrue result ↔ WasPut (Some self.now.puts) number text.now }
+        ensures { IsTrue result ↔ WasPut (Some self.now.told) number text.now }
     {
         if number == 0 {
             return false;
@@ -192,13 +182,15 @@ impl MemoryLine {
     // Keeps a text, for which there is room.
     fn keep(&mut self, text: &[u8])
         requires bytes { self.old.used + length text.now ≤ self.old.room }
-        requires puts { length self.old.puts < self.old.room }
+        requires puts { length (texts_in self.old.told) < self.old.room }
         ensures { self.new ≡ kept self.old text.now }
     {
         let from = self.bytes.len();
         self.bytes.extend_from_slice(text).unwrap();
         let to = self.bytes.len();
-        self.puts.push_reserved(Put { from, to });
+        let part = Part { from, to };
+        self.puts.push_reserved(part);
+        self.told.note_put(&self.bytes, part);
     }
 }
 

@@ -23,9 +23,7 @@ struct Meeting {
 impl CallerLine for Meeting {
     ghost faults = { λ s. s.faults };
 
-    ghost given = { λ _. None };
-
-    ghost put_texts = { λ _. None };
+    ghost calls = { λ _. None };
 
     fn next(&mut self, into: &mut LineBuf) -> Heard {
         into.clear();

@@ -1,5 +1,5 @@
 -- What follows an answer, from what was said by it and what was put.
-use Rattle.std.proofs.Common.{◌≡◌, ◌≢◌, ℕ, ◌<◌, true, List, [], ◌∷◌, None, Some, refl, sym, ap, ◌∙◌, subst}
+use Rattle.std.proofs.Common.{◌≡◌, ◌≢◌, ℕ, ◌<◌, true, List, [], ◌∷◌, None, Some, map, refl, sym, ap, ◌∙◌, subst}
 use Rattle.std.specs.declared.option.Option.{Option}
 use Rattle.desk_model.specs.Entry.{EntryValue}
 use Rattle.desk_model.specs.History.{History, history_of}
@@ -10,6 +10,7 @@ use Rattle.desk_model.specs.Statement.{StatedValue}
 use Rattle.turn_gate.specs.Seats.{SeatValue}
 use Rattle.caller_lines.specs.Given.{Given, GaveLine, GaveTooLong, GaveEnd, GaveFailed}
 use Rattle.caller_lines.specs.Hears.{ReadsAs, Hears}
+use Rattle.caller_lines.specs.LineCalls.{LineCall, Asked, PutText}
 use Rattle.caller_lines.specs.Told.{with_last}
 use Rattle.caller_lines.specs.declared.said.Said.{Said}
 use Rattle.caller_lines.specs.declared.said.Said.TheVariants as said
@@ -22,14 +23,14 @@ use Rattle.serve_desk.specs.Texts.{too_many, too_long, no_memory, malformed, spe
 use Rattle.serve_desk.specs.Told.{with_all, LineValue}
 use Rattle.serve_desk.specs.Follows.{is_line, Puts, Follows, it_is_put, it_is_not_put, the_end, a_fault, one_line_too_many, a_line_too_long, no_memory_for_a_line, no_command, no_call_left, a_call}
 use Rattle.serve_desk.specs.Answers.{PutsOn, Replies, Answers}
-use Rattle.serve_desk.proofs.ToldLemmas.{with_all-none, with_all-one}
+use Rattle.serve_desk.proofs.ToldLemmas.{with_all-none, with_all-one, with_last-then}
 use Rattle.serve_desk.proofs.SeatLemmas.{Made-none, Made-one}
 
 -- a text was put, or wasn't
-pub PutsOn-put : (text : List ℕ) (then : Option Why) (before now : Option (List (List ℕ))) → now ≡ with_last before text → PutsOn text then before now then
-PutsOn-put text then before now told = record { texts = text ∷ []; puts = it_is_put; told = told ∙ sym (with_all-one before text) }
+pub PutsOn-put : (text : List ℕ) (then : Option Why) (before now : Option (List LineCall)) → now ≡ with_last before (PutText text) → PutsOn text then before now then
+PutsOn-put text then before now told = record { texts = text ∷ []; puts = it_is_put; told = told ∙ sym (with_all-one before (PutText text)) }
 
-pub PutsOn-not_put : (text : List ℕ) (then : Option Why) (before now : Option (List (List ℕ))) → now ≡ before → PutsOn text then before now (Some why.LineFault)
+pub PutsOn-not_put : (text : List ℕ) (then : Option Why) (before now : Option (List LineCall)) → now ≡ before → PutsOn text then before now (Some why.LineFault)
 PutsOn-not_put text then before now same = record { texts = []; puts = it_is_not_put; told = same ∙ sym (with_all-none before) }
 
 -- what was said of a line
@@ -94,28 +95,27 @@ follows-call heard left GaveEnd e texts ends few reads some puts = absurd (cc)
 follows-call heard left GaveFailed e texts ends few reads some puts = absurd (cc)
 
 -- what follows where no text is put
-quiet : (o : OpeningValue) (heard left : ℕ) (line later : LineValue) (seat : SeatValue) (ends : Option Why) (gave : Given) → later.given ≡ with_last line.given gave → later.puts ≡ line.puts
+quiet : (o : OpeningValue) (heard left : ℕ) (line later : LineValue) (seat : SeatValue) (ends : Option Why) (gave : Given) → later.calls ≡ with_last line.calls (Asked gave)
     → Follows heard left gave [] [] ends → Answers o heard left line later seat seat ends
-quiet o heard left line later seat ends gave given puts follows = record {
+quiet o heard left line later seat ends gave told follows = record {
   gave = gave;
   entries = [];
   texts = [];
   follows = follows;
-  given = given;
-  puts = puts ∙ sym (with_all-none line.puts);
+  told = told ∙ sym (with_all-one line.calls (Asked gave));
   made = Made-none o seat;
 }
 
-pub Answers-end : (o : OpeningValue) (heard left : ℕ) (line later : LineValue) (seat : SeatValue) → Hears line.given later.given said.End → later.puts ≡ line.puts
+pub Answers-end : (o : OpeningValue) (heard left : ℕ) (line later : LineValue) (seat : SeatValue) → Hears line.calls later.calls said.End
     → Answers o heard left line later seat seat (Some why.End)
-Answers-end o heard left line later seat hears puts = quiet o heard left line later seat (Some why.End) hears.gave hears.once puts (follows-end heard left hears.gave hears.reads)
+Answers-end o heard left line later seat hears = quiet o heard left line later seat (Some why.End) hears.gave hears.once (follows-end heard left hears.gave hears.reads)
 
-pub Answers-fault : (o : OpeningValue) (heard left : ℕ) (line later : LineValue) (seat : SeatValue) → Hears line.given later.given said.LineFault → later.puts ≡ line.puts
+pub Answers-fault : (o : OpeningValue) (heard left : ℕ) (line later : LineValue) (seat : SeatValue) → Hears line.calls later.calls said.LineFault
     → Answers o heard left line later seat seat (Some why.LineFault)
-Answers-fault o heard left line later seat hears puts = quiet o heard left line later seat (Some why.LineFault) hears.gave hears.once puts (follows-fault heard left hears.gave hears.reads)
+Answers-fault o heard left line later seat hears = quiet o heard left line later seat (Some why.LineFault) hears.gave hears.once (follows-fault heard left hears.gave hears.reads)
 
 -- a text is put, and nothing is called
-Replies-text : (o : OpeningValue) (heard left : ℕ) (before now : Option (List (List ℕ))) (s : Said) (seat : SeatValue) (ends then : Option Why) (text : List ℕ) → PutsOn text then before now ends
+Replies-text : (o : OpeningValue) (heard left : ℕ) (before now : Option (List LineCall)) (s : Said) (seat : SeatValue) (ends then : Option Why) (text : List ℕ) → PutsOn text then before now ends
     → ((gave : Given) (texts : List (List ℕ)) → ReadsAs gave s → Puts text then texts ends → Follows heard left gave [] texts ends) → Replies o heard left before now s seat seat ends
 Replies-text o heard left before now s seat ends then text put follows = record {
   entries = [];
@@ -125,28 +125,28 @@ Replies-text o heard left before now s seat ends then text put follows = record 
   made = Made-none o seat;
 }
 
-pub Replies-too_many : (o : OpeningValue) (heard left : ℕ) (before now : Option (List (List ℕ))) (s : Said) (seat : SeatValue) (ends : Option Why) → heard ≡ LINE_LIMIT → s ≢ said.End → s ≢ said.LineFault
+pub Replies-too_many : (o : OpeningValue) (heard left : ℕ) (before now : Option (List LineCall)) (s : Said) (seat : SeatValue) (ends : Option Why) → heard ≡ LINE_LIMIT → s ≢ said.End → s ≢ said.LineFault
     → PutsOn too_many (Some why.TooManyLines) before now ends → Replies o heard left before now s seat seat ends
 Replies-too_many o heard left before now s seat ends full not_end no_fault put =
     Replies-text o heard left before now s seat ends (Some why.TooManyLines) too_many put
     (λ gave texts reads puts. one_line_too_many gave texts ends (line-said gave s reads not_end no_fault) full puts)
 
-pub Replies-too_long : (o : OpeningValue) (heard left : ℕ) (before now : Option (List (List ℕ))) (s : Said) (seat : SeatValue) (ends : Option Why) → heard < LINE_LIMIT → s ≡ said.TooLong
+pub Replies-too_long : (o : OpeningValue) (heard left : ℕ) (before now : Option (List LineCall)) (s : Said) (seat : SeatValue) (ends : Option Why) → heard < LINE_LIMIT → s ≡ said.TooLong
     → PutsOn too_long None before now ends → Replies o heard left before now s seat seat ends
 Replies-too_long o heard left before now s seat ends few is put =
     Replies-text o heard left before now s seat ends None too_long put (λ gave texts reads puts. follows-too_long heard left gave texts ends few (subst (λ x. ReadsAs gave x) is reads) puts)
 
-pub Replies-no_memory : (o : OpeningValue) (heard left : ℕ) (before now : Option (List (List ℕ))) (s : Said) (seat : SeatValue) (ends : Option Why) → heard < LINE_LIMIT → s ≡ said.NoMemory
+pub Replies-no_memory : (o : OpeningValue) (heard left : ℕ) (before now : Option (List LineCall)) (s : Said) (seat : SeatValue) (ends : Option Why) → heard < LINE_LIMIT → s ≡ said.NoMemory
     → PutsOn no_memory None before now ends → Replies o heard left before now s seat seat ends
 Replies-no_memory o heard left before now s seat ends few is put =
     Replies-text o heard left before now s seat ends None no_memory put (λ gave texts reads puts. follows-no_memory heard left gave texts ends few (subst (λ x. ReadsAs gave x) is reads) puts)
 
-pub Replies-malformed : (o : OpeningValue) (heard left : ℕ) (before now : Option (List (List ℕ))) (s : Said) (field : ℕ) (seat : SeatValue) (ends : Option Why) → heard < LINE_LIMIT
+pub Replies-malformed : (o : OpeningValue) (heard left : ℕ) (before now : Option (List LineCall)) (s : Said) (field : ℕ) (seat : SeatValue) (ends : Option Why) → heard < LINE_LIMIT
     → s ≡ said.Malformed field → PutsOn (malformed field) None before now ends → Replies o heard left before now s seat seat ends
 Replies-malformed o heard left before now s field seat ends few is put =
     Replies-text o heard left before now s seat ends None (malformed field) put (λ gave texts reads puts. follows-malformed heard left gave field texts ends few (subst (λ x. ReadsAs gave x) is reads) puts)
 
-pub Replies-spent : (o : OpeningValue) (heard left : ℕ) (before now : Option (List (List ℕ))) (s : StatedValue) (seat after : SeatValue) (ends : Option Why) → heard < LINE_LIMIT → left ≡ 0 → after ≡ seat
+pub Replies-spent : (o : OpeningValue) (heard left : ℕ) (before now : Option (List LineCall)) (s : StatedValue) (seat after : SeatValue) (ends : Option Why) → heard < LINE_LIMIT → left ≡ 0 → after ≡ seat
     → PutsOn spent (Some why.Spent) before now ends → Replies o heard left before now (said.Command s) seat after ends
 Replies-spent o heard left before now s seat after ends few none same put =
     subst (λ x. Replies o heard left before now (said.Command s) seat x ends) (sym same)
@@ -158,7 +158,7 @@ unfolding next
 next-stated h caller s e is = ap (λ x. x.stated) is
 
 -- a call is made, and its entry's line put
-pub Replies-called : (o : OpeningValue) (heard left : ℕ) (before now : Option (List (List ℕ))) (s : StatedValue) (seat later : SeatValue) (receipt : Receipt) (ends : Option Why) → heard < LINE_LIMIT
+pub Replies-called : (o : OpeningValue) (heard left : ℕ) (before now : Option (List LineCall)) (s : StatedValue) (seat later : SeatValue) (receipt : Receipt) (ends : Option Why) → heard < LINE_LIMIT
     → 0 < left → Calls o seat later s receipt → PutsOn (entry_line receipt.entry) None before now ends → Replies o heard left before now (said.Command s) seat later ends
 Replies-called o heard left before now s seat later receipt ends few some call put =
     let stated : receipt.entry.stated ≡ s = next-stated (history_of o call.before) seat.number s receipt.entry call.entry in record {
@@ -170,14 +170,13 @@ Replies-called o heard left before now s seat later receipt ends few some call p
     }
 
 -- the line was asked, and then replied to
-pub Answers-reply : (o : OpeningValue) (heard left : ℕ) (line later : LineValue) (given : Option (List Given)) (puts : Option (List (List ℕ))) (s : Said) (seat after : SeatValue) (ends : Option Why)
-    → Hears line.given given s → puts ≡ line.puts → later.given ≡ given → Replies o heard left puts later.puts s seat after ends → Answers o heard left line later seat after ends
-Answers-reply o heard left line later given puts s seat after ends hears same kept reply = record {
+pub Answers-reply : (o : OpeningValue) (heard left : ℕ) (line later : LineValue) (asked : Option (List LineCall)) (s : Said) (seat after : SeatValue) (ends : Option Why)
+    → Hears line.calls asked s → Replies o heard left asked later.calls s seat after ends → Answers o heard left line later seat after ends
+Answers-reply o heard left line later asked s seat after ends hears reply = record {
   gave = hears.gave;
   entries = reply.entries;
   texts = reply.texts;
   follows = reply.follows hears.gave hears.reads;
-  given = kept ∙ hears.once;
-  puts = reply.told ∙ ap (λ xs. with_all xs reply.texts) same;
+  told = reply.told ∙ ap (λ xs. with_all xs (map PutText reply.texts)) hears.once ∙ with_last-then line.calls (Asked hears.gave) (map PutText reply.texts);
   made = reply.made;
 }

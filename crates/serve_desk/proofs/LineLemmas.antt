@@ -59,13 +59,11 @@ IsServed-attends gate more after i seat later known line served a had has knows 
     (own-served gate.start.book.entries after (i + 1) a.before a.behind a.serves.entries (ap (λ s. s.number) before ∙ omega arith) (ap (λ s. s.known) before) a.serves.made.number
     a.serves.made.own_calls (subst (λ s. Knows after s) (sym behind) knows)) in
     record {
-      answers = a.serves.answers;
-      texts = a.serves.texts;
+      calls = a.serves.calls;
       why = a.why;
-      session = subst (λ es. Session gate.start.quota a.serves.answers es a.serves.texts a.why) mine
-          (subst (λ n. Session n a.serves.answers a.serves.entries a.serves.texts a.why) (omega arith) a.serves.session);
-      given = a.serves.given;
-      puts = a.serves.puts;
+      session = subst (λ es. Session gate.start.quota a.serves.calls es a.why) mine
+          (subst (λ n. Session n a.serves.calls a.serves.entries a.why) (omega arith) a.serves.session);
+      told = a.serves.told;
       fault = a.fault;
       no_fault = a.no_fault;
       faults = a.faults;

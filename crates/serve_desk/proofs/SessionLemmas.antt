@@ -5,39 +5,35 @@ use Rattle.desk_model.specs.Entry.{EntryValue}
 use Rattle.desk_model.specs.Opening.{OpeningValue}
 use Rattle.turn_gate.specs.Seats.{SeatValue}
 use Rattle.caller_lines.specs.Given.{Given}
-use Rattle.caller_lines.specs.Told.{with_last}
+use Rattle.caller_lines.specs.LineCalls.{LineCall}
 use Rattle.serve_desk.specs.declared.limits.TheConstants.{LINE_LIMIT}
 use Rattle.serve_desk.specs.declared.why.Why.{Why}
 use Rattle.serve_desk.specs.Texts.{too_many}
 use Rattle.serve_desk.specs.Told.{with_all, LineValue}
 use Rattle.serve_desk.specs.Follows.{is_line, Puts, Follows, it_is_put, it_is_not_put, the_end, a_fault, one_line_too_many, a_line_too_long, no_memory_for_a_line, no_command, no_call_left, a_call}
-use Rattle.serve_desk.specs.Session.{lines_in, GoesOn, it_begins, it_goes_on, it_ends}
+use Rattle.serve_desk.specs.Session.{lines_in, asked_then_put, GoesOn, it_begins, it_goes_on, it_ends}
 use Rattle.serve_desk.specs.Seats.{Made}
 use Rattle.serve_desk.specs.Answers.{Answers}
 use Rattle.serve_desk.specs.Serves.{Serves}
-use Rattle.serve_desk.proofs.ToldLemmas.{with_all-none, with_all-more, with_last-all, lines_in-line}
+use Rattle.serve_desk.proofs.ToldLemmas.{with_all-none, with_all-more, lines_in-line}
 use Rattle.serve_desk.proofs.SeatLemmas.{Made-none, Made-then}
 
 -- a session so far: the line gave so many lines of its caller
 pub record SoFar (o : OpeningValue) (left heard : ℕ) (line now : LineValue) (seat after : SeatValue) : Type 0 where
-  pub answers : List Given
+  pub calls : List LineCall
   pub entries : List EntryValue
-  pub texts : List (List ℕ)
-  pub goes_on : GoesOn left answers entries texts
-  pub lines : lines_in answers ≡ heard
-  pub given : now.given ≡ with_all line.given answers
-  pub puts : now.puts ≡ with_all line.puts texts
+  pub goes_on : GoesOn left calls entries
+  pub lines : lines_in calls ≡ heard
+  pub told : now.calls ≡ with_all line.calls calls
   pub made : Made o seat after entries
 
 pub SoFar-begins : (o : OpeningValue) (left : ℕ) (line : LineValue) (seat : SeatValue) → SoFar o left 0 line line seat seat
 SoFar-begins o left line seat = record {
-  answers = [];
+  calls = [];
   entries = [];
-  texts = [];
   goes_on = it_begins;
   lines = refl;
-  given = sym (with_all-none line.given);
-  puts = sym (with_all-none line.puts);
+  told = sym (with_all-none line.calls);
   made = Made-none o seat;
 }
 
@@ -69,7 +65,7 @@ left-behind quota calls now count is = omega arith
 -- what follows at a seat, as the session counts
 follows-here : (o : OpeningValue) (quota heard : ℕ) (line now : LineValue) (seat after : SeatValue) (gave : Given) (es : List EntryValue) (ts : List (List ℕ)) (ends : Option Why)
     → (so : SoFar o (quota - seat.calls) heard line now seat after) → Follows heard (quota - after.calls) gave es ts ends
-    → Follows (lines_in so.answers) ((quota - seat.calls) - length so.entries) gave es ts ends
+    → Follows (lines_in so.calls) ((quota - seat.calls) - length so.entries) gave es ts ends
 follows-here o quota heard line now seat after gave es ts ends so follows =
     subst (λ n. Follows n ((quota - seat.calls) - length so.entries) gave es ts ends) (sym so.lines)
     (subst (λ n. Follows heard n gave es ts ends) (left-behind quota seat.calls after.calls (length so.entries) so.made.calls) follows)
@@ -78,14 +74,12 @@ follows-here o quota heard line now seat after gave es ts ends so follows =
 pub SoFar-more : (o : OpeningValue) (quota heard : ℕ) (line now later : LineValue) (seat after next : SeatValue) → SoFar o (quota - seat.calls) heard line now seat after
     → Answers o heard (quota - after.calls) now later after next None → SoFar o (quota - seat.calls) (heard + 1) line later seat next
 SoFar-more o quota heard line now later seat after next so more = record {
-  answers = so.answers ++ more.gave ∷ [];
+  calls = so.calls ++ asked_then_put more.gave more.texts;
   entries = so.entries ++ more.entries;
-  texts = so.texts ++ more.texts;
-  goes_on = it_goes_on so.answers so.entries so.texts more.gave more.entries more.texts so.goes_on
+  goes_on = it_goes_on so.calls so.entries more.gave more.entries more.texts so.goes_on
       (follows-here o quota heard line now seat after more.gave more.entries more.texts None so more.follows);
-  lines = lines_in-line so.answers more.gave (goes-on heard (quota - after.calls) more.gave more.entries more.texts None more.follows refl).line ∙ ap (λ n. n + 1) so.lines;
-  given = more.given ∙ ap (λ xs. with_last xs more.gave) so.given ∙ with_last-all line.given so.answers more.gave;
-  puts = more.puts ∙ ap (λ xs. with_all xs more.texts) so.puts ∙ with_all-more line.puts so.texts more.texts;
+  lines = lines_in-line so.calls more.gave more.texts (goes-on heard (quota - after.calls) more.gave more.entries more.texts None more.follows refl).line ∙ ap (λ n. n + 1) so.lines;
+  told = more.told ∙ ap (λ xs. with_all xs (asked_then_put more.gave more.texts)) so.told ∙ with_all-more line.calls so.calls (asked_then_put more.gave more.texts);
   made = Made-then o seat after next so.entries more.entries so.made more.made;
 }
 
@@ -100,13 +94,11 @@ pub Serves-ends : (o : OpeningValue) (quota heard had has : ℕ) (line now later
 Serves-ends o quota heard had has line now later seat after next why so more left still =
     let made : Made o seat next (so.entries ++ more.entries) = Made-then o seat after next so.entries more.entries so.made more.made in
     record {
-      answers = so.answers ++ more.gave ∷ [];
+      calls = so.calls ++ asked_then_put more.gave more.texts;
       entries = so.entries ++ more.entries;
-      texts = so.texts ++ more.texts;
-      session = it_ends so.answers so.entries so.texts more.gave more.entries more.texts why so.goes_on
+      session = it_ends so.calls so.entries more.gave more.entries more.texts why so.goes_on
           (follows-here o quota heard line now seat after more.gave more.entries more.texts (Some why) so more.follows);
-      given = more.given ∙ ap (λ xs. with_last xs more.gave) so.given ∙ with_last-all line.given so.answers more.gave;
-      puts = more.puts ∙ ap (λ xs. with_all xs more.texts) so.puts ∙ with_all-more line.puts so.texts more.texts;
+      told = more.told ∙ ap (λ xs. with_all xs (asked_then_put more.gave more.texts)) so.told ∙ with_all-more line.calls so.calls (asked_then_put more.gave more.texts);
       made = made;
       counted = omega (arith, made.calls);
     }

@@ -1,12 +1,14 @@
 -- What is told of a line, with more behind it; and the lines among what it gave.
-use Rattle.std.proofs.Common.{◌≡◌, ◌+◌, true, cond, List, [], ◌∷◌, ◌++◌, None, Some, refl, ap, ◌∙◌, append-nil, append_assoc, zero-add}
+use Rattle.std.proofs.Common.{◌≡◌, ℕ, ◌+◌, true, cond, List, [], ◌∷◌, ◌++◌, map, None, Some, refl, ap, ◌∙◌, append-nil, append_assoc, zero-add}
 use Rattle.std.specs.declared.option.Option.{Option}
+use Rattle.std.specs.Prelude.{count_by}
 use Rattle.std.proofs.lemmas.List.Sums.{sum_by-append}
 use Rattle.caller_lines.specs.Given.{Given}
+use Rattle.caller_lines.specs.LineCalls.{LineCall, Asked, PutText, given_in}
 use Rattle.caller_lines.specs.Told.{with_last}
 use Rattle.serve_desk.specs.Told.{with_all}
 use Rattle.serve_desk.specs.Follows.{is_line}
-use Rattle.serve_desk.specs.Session.{lines_in}
+use Rattle.serve_desk.specs.Session.{lines_in, asked_then_put}
 
 -- with none, it is as it was
 pub with_all-none : {A : Type 0} (xs : Option (List A)) → with_all xs [] ≡ xs
@@ -23,14 +25,28 @@ pub with_all-more : {A : Type 0} (xs : Option (List A)) (ys zs : List A) → wit
 with_all-more None ys zs = refl
 with_all-more (Some xs) ys zs = ap (λ all. Some all) (append_assoc xs ys zs)
 
--- some, and then one at the end
-pub with_last-all : {A : Type 0} (xs : Option (List A)) (ys : List A) (y : A) → with_last (with_all xs ys) y ≡ with_all xs (ys ++ y ∷ [])
-with_last-all None ys y = refl
-with_last-all (Some xs) ys y = ap (λ all. Some all) (append_assoc xs ys (y ∷ []))
+-- one at the end, and then some
+pub with_last-then : {A : Type 0} (xs : Option (List A)) (y : A) (ys : List A) → with_all (with_last xs y) ys ≡ with_all xs (y ∷ ys)
+with_last-then None y ys = refl
+with_last-then (Some xs) y ys = ap (λ all. Some all) (append_assoc xs (y ∷ []) ys)
+
+-- what was given in some calls and in more of them
+given_in-append : (calls more : List LineCall) → given_in (calls ++ more) ≡ given_in calls ++ given_in more
+given_in-append [] more = refl
+given_in-append (Asked gave ∷ calls) more = ap (λ given. gave ∷ given) (given_in-append calls more)
+given_in-append (PutText text ∷ calls) more = given_in-append calls more
+
+given_in-puts : (texts : List (List ℕ)) → given_in (map PutText texts) ≡ []
+given_in-puts [] = refl
+given_in-puts (text ∷ texts) = given_in-puts texts
+
+given_in-more : (calls : List LineCall) (gave : Given) (texts : List (List ℕ)) → given_in (calls ++ asked_then_put gave texts) ≡ given_in calls ++ gave ∷ []
+given_in-more calls gave texts = given_in-append calls (asked_then_put gave texts) ∙ ap (λ given. given_in calls ++ gave ∷ given) (given_in-puts texts)
 
 -- one line more
-lines_in-more : (given : List Given) (gave : Given) → lines_in (given ++ gave ∷ []) ≡ lines_in given + cond (is_line gave) 1 0
-lines_in-more given gave = sum_by-append (λ x. cond (is_line x) 1 0) given (gave ∷ []) ∙ ap (λ n. lines_in given + n) (zero-add (cond (is_line gave) 1 0))
+count-more : (given : List Given) (gave : Given) → count_by is_line (given ++ gave ∷ []) ≡ count_by is_line given + cond (is_line gave) 1 0
+count-more given gave = sum_by-append (λ x. cond (is_line x) 1 0) given (gave ∷ []) ∙ ap (λ n. count_by is_line given + n) (zero-add (cond (is_line gave) 1 0))
 
-pub lines_in-line : (given : List Given) (gave : Given) → is_line gave ≡ true → lines_in (given ++ gave ∷ []) ≡ lines_in given + 1
-lines_in-line given gave line = lines_in-more given gave ∙ ap (λ b. lines_in given + cond b 1 0) line
+pub lines_in-line : (calls : List LineCall) (gave : Given) (texts : List (List ℕ)) → is_line gave ≡ true → lines_in (calls ++ asked_then_put gave texts) ≡ lines_in calls + 1
+lines_in-line calls gave texts line =
+    ap (count_by is_line) (given_in-more calls gave texts) ∙ count-more (given_in calls) gave ∙ ap (λ b. lines_in calls + cond b 1 0) line

@@ -4,7 +4,7 @@ use Rattle.std.specs.List.{All}
 use Rattle.desk_io.specs.Faults.{Rose}
 use Rattle.desk_model.specs.Entry.{EntryValue}
 use Rattle.turn_gate.specs.Told.{own, IsNumber}
-use Rattle.caller_lines.specs.Given.{Given}
+use Rattle.caller_lines.specs.LineCalls.{LineCall}
 use Rattle.serve_desk.specs.declared.why.Why.{Why}
 use Rattle.serve_desk.specs.declared.why.Why.TheVariants.{LineFault}
 use Rattle.serve_desk.specs.Told.{with_all, LineValue}
@@ -13,12 +13,10 @@ use Rattle.serve_desk.specs.Session.{Session}
 -- a line after its session, of which these entries came, at a seat with so many calls. It ended with a fault only where the line's
 -- faults rose, which never fall
 pub record IsServed (left : ℕ) (entries : List EntryValue) (line later : LineValue) : Type 0 where
-  pub answers : List Given
-  pub texts : List (List ℕ)
+  pub calls : List LineCall
   pub why : Why
-  pub session : Session left answers entries texts why
-  pub given : later.given ≡ with_all line.given answers
-  pub puts : later.puts ≡ with_all line.puts texts
+  pub session : Session left calls entries why
+  pub told : later.calls ≡ with_all line.calls calls
   pub fault : why ≡ LineFault → Rose line.faults later.faults
   pub no_fault : why ≢ LineFault → later.faults ≡ line.faults
   pub faults : line.faults ≤ later.faults

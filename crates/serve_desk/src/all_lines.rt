@@ -39,8 +39,8 @@ pub fn serve_lines<C: DeskCore + Send, R: Threads + Wait + Sync>(
     ensures legal { IfOk result (λ after. ∥ IsLegal (⟦<Book<C> as Booked>⟧.history after) ∥₁) }
     ensures served { IfOk result (λ after. AreServed CALLS_PER_LINE
         (⟦<Book<C> as Booked>⟧.history book).entries (⟦<Book<C> as Booked>⟧.history after).entries
-        (map (λ line. line_of (faults line) (given line) (put_texts line)) lines.old.items)
-        (map (λ line. line_of (faults line) (given line) (put_texts line)) lines.new.items)) }
+        (map (λ line. line_of (faults line) (calls line)) lines.old.items)
+        (map (λ line. line_of (faults line) (calls line)) lines.new.items)) }
     ensures unasked { IsErr result → lines.new ≡ lines.old }
 {
     let mut posts = Vec::with_capacity(alloc, lines.len())?;
@@ -69,14 +69,14 @@ fn attend_all<C: DeskCore + Send, R: Threads + Wait + Sync>(
         → let post = slice_index_or posts.old.items i d in
         let after = slice_index_or posts.new.items i d in
         Attends desk.now post.seat after.seat
-        (line_of (faults post.line) (given post.line) (put_texts post.line))
-        (line_of (faults after.line) (given after.line) (put_texts after.line)) }
+        (line_of (faults post.line) (calls post.line))
+        (line_of (faults after.line) (calls after.line)) }
 {
     let work = |_i: usize, post: &mut Post<Seat<Book<C>>, Box<dyn CallerLine + Send>>|
         requires { IsSomeAnd post.now.seat (IsSeatOf desk.now) }
         ensures { Attends desk.entry.now post.entry.now.seat post.exit.now.seat
-            (line_of (faults post.entry.now.line) (given post.entry.now.line) (put_texts post.entry.now.line))
-            (line_of (faults post.exit.now.line) (given post.exit.now.line) (put_texts post.exit.now.line)) }
+            (line_of (faults post.entry.now.line) (calls post.entry.now.line))
+            (line_of (faults post.exit.now.line) (calls post.exit.now.line)) }
     { attend(rt, alloc, desk, post) };
     thread::for_each_mut(rt, posts, usize::from(LAST_CALLER), &work);
 }
@@ -90,8 +90,8 @@ fn attend<C: DeskCore, R: Wait>(
 )
     requires { IsSomeAnd post.old.seat (IsSeatOf desk.now) }
     ensures { Attends desk.now post.old.seat post.new.seat
-        (line_of (faults post.old.line) (given post.old.line) (put_texts post.old.line))
-        (line_of (faults post.new.line) (given post.new.line) (put_texts post.new.line)) }
+        (line_of (faults post.old.line) (calls post.old.line))
+        (line_of (faults post.new.line) (calls post.new.line)) }
 {
     let Some(seat) = post.seat.take() else {
         unreachable!()

@@ -32,8 +32,8 @@ pub fn answer<C: DeskCore, R: Wait>(
     requires seat { IsSeatOf desk.now seat }
     requires heard { heard ≤ LINE_LIMIT }
     ensures answers { Answers desk.now.start.book.opening heard (desk.now.start.quota - seat.calls)
-        (line_of (faults line.old) (given line.old) (put_texts line.old))
-        (line_of (faults line.new) (given line.new) (put_texts line.new))
+        (line_of (faults line.old) (calls line.old))
+        (line_of (faults line.new) (calls line.new))
         seat result.seat result.ends }
     ensures seat { IsSeatOf desk.now result.seat }
     ensures later { faults line.old ≤ faults line.new }
@@ -68,9 +68,8 @@ fn reply<C: DeskCore, R: Wait>(
     requires not_end { said ≢ Said.End }
     requires no_fault { said ≢ Said.LineFault }
     ensures replies { Replies desk.now.start.book.opening heard (desk.now.start.quota - seat.calls)
-        (put_texts line.old) (put_texts line.new) said seat result.seat result.ends }
+        (calls line.old) (calls line.new) said seat result.seat result.ends }
     ensures seat { IsSeatOf desk.now result.seat }
-    ensures given { given line.new ≡ given line.old }
     ensures later { faults line.old ≤ faults line.new }
     ensures cause { result.ends ≡ Some Why.LineFault → Rose (faults line.old) (faults line.new) }
     ensures no_fault { result.ends ≢ Some Why.LineFault → faults line.new ≡ faults line.old }
@@ -109,9 +108,8 @@ fn call<C: DeskCore, R: Wait>(
     requires { IsSeatOf desk.now seat }
     ensures replies { (heard : ℕ) → heard < LINE_LIMIT
         → Replies desk.now.start.book.opening heard (desk.now.start.quota - seat.calls)
-        (put_texts line.old) (put_texts line.new) (Said.Command stated) seat result.seat result.ends }
+        (calls line.old) (calls line.new) (Said.Command stated) seat result.seat result.ends }
     ensures seat { IsSeatOf desk.now result.seat }
-    ensures given { given line.new ≡ given line.old }
     ensures later { faults line.old ≤ faults line.new }
     ensures cause { result.ends ≡ Some Why.LineFault → Rose (faults line.old) (faults line.new) }
     ensures no_fault { result.ends ≢ Some Why.LineFault → faults line.new ≡ faults line.old }

@@ -29,8 +29,8 @@ pub fn session<C: DeskCore, R: Wait>(
 ) -> Ended<C>
     requires { IsSeatOf desk.now seat }
     ensures serves { Serves desk.now.start.book.opening (desk.now.start.quota - seat.calls)
-        (line_of (faults line.old) (given line.old) (put_texts line.old))
-        (line_of (faults line.new) (given line.new) (put_texts line.new))
+        (line_of (faults line.old) (calls line.old))
+        (line_of (faults line.new) (calls line.new))
         seat result.seat result.why result.taken }
     ensures seat { IsSeatOf desk.now result.seat }
     ensures later { faults line.old ≤ faults line.new }

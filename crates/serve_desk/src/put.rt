@@ -2,6 +2,7 @@
 ghost use Rattle.std.specs.Prelude.{◌≡◌, ◌≢◌, ◌≤◌};
 ghost use Rattle.std.specs.Bool.{OnTrue, OnFalse};
 ghost use Rattle.desk_io.specs.Faults.{Rose};
+ghost use Rattle.caller_lines.specs.LineCalls.{PutText};
 ghost use Rattle.caller_lines.specs.Told.{with_last};
 ghost use Rattle.serve_desk.specs.Answers.{PutsOn};
 
@@ -12,8 +13,7 @@ use caller_lines::CallerLine;
 /// ends the session.
 pub fn put_on(line: &mut Box<dyn CallerLine + Send>, text: &[u8], then: Option<Why>) -> Option<Why>
     requires { then ≢ Some Why.LineFault }
-    ensures puts { PutsOn text.now then (put_texts line.old) (put_texts line.new) result }
-    ensures given { given line.new ≡ given line.old }
+    ensures puts { PutsOn text.now then (calls line.old) (calls line.new) result }
     ensures later { faults line.old ≤ faults line.new }
     ensures cause { result ≡ Some Why.LineFault → Rose (faults line.old) (faults line.new) }
     ensures no_fault { result ≢ Some Why.LineFault → faults line.new ≡ faults line.old }
@@ -27,9 +27,8 @@ pub fn put_on(line: &mut Box<dyn CallerLine + Send>, text: &[u8], then: Option<W
 
 // Puts a text on the line, and says whether it was taken.
 fn put(line: &mut Box<dyn CallerLine + Send>, text: &[u8]) -> bool
-    ensures puts { OnTrue result (put_texts line.new ≡ with_last (put_texts line.old) text.now) }
-    ensures no_put { OnFalse result (put_texts line.new ≡ put_texts line.old) }
-    ensures given { given line.new ≡ given line.old }
+    ensures puts { OnTrue result (calls line.new ≡ with_last (calls line.old) (PutText text.now)) }
+    ensures no_put { OnFalse result (calls line.new ≡ calls line.old) }
     ensures later { faults line.old ≤ faults line.new }
     ensures cause { OnFalse result (Rose (faults line.old) (faults line.new)) }
     ensures no_fault { OnTrue result (faults line.new ≡ faults line.old) }

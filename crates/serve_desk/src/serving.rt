@@ -46,16 +46,16 @@ pub fn serve<R: Threads + Wait + Sync, S: Source, K: Sink>(
     ensures fine { result ≡ Status.Fine
         → ServesDay (S.left source.old) (S.left source.new)
         (map (λ line. line_of ((⟦<(dyn CallerLine + Send) as CallerLine>⟧ line.vtable).faults line.value)
-        (given line) (put_texts line)) lines.old.items)
+        (calls line)) lines.old.items)
         (map (λ line. line_of ((⟦<(dyn CallerLine + Send) as CallerLine>⟧ line.vtable).faults line.value)
-        (given line) (put_texts line)) lines.new.items)
+        (calls line)) lines.new.items)
         (Appends (K.held sink.old) (K.held sink.new)) }
     ensures write_fault { result ≡ Status.WriteFault
         → ServesDay (S.left source.old) (S.left source.new)
         (map (λ line. line_of ((⟦<(dyn CallerLine + Send) as CallerLine>⟧ line.vtable).faults line.value)
-        (given line) (put_texts line)) lines.old.items)
+        (calls line)) lines.old.items)
         (map (λ line. line_of ((⟦<(dyn CallerLine + Send) as CallerLine>⟧ line.vtable).faults line.value)
-        (given line) (put_texts line)) lines.new.items)
+        (calls line)) lines.new.items)
         (AddsFront (K.held sink.old) (K.held sink.new)) }
     ensures unasked { result ≢ Status.Fine → result ≢ Status.WriteFault → lines.new ≡ lines.old }
     ensures unread { result ≡ Status.Usage → S.left source.new ≡ S.left source.old }
@@ -112,16 +112,16 @@ fn serve_day<R: Threads + Wait + Sync, K: Sink>(
     ensures fine { result ≡ Status.Fine
         → ServesHistory day.opening day.commands.items
         (map (λ line. line_of ((⟦<(dyn CallerLine + Send) as CallerLine>⟧ line.vtable).faults line.value)
-        (given line) (put_texts line)) lines.old.items)
+        (calls line)) lines.old.items)
         (map (λ line. line_of ((⟦<(dyn CallerLine + Send) as CallerLine>⟧ line.vtable).faults line.value)
-        (given line) (put_texts line)) lines.new.items)
+        (calls line)) lines.new.items)
         (Appends (K.held sink.old) (K.held sink.new)) }
     ensures write_fault { result ≡ Status.WriteFault
         → ServesHistory day.opening day.commands.items
         (map (λ line. line_of ((⟦<(dyn CallerLine + Send) as CallerLine>⟧ line.vtable).faults line.value)
-        (given line) (put_texts line)) lines.old.items)
+        (calls line)) lines.old.items)
         (map (λ line. line_of ((⟦<(dyn CallerLine + Send) as CallerLine>⟧ line.vtable).faults line.value)
-        (given line) (put_texts line)) lines.new.items)
+        (calls line)) lines.new.items)
         (AddsFront (K.held sink.old) (K.held sink.new)) }
     ensures unasked { result ≡ Status.NoMemory → lines.new ≡ lines.old }
     ensures silent { result ≡ Status.NoMemory → Keeps (K.held sink.old) (K.held sink.new) }
@@ -167,16 +167,16 @@ fn serve_book<C: DeskCore + Send, R: Threads + Wait + Sync, K: Sink>(
     ensures fine { result ≡ Status.Fine
         → ServesBehind (⟦<Book<C> as Booked>⟧.history book)
         (map (λ line. line_of ((⟦<(dyn CallerLine + Send) as CallerLine>⟧ line.vtable).faults line.value)
-        (given line) (put_texts line)) lines.old.items)
+        (calls line)) lines.old.items)
         (map (λ line. line_of ((⟦<(dyn CallerLine + Send) as CallerLine>⟧ line.vtable).faults line.value)
-        (given line) (put_texts line)) lines.new.items)
+        (calls line)) lines.new.items)
         (Appends (K.held sink.old) (K.held sink.new)) }
     ensures write_fault { result ≡ Status.WriteFault
         → ServesBehind (⟦<Book<C> as Booked>⟧.history book)
         (map (λ line. line_of ((⟦<(dyn CallerLine + Send) as CallerLine>⟧ line.vtable).faults line.value)
-        (given line) (put_texts line)) lines.old.items)
+        (calls line)) lines.old.items)
         (map (λ line. line_of ((⟦<(dyn CallerLine + Send) as CallerLine>⟧ line.vtable).faults line.value)
-        (given line) (put_texts line)) lines.new.items)
+        (calls line)) lines.new.items)
         (AddsFront (K.held sink.old) (K.held sink.new)) }
     ensures unasked { result ≡ Status.NoMemory → lines.new ≡ lines.old }
     ensures silent { result ≡ Status.NoMemory → Keeps (K.held sink.old) (K.held sink.new) }

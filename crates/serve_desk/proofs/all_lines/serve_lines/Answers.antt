@@ -12,7 +12,7 @@ attend_all-requires-after_bounds g c κs bounds = All-seated _ _ (λ post. post.
 pub close-requires : goal.close-requires
 close-requires g c =
     All-left c.seat_lines.new.posts.items c.attend_all.new.posts.items _ (λ post. post.seat)
-    (λ post. let line = goal.CallerLine-dyn g (post.line.vtable, post.line.value) in line_of (line.faults post.line.value) (line.given post.line.value) (line.put_texts post.line.value)) _
+    (λ post. let line = goal.CallerLine-dyn g (post.line.vtable, post.line.value) in line_of (line.faults post.line.value) (line.calls post.line.value)) _
     c.attend_all.ensures.each (omega arith) c.leave_posts.ensures.seats
 
 pub returns-clause-served : goal.returns-clause-served

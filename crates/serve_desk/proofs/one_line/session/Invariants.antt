@@ -9,8 +9,8 @@ abbrev pub invariant-loop-heard : goal.invariant-loop-heard
 invariant-loop-heard g l =
     let entry = goal.CallerLine-dyn g (l.fn.line.vtable, l.fn.line.value) in
     let now = goal.CallerLine-dyn g (l.line.vtable, l.line.value) in record {
-      so_far : SoFar l.desk.start.book.opening (l.desk.start.quota - l.fn.seat.calls) l.heard (line_of (entry.faults l.fn.line.value) (entry.given l.fn.line.value) (entry.put_texts l.fn.line.value))
-          (line_of (now.faults l.line.value) (now.given l.line.value) (now.put_texts l.line.value)) l.fn.seat l.seat;
+      so_far : SoFar l.desk.start.book.opening (l.desk.start.quota - l.fn.seat.calls) l.heard (line_of (entry.faults l.fn.line.value) (entry.calls l.fn.line.value))
+          (line_of (now.faults l.line.value) (now.calls l.line.value)) l.fn.seat l.seat;
       few : l.heard ≤ LINE_LIMIT;
       seat : IsSeatOf l.desk l.seat;
       faults : now.faults l.line.value ≡ entry.faults l.fn.line.value;
