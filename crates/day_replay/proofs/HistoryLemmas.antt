@@ -9,18 +9,13 @@ use Rattle.desk_model.specs.Fits.{IsStated}
 use Rattle.desk_model.specs.Entry.{EntryValue}
 use Rattle.desk_model.specs.History.{History, opened, with_entry}
 use Rattle.desk_model.specs.Legal.{next, given, history_from, history, MayState, IsLegal}
+use Rattle.desk_model.proofs.LegalLemmas.{history_from-append, history_from-length}
 use Rattle.day_replay.specs.Replay.{by_the_day_file, goes_on, day_history, IsReplay}
 
 -- no command has no entry
 pub goes_on-none : (h : History) → goes_on h [] ≡ h
 unfolding history_from
 goes_on-none h = refl
-
--- commands after others go on with the history of those
-history_from-append : (h : History) (commands later : List (ℕ × StatedValue)) → history_from h (commands ++ later) ≡ history_from (history_from h commands) later
-unfolding history_from
-history_from-append h [] later = refl
-history_from-append h ((caller, s) ∷ rest) later = history_from-append (with_entry h (next h caller s)) rest later
 
 -- the next command adds the entry that the rules give
 goes_on-more : (h : History) (commands : List StatedValue) (place : ℕ) (s : StatedValue) → place < length commands → s ≡ get_or commands place s
@@ -39,12 +34,6 @@ goes_on-next h commands place s e within at answer =
     ap (with_entry (goes_on h (take place commands))) answer ∙ sym (goes_on-more h commands place s within at)
 
 -- it has an entry more for each command
-history_from-length : (h : History) (commands : List (ℕ × StatedValue)) → length (history_from h commands).entries ≡ length h.entries + length commands
-unfolding history_from
-history_from-length h [] = omega arith
-history_from-length h ((caller, s) ∷ rest) =
-    omega (arith, history_from-length (with_entry h (next h caller s)) rest, length-append h.entries (next h caller s ∷ []))
-
 pub goes_on-length : (h : History) (commands : List StatedValue) → length (goes_on h commands).entries ≡ length h.entries + length commands
 goes_on-length h commands = omega (arith, history_from-length h (map by_the_day_file commands), length-map commands by_the_day_file)
 

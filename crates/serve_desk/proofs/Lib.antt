@@ -4,4 +4,3 @@ mod AnswerLemmas
 mod SessionLemmas
 mod LineLemmas
 mod ServeLemmas
-mod LegalLemmas

@@ -39,9 +39,9 @@ prefix-further : {A : Type 0} (xs ys zs : List A) → IsPrefix xs ys → IsPrefi
 prefix-further xs ys zs p q = (p.0 ++ q.0, sym (append_assoc xs p.0 q.0) ∙ ap (λ l. l ++ q.0) p.1 ∙ q.1)
 
 legal-then : (o : OpeningValue) (seat later last : SeatValue) (es more : List EntryValue) → Made o seat later es → Made o later last more → 0 < length (es ++ more)
-    → ∥ IsLegal (history_of o last.known) ∥₁
+    → IsLegal (history_of o last.known)
 legal-then o seat later last es [] made then some =
-    subst (λ s. ∥ IsLegal (history_of o s.known) ∥₁) (sym (then.none refl)) (made.legal (subst (λ l. 0 < length l) (append-nil es) some))
+    subst (λ s. IsLegal (history_of o s.known)) (sym (then.none refl)) (made.legal (subst (λ l. 0 < length l) (append-nil es) some))
 legal-then o seat later last es (e ∷ more) made then some = then.legal (omega arith)
 
 -- some, and then more

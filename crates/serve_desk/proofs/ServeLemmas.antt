@@ -1,7 +1,6 @@
 -- The history of a day file's commands and of the calls of lines behind them.
 use Rattle.std.proofs.Common.{◌≡◌, ℕ, Option, ◌+◌, ◌<◌, ◌==◌, false, cond, List, [], ◌∷◌, ◌++◌, length, map, take, drop, slice_index_or, refl, sym, ap, subst, ◌∙◌, arith}
 use Rattle.std.specs.List.{All}
-use Rattle.std.proofs.Math.Logic.{∥∥₁_elim}
 use Rattle.std.proofs.lemmas.Grind.{common_steps}
 use Rattle.std.proofs.lemmas.List.Elements.{filter-append}
 use Rattle.desk_model.specs.Entry.{EntryValue}
@@ -19,7 +18,6 @@ use Rattle.turn_gate.specs.Told.{own, IsNumber}
 use Rattle.serve_desk.specs.declared.limits.TheConstants.{CALLS_PER_LINE}
 use Rattle.serve_desk.specs.Told.{LineValue}
 use Rattle.serve_desk.specs.AllLines.{IsServed}
-use Rattle.serve_desk.proofs.LegalLemmas.{IsLegal-IsProp}
 use Rattle.serve_desk.specs.Serve.{ServesBehind, ServesHistory, ServesDay}
 
 -- caller 0 stated what the day file has, so no line's caller did
@@ -47,7 +45,7 @@ ServesHistory-served o commands h lines later Writes is replay behind =
     record {
       history = after;
       opened = behind.opened ∙ ap (λ x. x.opening) is ∙ replay.opening;
-      legal = ∥∥₁_elim behind.legal (IsLegal-IsProp after) (λ x. x);
+      legal = behind.legal;
       setup = ap (map given) front ∙ replay.given;
       callers = subst (All (λ e. IsNumber (length lines) e.caller)) (sym rest) served.callers;
       count = served.count;

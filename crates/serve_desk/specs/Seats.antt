@@ -15,5 +15,5 @@ pub record Made (o : OpeningValue) (seat later : SeatValue) (entries : List Entr
   pub calls : later.calls ≡ seat.calls + length entries
   pub own_calls : own later.known seat.number ≡ own seat.known seat.number ++ entries
   pub begins : IsPrefix seat.known later.known
-  pub legal : 0 < length entries → ∥ IsLegal (history_of o later.known) ∥₁
+  pub legal : 0 < length entries → IsLegal (history_of o later.known)
   pub none : length entries ≡ 0 → later ≡ seat

@@ -25,7 +25,7 @@ IsNoNumberOfLines count = (count ≡ 0) ⊎ (LAST_CALLER < count)
 pub record ServesBehind (before : History) (lines later : List LineValue) (Writes : List ℕ → Type 0) : Type 0 where
   pub after : History
   pub opened : after.opening ≡ before.opening
-  pub legal : ∥ IsLegal after ∥₁
+  pub legal : IsLegal after
   pub served : AreServed CALLS_PER_LINE before.entries after.entries lines later
   pub written : Writes (journal after)
 

@@ -36,7 +36,7 @@ pub fn serve_lines<C: DeskCore + Send, R: Threads + Wait + Sync>(
     ensures opening { IfOk result (λ after. (⟦<Book<C> as Booked>⟧.history after).opening
         ≡ (⟦<Book<C> as Booked>⟧.history book).opening) }
     ensures room { IfOk result (λ after. ⟦<Book<C> as Booked>⟧.room after ≡ ⟦<Book<C> as Booked>⟧.room book) }
-    ensures legal { IfOk result (λ after. ∥ IsLegal (⟦<Book<C> as Booked>⟧.history after) ∥₁) }
+    ensures legal { IfOk result (λ after. IsLegal (⟦<Book<C> as Booked>⟧.history after)) }
     ensures served { IfOk result (λ after. AreServed CALLS_PER_LINE
         (⟦<Book<C> as Booked>⟧.history book).entries (⟦<Book<C> as Booked>⟧.history after).entries
         (map (λ line. line_of (faults line) (calls line)) lines.old.items)

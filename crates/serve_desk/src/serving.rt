@@ -10,7 +10,7 @@ ghost use Rattle.desk_model.specs.Opening.{IsOpening};
 ghost use Rattle.command_parser.specs.declared.limits.TheConstants.{RECORD_LIMIT};
 ghost use Rattle.command_parser.specs.DayFile.{HasTooMany, HasNoOpening};
 ghost use Rattle.day_replay.specs.Ends.{WasRead, WritesOrFails, writes};
-ghost use Rattle.day_replay.specs.Replay.{FindsWrong, EndsByTheDay, day_history, goes_on};
+ghost use Rattle.day_replay.specs.Replay.{FindsWrong, EndsByTheDay, day_history};
 ghost use Rattle.day_replay.specs.declared.limits.TheConstants.{BYTE_LIMIT};
 ghost use Rattle.serve_desk.specs.Told.{line_of};
 ghost use Rattle.serve_desk.specs.Serve.{IsNoNumberOfLines, ServesBehind, ServesDay, ServesHistory};
@@ -22,7 +22,7 @@ use command_parser::DayFile;
 use day_replay::{take_day, write_history};
 use desk_base::NoMemory;
 use desk_io::{Sink, Source, Status};
-use desk_model::{Booked, DeskCore, LAST_CALLER, Opening, Stated, one_history_is_legal};
+use desk_model::{Booked, DeskCore, LAST_CALLER, Opening, one_history_is_legal};
 use fast_core::FastCore;
 use std::alloc::Global;
 use std::sync::Wait;
@@ -209,21 +209,6 @@ fn set_up(alloc: Global, day: &DayFile, lines: usize) -> Result<Book<FastCore>, 
     let calls = lines as u64 * u64::from(CALLS_PER_LINE);
     let core = FastCore::new(alloc, day.opening, day.commands.len() as u64 + calls)?;
     let mut book = Book::new(alloc, core)?;
-    answer_all(&mut book, &day.commands);
+    book.step_as(0, &day.commands);
     Ok(book)
-}
-
-// Answers commands as caller 0, for all of which the book has room.
-fn answer_all<C: DeskCore>(book: &mut Book<C>, commands: &[Stated])
-    requires { length (⟦<Book<C> as Booked>⟧.history book.old).entries + length commands.now
-        ≤ ⟦<Book<C> as Booked>⟧.room book.old }
-    ensures history { ⟦<Book<C> as Booked>⟧.history book.new
-        ≡ goes_on (⟦<Book<C> as Booked>⟧.history book.old) commands.now }
-    ensures room { ⟦<Book<C> as Booked>⟧.room book.new ≡ ⟦<Book<C> as Booked>⟧.room book.old }
-{
-    for stated in commands {
-        let Ok(_entry) = book.step(0, *stated) else {
-            unreachable!()
-        };
-    }
 }
