@@ -1,7 +1,7 @@
 //! A book of a few entries, and one that is full.
 use call_history::{Book, Full};
 use desk_base::{Code, Minute, Month, Window};
-use desk_model::{Booked, Cmd, Edition, Opening, Reply, Stated};
+use desk_model::{Booked, Cmd, Edition, Entry, Opening, Reply, Stated};
 use plain_core::PlainCore;
 use std::alloc::Global;
 use std::test::Fail;
@@ -61,5 +61,51 @@ fn a_book_that_fills(rt: HostRuntime) -> Result<(), Fail> {
     };
     assert_eq!(rt; first.reply(), Reply::UnknownBoard(board_is));
     assert_eq!(rt; second.reply(), Reply::Done);
+    Ok(())
+}
+
+// What a test compares of an entry: who stated when, at which moment it was taken, and the reply.
+fn told(entry: &Entry) -> (u8, Minute, Minute, Reply) {
+    (
+        entry.caller(),
+        entry.stated().minute(),
+        entry.moment(),
+        entry.reply(),
+    )
+}
+
+#[test]
+fn a_list_of_three_callers_is_their_commands_one_by_one(rt: HostRuntime) -> Result<(), Fail> {
+    let mut singly = book(rt.alloc(), 6)?;
+    let mut listed = book(rt.alloc(), 6)?;
+    let asks = look(1).ok_or("no command")?;
+    let makes = board().ok_or("no command")?;
+    let commands = [(1, asks), (0, makes), (63, asks), (1, makes)];
+    let list = &commands[..];
+    for (caller, stated) in list {
+        assert!(rt; singly.step(*caller, *stated).is_ok());
+    }
+    if listed.left() < 6 {
+        return Err(Fail::from("no room for six"));
+    }
+    listed.step_all(list);
+    assert_eq!(rt; (listed.count(), listed.left()), (4, 2));
+    for (one, other) in singly.entries().iter().zip(listed.entries()) {
+        assert_eq!(rt; told(one), told(other));
+    }
+    let more = [asks, makes];
+    listed.step_as(7, &more[..]);
+    assert_eq!(rt; (listed.count(), listed.left()), (6, 0));
+    let [first, second, third, .., last] = listed.entries() else {
+        return Err(Fail::from("not six entries"));
+    };
+    let board_is = Code::read(b"P1").ok_or("no code")?;
+    assert_eq!(rt;
+        (first.caller(), first.reply()),
+        (1, Reply::UnknownBoard(board_is))
+    );
+    assert_eq!(rt; (second.caller(), second.reply()), (0, Reply::Done));
+    assert_eq!(rt; third.caller(), 63);
+    assert_eq!(rt; (last.caller(), last.reply()), (7, Reply::Used));
     Ok(())
 }
