@@ -1,5 +1,5 @@
 //! The form that serves callers.
-ghost use Rattle.std.specs.Prelude.{◌≡◌, ◌≢◌, ◌≤◌, ◌↔◌, ◌⊎◌, length, false, IfOk};
+ghost use Rattle.std.specs.Prelude.{◌≡◌, ◌≢◌, ◌≤◌, ◌↔◌, ◌⊎◌, length, false};
 ghost use Rattle.std.specs.Io.KnownBytes.{Appends, Keeps};
 ghost use Rattle.desk_io.specs.Faults.{Rose};
 ghost use Rattle.desk_io.specs.Giving.{AddsFront};
@@ -16,7 +16,6 @@ use desk_base::NoMemory;
 use desk_io::{Sink, Source, Status};
 use desk_model::LAST_CALLER;
 use serve_desk::serve;
-use std::alloc::AllocError;
 use std::fs::{File, Files};
 use std::sync::Wait;
 use std::thread::Threads;
@@ -71,29 +70,20 @@ where
     if names.is_empty() || names.len() > usize::from(LAST_CALLER) {
         return Status::Usage;
     }
-    match lines_of(rt, names) {
-        Ok(mut lines) => serve(rt, rt.alloc(), source, &mut lines, sink),
-        Err(NoMemory) => Status::NoMemory,
-    }
-}
-
-// The lines of the callers of these names, in their order.
-fn lines_of<R>(rt: &R, names: &[String]) -> Result<Vec<Box<dyn CallerLine + Send>>, NoMemory>
-where
-    R: Files<File = File> + AllocGlobal,
-    ensures { IfOk result (λ lines. length lines.items ≡ length names.now) }
-{
     let mut lines: Vec<Box<dyn CallerLine + Send>> = Vec::new(rt.alloc());
     for name in names {
-        let line = line_of(rt, name.as_str())?;
-        let line = Box::new(rt.alloc(), line).map_err(|_| NoMemory)?;
-        lines.push(line).map_err(|_| NoMemory)?;
+        let Ok(line) = line_of(rt, name.as_str()) else {
+            return Status::NoMemory;
+        };
+        if lines.push(line).is_err() {
+            return Status::NoMemory;
+        }
     }
-    Ok(lines)
+    serve(rt, rt.alloc(), source, &mut lines, sink)
 }
 
 // The line of a caller over the files of this name.
-fn line_of<R>(rt: &R, name: &str) -> Result<FileLine<File, File>, AllocError>
+fn line_of<R>(rt: &R, name: &str) -> Result<Box<FileLine<File, File>>, NoMemory>
 where
     R: Files<File = File> + AllocGlobal,
 {
@@ -101,5 +91,5 @@ where
     let replies = format!(in rt.alloc(); "{name}.out")?;
     let reader = File::open(rt, said.as_str()).ok();
     let writer = File::create(rt, replies.as_str()).ok();
-    Ok(FileLine::new(reader, writer))
+    Ok(Box::new(rt.alloc(), FileLine::new(reader, writer))?)
 }

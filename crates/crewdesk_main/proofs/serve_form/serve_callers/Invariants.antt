@@ -1,5 +1,5 @@
 use Rattle.std.proofs.Common.{◌≡◌, length}
-use Rattle.crewdesk_main.proofs.serve_form.lines_of.Given as goal
+use Rattle.crewdesk_main.proofs.serve_form.serve_callers.Given as goal
 
 -- a line for each name so far
 abbrev pub invariant-loop-name : goal.invariant-loop-name
