@@ -1,9 +1,10 @@
 //! Two lines that wait for one another.
 ghost use Rattle.std.specs.Prelude.{None};
 
-use crate::openings::{LOOK, new_book};
+use crate::openings::{LOOK, OPENING};
 use caller_lines::{CallerLine, Heard, LineBuf};
-use serve_desk::{CALLS_PER_LINE, serve_lines};
+use desk_io::{MemorySink, MemorySource, Status};
+use serve_desk::serve;
 use std::alloc::Global;
 use std::sync::Arc;
 use std::sync::atomic::{AtomicU64, Ordering};
@@ -72,10 +73,11 @@ fn two_lines_meet(rt: HostRuntime) -> Result<(), Fail> {
         };
         lines.push(Box::new(alloc, line)?)?;
     }
-    let book = new_book(alloc, CALLS_PER_LINE * 2).ok_or("no memory")?;
-    assert_eq!(rt; lines.len(), 2);
-    let served = serve_lines(&rt, alloc, book, &mut lines).ok();
-    assert!(rt; served.is_some());
+    let mut source = MemorySource::new(OPENING.to_vec(alloc)?, 100, Vec::new(alloc));
+    let mut sink = MemorySink::new(alloc, 1_000, 1_000, Vec::new(alloc))?;
+    let status = serve(&rt, alloc, &mut source, &mut lines, &mut sink);
+    assert!(rt; status == Status::Fine);
     assert_eq!(rt; ended.load(Ordering::SeqCst), 2);
+    assert_eq!(rt; sink.bytes().split(|byte| *byte == b'\n').count(), 4);
     Ok(())
 }

@@ -12,6 +12,9 @@ use std::alloc::Global;
 /// A command of a line: who stands at the first place of the board P1, which there isn't.
 pub const LOOK: &[u8] = b"2024-03-04 00:01,at,P1,1";
 
+/// A day file of no commands, which is its journal too.
+pub const OPENING: &[u8] = b"2024-03-04 00:00,open,2024-03,1,15\n";
+
 fn opening() -> Option<Opening> {
     let window = Window::new(Month::read(b"2024-03")?, 1)?;
     let start = Minute::read(b"2024-03-04 00:00")?;

@@ -1,5 +1,5 @@
 //! Lines in memory that are served behind a day file.
-use crate::openings::{LOOK, has_puts, lines_of};
+use crate::openings::{LOOK, OPENING, has_puts, lines_of};
 use caller_lines::CallerLine;
 use desk_io::{MemorySink, MemorySource, Status};
 use serve_desk::serve;
@@ -19,9 +19,6 @@ const DAY: &[u8] = b"\
 2024-03-04 00:03,vacancy,1,E,-,HOM,2024-03-04 08:00,600,0,P1
 2024-03-04 00:03,vacancy,2,E,-,HOM,2024-03-04 08:00,600,0,P1
 ";
-
-// A day file of no commands, which is its journal too.
-const OPENING: &[u8] = b"2024-03-04 00:00,open,2024-03,1,15\n";
 
 // The journal of the desk with two engineers.
 const JOURNAL: &[u8] = b"\
