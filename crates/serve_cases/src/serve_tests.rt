@@ -95,14 +95,14 @@ fn two_lines_behind_a_day_file(rt: HostRuntime) -> Result<(), Fail> {
             others[2],
         ),
     ];
-    let mut met = 0;
+    let mut met = false;
     for (whole, ours, theirs) in ways {
         if written == whole.concat(alloc)?.as_slice() {
-            met += 1;
+            met = true;
             assert!(rt; has_puts(one, &ours) && has_puts(two, &[theirs]));
         }
     }
-    assert_eq!(rt; met, 1);
+    assert!(rt; met);
     Ok(())
 }
 
