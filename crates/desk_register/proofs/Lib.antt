@@ -15,3 +15,4 @@ mod BoardLemmas
 mod StayLemmas
 mod TurnedLemmas
 mod RegisterLemmas
+mod CopyLemmas

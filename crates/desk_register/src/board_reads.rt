@@ -8,6 +8,7 @@ ghost use Rattle.desk_model.specs.declared.limits.TheConstants.{BOARD_LIMIT};
 
 use crate::add_last::add_last;
 use crate::boards::Boards;
+use crate::copy_of::copy_of;
 use crate::find_in::{HINT_BITS, find_in};
 use crate::placed::Placed;
 use desk_base::{Code, NoMemory, PlaceHints};
@@ -24,6 +25,17 @@ impl Boards {
         let kept = IndexMap::with_capacity(alloc, BOARD_LIMIT)?;
         let hints = PlaceHints::new(alloc, HINT_BITS)?;
         Ok(Boards { kept, hints })
+    }
+
+    /// The same boards in the same order, with memory for 64; `NoMemory` where there is none for them.
+    pub(crate) fn copy(&self, alloc: Global) -> Result<Boards, NoMemory>
+        ensures under { IfOk result (λ r. board_under r ≡ board_under self.now) }
+        ensures keys { IfOk result (λ r. board_codes r ≡ board_codes self.now) }
+    {
+        Ok(Boards {
+            kept: copy_of(alloc, &self.kept, BOARD_LIMIT)?,
+            hints: self.hints.copy(alloc)?,
+        })
     }
 
     // What the board was set up as, with its place among all; `None` where the code is no board.

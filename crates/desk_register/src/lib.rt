@@ -5,6 +5,7 @@ mod add_last;
 mod board_changes;
 mod board_reads;
 mod boards;
+mod copy_of;
 mod enrolled;
 mod find_in;
 mod kept_person;

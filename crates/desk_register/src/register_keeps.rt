@@ -1,4 +1,4 @@
-ghost use Rattle.std.specs.Prelude.{◌≡◌, ◌<◌, ℕ, None, Some, IfSome, IfOk, nat_eq, is_none, option_and_then};
+ghost use Rattle.std.specs.Prelude.{◌≡◌, ◌<◌, ◌↔◌, ℕ, None, Some, IfSome, IfOk, nat_eq, is_none, option_and_then};
 ghost use Rattle.indexmap.specs.IndexMap.{get};
 ghost use Rattle.desk_model.specs.Opening.{OpeningValue};
 ghost use Rattle.desk_model.specs.Entry.{EntryValue};
@@ -61,6 +61,22 @@ impl Register {
         let boards = Boards::new(alloc)?;
         let vacancies = Vacancies::new(alloc)?;
         let turned_down = TurnedDown::new(alloc)?;
+        Ok(Register {
+            persons,
+            boards,
+            vacancies,
+            turned_down,
+        })
+    }
+
+    /// The same again, with memory of its own for all that it may come to keep; `NoMemory` where there is none for it.
+    pub fn copy(&self, alloc: Global) -> Result<Register, NoMemory>
+        ensures { IfOk result (λ r. (h : History) → Keeps r h ↔ Keeps self.now h) }
+    {
+        let persons = self.persons.copy(alloc)?;
+        let boards = self.boards.copy(alloc)?;
+        let vacancies = self.vacancies.copy(alloc)?;
+        let turned_down = self.turned_down.copy(alloc)?;
         Ok(Register {
             persons,
             boards,

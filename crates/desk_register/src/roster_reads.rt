@@ -5,6 +5,7 @@ ghost use Rattle.desk_register.specs.Persons.{person_under, person_numbers};
 ghost use Rattle.desk_model.specs.declared.limits.TheConstants.{PERSON_LIMIT};
 
 use crate::add_last::add_last;
+use crate::copy_of::copy_of;
 use crate::enrolled::Enrolled;
 use crate::find_in::{HINT_BITS, find_in};
 use crate::kept_person::KeptPerson;
@@ -23,6 +24,17 @@ impl Roster {
         let kept = IndexMap::with_capacity(alloc, PERSON_LIMIT)?;
         let hints = PlaceHints::new(alloc, HINT_BITS)?;
         Ok(Roster { kept, hints })
+    }
+
+    /// The same persons in the same order, with memory for 1,000; `NoMemory` where there is none for them.
+    pub(crate) fn copy(&self, alloc: Global) -> Result<Roster, NoMemory>
+        ensures under { IfOk result (λ r. person_under r ≡ person_under self.now) }
+        ensures keys { IfOk result (λ r. person_numbers r ≡ person_numbers self.now) }
+    {
+        Ok(Roster {
+            kept: copy_of(alloc, &self.kept, PERSON_LIMIT)?,
+            hints: self.hints.copy(alloc)?,
+        })
     }
 
     /// What is kept of this person; `None` where nobody has the number.

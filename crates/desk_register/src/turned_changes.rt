@@ -27,6 +27,15 @@ impl TurnedDown {
         Ok(TurnedDown { words })
     }
 
+    /// The same persons have turned the same vacancies down, with memory for all; `NoMemory` where there is none for it.
+    pub(crate) fn copy(&self, alloc: Global) -> Result<TurnedDown, NoMemory>
+        ensures { IfOk result (λ x. turned_at x ≡ turned_at self.now) }
+    {
+        let mut words = Vec::with_capacity(alloc, WORDS)?;
+        words.extend_from_slice(&self.words)?;
+        Ok(TurnedDown { words })
+    }
+
     /// Whether the person at one place, below 1,000, has turned down the vacancy at another.
     pub fn has(&self, person: usize, vacancy: usize) -> bool
         requires { person < PERSON_LIMIT }

@@ -5,6 +5,7 @@ ghost use Rattle.desk_register.specs.Vacancies.{vacancy_under, vacancy_numbers};
 ghost use Rattle.desk_model.specs.declared.limits.TheConstants.{VACANCY_LIMIT};
 
 use crate::add_last::add_last;
+use crate::copy_of::copy_of;
 use crate::find_in::{HINT_BITS, find_in};
 use crate::kept_vacancy::KeptVacancy;
 use crate::placed::Placed;
@@ -28,6 +29,17 @@ impl Vacancies {
         )?;
         let hints = PlaceHints::new(alloc, HINT_BITS)?;
         Ok(Vacancies { kept, hints })
+    }
+
+    /// The same vacancies in the same order, with memory for 20,000; `NoMemory` where there is none for them.
+    pub(crate) fn copy(&self, alloc: Global) -> Result<Vacancies, NoMemory>
+        ensures under { IfOk result (λ r. vacancy_under r ≡ vacancy_under self.now) }
+        ensures keys { IfOk result (λ r. vacancy_numbers r ≡ vacancy_numbers self.now) }
+    {
+        Ok(Vacancies {
+            kept: copy_of(alloc, &self.kept, VACANCY_LIMIT)?,
+            hints: self.hints.copy(alloc)?,
+        })
     }
 
     // What is kept of this vacancy, with its place among all; `None` where it was never made.
