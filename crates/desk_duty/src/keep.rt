@@ -32,6 +32,19 @@ impl Duty {
         Ok(Duty { clocks, window })
     }
 
+    /// The same clocks again, with memory for 1,000; `NoMemory` where there is none for them.
+    pub fn copy(&self, alloc: Global) -> Result<Duty, NoMemory>
+        ensures window { IfOk result (λ d. window_of d ≡ window_of self.now) }
+        ensures clocks { IfOk result (λ d. clocks_of d ≡ clocks_of self.now) }
+    {
+        let mut clocks = Vec::with_capacity(alloc, PERSON_LIMIT)?;
+        clocks.extend_from_slice(&self.clocks)?;
+        Ok(Duty {
+            clocks,
+            window: self.window,
+        })
+    }
+
     /// The clock of the person at this place among all; `None` where there are fewer.
     pub fn clock(&self, place: usize) -> Option<&PersonClock>
         ensures { option_copied result ≡ slice_get (clocks_of self.now) place }
