@@ -16,6 +16,15 @@ impl Holds {
         Ok(Holds { ends })
     }
 
+    /// The same holds again; `NoMemory` where there is none for those of 1,000 persons by 64 boards.
+    pub(crate) fn copy(&self, alloc: Global) -> Result<Holds, NoMemory>
+        ensures { IfOk result (λ x. end_at x ≡ end_at self.now) }
+    {
+        let mut ends = Vec::with_capacity(alloc, PERSON_LIMIT * BOARD_LIMIT)?;
+        ends.extend_from_slice(&self.ends)?;
+        Ok(Holds { ends })
+    }
+
     /// Until when the person at this place is held by the board at this one; the first minute of all where they aren't, or have
     /// no such places.
     pub(crate) fn end(&self, person: usize, board: usize) -> Minute

@@ -1,4 +1,4 @@
-ghost use Rattle.std.specs.Prelude.{◌≡◌, ℕ, IfOk, List, [], ◌∷◌, Some};
+ghost use Rattle.std.specs.Prelude.{◌≡◌, ◌↔◌, ℕ, IfOk, List, [], ◌∷◌, Some};
 ghost use Rattle.desk_model.specs.Opening.{OpeningValue};
 ghost use Rattle.desk_model.specs.History.{History, opened};
 ghost use Rattle.desk_model.specs.Register.{persons, boards};
@@ -26,6 +26,19 @@ impl Offers {
             flight,
             holds,
             answer,
+        })
+    }
+
+    /// The same offers and holds again, with as many minutes for an answer and as much memory; `NoMemory` where there is none for it.
+    pub fn copy(&self, alloc: Global) -> Result<Offers, NoMemory>
+        ensures { IfOk result (λ x. (h : History) → Keeps x h ↔ Keeps self.now h) }
+    {
+        let flight = self.flight.copy(alloc)?;
+        let holds = self.holds.copy(alloc)?;
+        Ok(Offers {
+            flight,
+            holds,
+            answer: self.answer,
         })
     }
 
