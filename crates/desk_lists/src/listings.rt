@@ -44,6 +44,15 @@ impl Listings {
         })
     }
 
+    /// The same persons are on the same boards; `NoMemory` where there is none for 1,000 persons.
+    pub(crate) fn copy(&self, alloc: Global) -> Result<Listings, NoMemory>
+        ensures { IfOk result (λ l. l.words.items ≡ self.now.words.items) }
+    {
+        let mut words = Vec::with_capacity(alloc, PERSON_LIMIT)?;
+        words.extend_from_slice(&self.words)?;
+        Ok(Listings { words })
+    }
+
     /// The boards of the person at this place; none where there is nobody.
     pub(crate) fn of(&self, person: Option<usize>) -> u64
         ensures { result ≡ word_of self.now.words.items person }

@@ -1,4 +1,4 @@
-ghost use Rattle.std.specs.Prelude.{◌≡◌, IfOk};
+ghost use Rattle.std.specs.Prelude.{◌≡◌, ◌↔◌, IfOk};
 ghost use Rattle.desk_model.specs.Opening.{OpeningValue};
 ghost use Rattle.desk_model.specs.Entry.{EntryValue};
 ghost use Rattle.desk_model.specs.History.{History, opened, with_entry};
@@ -23,6 +23,15 @@ impl Lists {
     {
         let orders = Orders::new(alloc)?;
         let listings = Listings::new(alloc)?;
+        Ok(Lists { orders, listings })
+    }
+
+    /// The same boards and their members again, and who is on which; `NoMemory` where there is none for them.
+    pub fn copy(&self, alloc: Global) -> Result<Lists, NoMemory>
+        ensures { IfOk result (λ l. (h : History) → Keeps l h ↔ Keeps self.now h) }
+    {
+        let orders = self.orders.copy(alloc)?;
+        let listings = self.listings.copy(alloc)?;
         Ok(Lists { orders, listings })
     }
 

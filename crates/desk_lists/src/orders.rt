@@ -34,6 +34,18 @@ impl Orders {
         Ok(Orders { boards, hints })
     }
 
+    /// The same boards again; `NoMemory` where there is none for them.
+    pub(crate) fn copy(&self, alloc: Global) -> Result<Orders, NoMemory>
+        ensures { IfOk result (λ o. o.boards.items ≡ self.now.boards.items) }
+    {
+        let mut boards = Vec::with_capacity(alloc, self.boards.len())?;
+        for board in &self.boards {
+            boards.push_reserved(board.copy(alloc)?);
+        }
+        let hints = self.hints.copy(alloc)?;
+        Ok(Orders { boards, hints })
+    }
+
     /// Makes of each of 64 boards what a command makes of it that was done; `word` has the boards of the person whom it names.
     pub(crate) fn change(&mut self, cmd: &Cmd, named: &Named, word: u64)
         ensures many { length self.new.boards.items ≡ length self.old.boards.items }
