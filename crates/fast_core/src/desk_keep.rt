@@ -1,5 +1,5 @@
 //! What a desk keeps goes on by an entry.
-ghost use Rattle.std.specs.Prelude.{◌≡◌, IfOk};
+ghost use Rattle.std.specs.Prelude.{◌≡◌, ◌↔◌, IfOk};
 ghost use Rattle.desk_model.specs.Opening.{OpeningValue};
 ghost use Rattle.desk_model.specs.History.{History, opened, with_entry};
 ghost use Rattle.desk_model.specs.Legal.{IsNext};
@@ -31,6 +31,23 @@ impl Desk {
             opening,
             last: opening.start(),
             crew: Crew { register, duty },
+            offers,
+            lists,
+        })
+    }
+
+    /// The same again, with memory of its own for all that it may come to keep; `NoMemory` where there is none for it.
+    pub fn copy(&self, alloc: Global) -> Result<Desk, NoMemory>
+        ensures tells { IfOk result (λ d. (h : History) → Tells d h ↔ Tells self.now h) }
+        ensures opening { IfOk result (λ d. d.opening ≡ self.now.opening) }
+    {
+        let crew = self.crew.copy(alloc)?;
+        let offers = self.offers.copy(alloc)?;
+        let lists = self.lists.copy(alloc)?;
+        Ok(Desk {
+            opening: self.opening,
+            last: self.last,
+            crew,
             offers,
             lists,
         })

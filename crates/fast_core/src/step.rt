@@ -1,5 +1,5 @@
 //! A desk that answers what callers state.
-ghost use Rattle.std.specs.Prelude.{◌≡◌, ◌≤◌, ◌<◌, ◌+◌, IfOk};
+ghost use Rattle.std.specs.Prelude.{◌≡◌, ◌↔◌, ◌≤◌, ◌<◌, ◌+◌, IfOk};
 ghost use Rattle.desk_model.specs.declared.limits.TheConstants.{LAST_CALLER};
 ghost use Rattle.desk_model.specs.History.{History, opened, with_entry};
 ghost use Rattle.desk_model.specs.Legal.{moment, next};
@@ -27,6 +27,21 @@ impl FastCore {
     {
         let desk = Desk::new(alloc, opening)?;
         Ok(FastCore { desk, left: steps })
+    }
+
+    /// A desk that stands for the same histories and takes as many further steps. It takes the memory of a new one; `NoMemory` where
+    /// there is none, and this one stays as it is.
+    pub fn copy(&self, alloc: Global) -> Result<FastCore, NoMemory>
+        ensures stands { IfOk result (λ core. (h : History)
+            → ⟦<FastCore as DeskCore>⟧.stands core h ↔ ⟦<FastCore as DeskCore>⟧.stands self.now h) }
+        ensures opening { IfOk result (λ core. ⟦<FastCore as DeskCore>⟧.opening core ≡ ⟦<FastCore as DeskCore>⟧.opening self.now) }
+        ensures room { IfOk result (λ core. ⟦<FastCore as DeskCore>⟧.room core ≡ ⟦<FastCore as DeskCore>⟧.room self.now) }
+    {
+        let desk = self.desk.copy(alloc)?;
+        Ok(FastCore {
+            desk,
+            left: self.left,
+        })
     }
 
     /// As `step`, and counts the nodes that its searches of boards read: for `next` and `offer` at most 44 for each board of the
