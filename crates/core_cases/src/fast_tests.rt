@@ -6,6 +6,7 @@ use fast_core::FastCore;
 use qualifications::{Craft, Quals};
 use std::test::Fail;
 
+mod copies;
 mod days;
 mod drawn;
 mod draws;
