@@ -8,7 +8,7 @@ use Rattle.std.proofs.KnownBytes.{Consumes-trans}
 use Rattle.caller_lines.specs.declared.heard.Heard.{Heard}
 use Rattle.caller_lines.specs.declared.heard.Heard.TheVariants as heard
 use Rattle.caller_lines.specs.Given.{answer_of}
-use Rattle.caller_lines.specs.Takes.{IsUnfed, TookLine, TookLonger, TookUnfed, EndsLine, HasLonger, Takes, CutPart, GotPart, Gathering}
+use Rattle.caller_lines.specs.Takes.{IsUnfed, TookLine, TookLonger, TookUnfed, EndsLine, HasLonger, TookSome, Takes, CutPart, GotPart, Gathering}
 
 -- what is cut from what is held is taken from all that is left
 pub CutPart-got : (held rest before after feed : List ℕ) (count : ℕ) (r : Option (List ℕ))
@@ -51,19 +51,20 @@ IsAtEnd-behind None b h e = tt
 IsAtEnd-behind (Some xs) None h e = absurd h
 IsAtEnd-behind (Some xs) (Some ys) h e = h ∙ e
 
+-- nothing is taken where nothing was asked
+pub Consumes-none : (a : Option (List ℕ)) → Consumes a a []
+Consumes-none None = tt
+Consumes-none (Some xs) = refl
+
 -- at first no part is there
 pub Gathering-none : (a : Option (List ℕ)) → Gathering a a [] 0
 Gathering-none a = record {
   bytes = [];
-  taken = go a;
+  taken = Consumes-none a;
   counted = refl;
   unfed = All-nil (λ byte. byte ≢ 10);
   kept = λ _. refl;
 }
-  where
-    go : (a : Option (List ℕ)) → Consumes a a []
-    go None = tt
-    go (Some xs) = refl
 
 -- a part more
 pub Gathering-more : (a b c : Option (List ℕ)) (before after : List ℕ) (len count : ℕ)
@@ -145,6 +146,10 @@ Gathering-unfed a b c before after len count g p many = record {
   unfed = All-append (λ byte. byte ≢ 10) g.bytes p.part g.unfed p.unfed;
   more = omega (arith, length-append g.bytes p.part, g.counted, p.counted, many);
 }
+
+-- then some bytes were taken, and no others
+pub TookUnfed-some : (a b : Option (List ℕ)) → TookUnfed a b → TookSome a b
+TookUnfed-some a b took = record { bytes = took.bytes ++ took.behind; taken = took.taken }
 
 pub Gathering-unended : (a b : Option (List ℕ)) (into : List ℕ) (len : ℕ) → Gathering a b into len → 16777216 < len → TookUnfed a b
 Gathering-unended a b into len g many = record {

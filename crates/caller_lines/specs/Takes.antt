@@ -58,12 +58,17 @@ pub record HasLonger (left : Option (List ℕ)) : Type 0 where
   pub longer : 512 < length line
   pub most : length line ≤ 16777216
 
--- what was taken of the bytes that were left where a line gave this; of a fault nothing is told
+-- some bytes were taken from the front, and no others
+pub record TookSome (old new : Option (List ℕ)) : Type 0 where
+  pub bytes : List ℕ
+  pub taken : Consumes old new bytes
+
+-- what was taken of the bytes that were left where a line gave this; of a fault only that it came from the front
 abbrev pub Takes : Option (List ℕ) → Option (List ℕ) → Given → Type 0
 Takes old new (GaveLine line) = TookLine old new line × (length line ≤ 512)
 Takes old new GaveTooLong = TookLonger old new
 Takes old new GaveEnd = IsAtEnd old × IsAtEnd new
-Takes old new GaveFailed = ⊤
+Takes old new GaveFailed = TookSome old new
 
 -- a part of a line was cut from the front of what was held, with what ends it, and was added if it fits
 pub record CutPart (held rest before after feed : List ℕ) (count : ℕ) : Type 0 where
@@ -88,12 +93,12 @@ pub record GotPart (old new : Option (List ℕ)) (before after feed : List ℕ) 
   pub unfed : IsUnfed part
   pub kept : length before + count ≤ 512 → after ≡ before ++ part
 
--- what was taken of the bytes that were left
+-- what was taken of the bytes that were left; where the reader had a fault, none
 abbrev pub Gathers : Option (List ℕ) → Option (List ℕ) → List ℕ → List ℕ → Gathered → Type 0
 Gathers old new before after (Fed count) = GotPart old new before after (10 ∷ []) count
 Gathers old new before after (Part count) = GotPart old new before after [] count
 Gathers old new before after End = IsAtEnd old × IsAtEnd new × Consumes old new [] × (after ≡ before)
-Gathers old new before after Failed = ⊤
+Gathers old new before after Failed = Consumes old new []
 
 -- the parts of a line so far
 pub record Gathering (old now : Option (List ℕ)) (into : List ℕ) (len : ℕ) : Type 0 where

@@ -1,6 +1,6 @@
 ghost use Rattle.std.specs.Prelude.{◌≡◌, ◌≢◌, ◌↔◌, ◌⊎◌, ◌≤◌, ◌<◌, ◌+◌, ◌++◌, length, [], false, None, IsTrue, IsNone, IfSome};
 ghost use Rattle.std.specs.Bool.{OnTrue, OnFalse};
-ghost use Rattle.desk_io.specs.Faults.{Rose};
+ghost use Rattle.desk_io.specs.Faults.{Rose, one_more};
 ghost use Rattle.caller_lines.specs.FileLine.{HasNoFile, IsSomeBytes, Wrote};
 ghost use Rattle.std.specs.Io.KnownBytes.{Consumes, IsAtEnd};
 ghost use Rattle.caller_lines.specs.Takes.{left_of, Takes, TookUnfed, HasLonger, Gathers, Cuts};
@@ -76,6 +76,7 @@ impl<R: Read + Drop, W: Write + Drop> CallerLine for FileLine<R, W> {
         ensures later { self.old.faults ≤ self.new.faults }
         ensures cause { result ≡ Heard.Failed → Rose self.old.faults self.new.faults }
         ensures no_fault { result ≢ Heard.Failed → self.new.faults ≡ self.old.faults }
+        ensures count { result ≡ Heard.Failed → self.new.faults ≡ one_more self.old.faults }
 
         // It fails only where the reader gave an error, a file is missing, or a line has more bytes than may be skipped.
         ensures fault { result ≡ Heard.Failed → Rose self.old.errors self.new.errors ⊎ (HasNoFile self.old
@@ -102,6 +103,7 @@ impl<R: Read + Drop, W: Write + Drop> CallerLine for FileLine<R, W> {
         ensures later { self.old.faults ≤ self.new.faults }
         ensures cause { OnFalse result (Rose self.old.faults self.new.faults) }
         ensures no_fault { OnTrue result (self.new.faults ≡ self.old.faults) }
+        ensures count { OnFalse result (self.new.faults ≡ one_more self.old.faults) }
 
         // It fails only where the writer gave an error or a file is missing.
         ensures fault { OnFalse result (Rose self.old.errors self.new.errors ⊎ HasNoFile self.old) }
@@ -216,8 +218,7 @@ impl<R: Read, W: Write> FileLine<R, W> {
         ensures no_error { OnTrue result (self.new.errors ≡ self.old.errors) }
         ensures later_error { self.old.errors ≤ self.new.errors }
         ensures there { IsNone self.new.reader → IsNone self.old.reader }
-        ensures kept { OnTrue result
-            (Consumes (left_of R.remaining self.old) (left_of R.remaining self.new) []) }
+        ensures kept { Consumes (left_of R.remaining self.old) (left_of R.remaining self.new) [] }
         ensures end { OnTrue result (self.new.held ≡ [] → IsAtEnd (left_of R.remaining self.new)) }
         ensures writer { self.new.writer ≡ self.old.writer }
         ensures faults { self.new.faults ≡ self.old.faults }

@@ -1,10 +1,13 @@
 use Rattle.std.proofs.Common.{◌≡◌, ◌∙◌, inr, arith}
-use Rattle.caller_lines.proofs.TakeLemmas.{Gathering-short, Gathering-long, Gathering-more, Gathering-ended_short, Gathering-ended_long, Gathering-unfed}
+use Rattle.caller_lines.proofs.TakeLemmas.{Gathering-short, Gathering-long, Gathering-more, Gathering-ended_short, Gathering-ended_long, Gathering-unfed, TookUnfed-some}
 use Rattle.caller_lines.proofs.file_line.FileLine.read_line.Goals as goal
 
 pub returns-in-Fed-clause-fault : goal.returns-in-Fed-clause-fault
 returns-in-Fed-clause-fault g c = λ failed.
     inr (inr (Gathering-unfed _ _ _ _ _ _ _ c.loop-len.invariant.so_far c.in-Fed.ensures.gathers (omega arith)))
+
+pub returns-in-Fed-clause-takes : goal.returns-in-Fed-clause-takes
+returns-in-Fed-clause-takes g c = TookUnfed-some _ _ (Gathering-unfed _ _ _ _ _ _ _ c.loop-len.invariant.so_far c.in-Fed.ensures.gathers (omega arith))
 
 pub returns-in-Fed-2-clause-takes : goal.returns-in-Fed-2-clause-takes
 returns-in-Fed-2-clause-takes g c =

@@ -1,4 +1,4 @@
-use Rattle.std.proofs.Common.{◌≡◌, ◌∙◌, ap, rules}
+use Rattle.std.proofs.Common.{◌∙◌, ap}
 use Rattle.caller_lines.specs.LineCalls.{texts_in}
 use Rattle.caller_lines.proofs.PutLemmas.{texts_in-asked}
 use Rattle.caller_lines.proofs.memory_line.MemoryLineCallerLine.next.Goals as goal
