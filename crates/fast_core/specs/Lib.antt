@@ -3,3 +3,4 @@ pub mod Desk
 pub mod Judged
 pub mod Search
 pub mod Core
+pub mod Question

@@ -1,6 +1,7 @@
 //! A desk that keeps its boards, offers and clocks as they stand, and answers each command by looking them up.
 #![tactic(auto)]
 
+mod ask;
 mod call;
 mod candidate;
 mod candidate_facts;

@@ -1,0 +1,2 @@
+mod GoneLemmas
+mod FoundLemmas
