@@ -10,6 +10,7 @@ mod copies;
 mod days;
 mod drawn;
 mod draws;
+mod forecasts;
 mod kinds;
 
 // The minute of a time of the day, 14 March 2024.

@@ -5,7 +5,7 @@ use super::kinds::{FIRST_KINDS, SECOND_KINDS, kind};
 use super::{at, opening};
 use crate::commands::take;
 use desk_base::{Minute, VacNo};
-use desk_model::{Cmd, Edition, Reply};
+use desk_model::{Cmd, Edition, Reply, Stated};
 use fast_core::FastCore;
 use plain_core::PlainCore;
 use std::alloc::Global;
@@ -42,6 +42,15 @@ fn day_after(day: &Day, cmd: &Option<Cmd>, minutes: u32, reply: &Reply) -> Day {
     after
 }
 
+// A day at its beginning.
+fn first_day() -> Option<Day> {
+    Some(Day {
+        now: at(b"00:00")?.number(),
+        vac: 1,
+        person: 1,
+    })
+}
+
 // How many minutes time goes on after a step: none while the boards are set up, few in the first hours, and then up to an hour and
 // a half.
 fn minutes_after(draws: &mut Draws, step: u32) -> u32 {
@@ -72,11 +81,7 @@ fn first_otherwise(
     let mut plain = PlainCore::new(alloc, opening(edition).ok_or("no opening")?, 100_000)?;
     let mut fast = FastCore::new(alloc, opening(edition).ok_or("no opening")?, 100_000)?;
     let mut draws = Draws { state: seed };
-    let mut day = Day {
-        now: at(b"00:00").ok_or("no minute")?.number(),
-        vac: 1,
-        person: 1,
-    };
+    let mut day = first_day().ok_or("no minute")?;
     for step in 0..COMMANDS {
         let state = draws.state();
         let minute = minute_of(&mut draws, &day, step);
@@ -90,6 +95,36 @@ fn first_otherwise(
         day = day_after(&day, &command(&day, step, state), minutes, &looked.1);
     }
     Ok(None)
+}
+
+/// The commands of a drawn day: the first so many, each as it is stated where a desk has answered those before it.
+pub fn drawn_commands(
+    alloc: Global,
+    edition: Edition,
+    seed: u64,
+    count: u32,
+) -> Result<Vec<Stated>, Fail> {
+    let mut core = FastCore::new(
+        alloc,
+        opening(edition).ok_or("no opening")?,
+        u64::from(count),
+    )?;
+    let mut draws = Draws { state: seed };
+    let mut day = first_day().ok_or("no minute")?;
+    let mut commands = Vec::new(alloc);
+    for step in 0..count {
+        let state = draws.state();
+        let minute = minute_of(&mut draws, &day, step).ok_or("no minute")?;
+        let cmd = command(&day, step, state);
+        let stated = cmd
+            .and_then(|cmd| Stated::new(minute, cmd))
+            .ok_or("no command")?;
+        let (_, reply) = take(&mut core, Some(minute), cmd).ok_or("no step")?;
+        commands.push(stated)?;
+        let minutes = minutes_after(&mut draws, step);
+        day = day_after(&day, &cmd, minutes, &reply);
+    }
+    Ok(commands)
 }
 
 // The first step of any day that the desks answer otherwise, and the kinds of replies that were reached.

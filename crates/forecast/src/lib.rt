@@ -1,0 +1,14 @@
+//! What would be: the answers to commands that are only supposed, and from when on somebody may be offered a vacancy. The desk that is
+//! asked stays as it is.
+#![tactic(auto)]
+
+mod earliest_time;
+mod laws;
+mod suppose_fault;
+mod supposed;
+
+pub use earliest_minute::Earliest;
+pub use earliest_time::when;
+pub use laws::a_history_goes_on_as_supposed;
+pub use suppose_fault::SupposeFault;
+pub use supposed::{answer_each, suppose};
