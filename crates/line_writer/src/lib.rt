@@ -12,9 +12,10 @@ mod stated_line;
 mod tally;
 mod wrong_line;
 
+pub use bar_line::{put_bar, put_late};
 pub use entry_line::{fill_with_entry, write_entry};
-pub use line_text::LineText;
+pub use line_text::{LineText, put, put_byte};
 pub use opening_line::write_opening;
 pub use outcome_line::{fill_with_outcome, write_bar, write_outcome};
-pub use tally::{Tally, a_tally_adds_up};
+pub use tally::{Tally, a_tally_adds_up, put_count};
 pub use wrong_line::write_wrong;

@@ -87,8 +87,8 @@ impl Tally {
     }
 }
 
-// Adds a line with a word and a number, 20 digits at most.
-fn put_count(text: &mut LineText, word: &[u8], count: u64)
+/// Adds a line with a word and a number, 20 digits at most.
+pub fn put_count(text: &mut LineText, word: &[u8], count: u64)
     requires { array_vec_len text.old + length word.now + 22 ≤ 512 }
     ensures text { text.new.items ≡ text.old.items ++ count_line word.now count }
     ensures len { array_vec_len text.new ≤ array_vec_len text.old + length word.now + 22 }
