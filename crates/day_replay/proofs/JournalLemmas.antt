@@ -1,17 +1,18 @@
 -- The journal of a day grows by the lines of the entries, one after another.
-use Rattle.std.proofs.Common.{◌≡◌, ℕ, ◌+◌, Option, None, Some, List, [], ◌∷◌, ◌++◌, length, map, take, drop, take-append-drop, refl, sym, ap, subst, ◌∙◌, arith, append-nil, length-append, append_assoc}
+use Rattle.std.proofs.Common.{◌≡◌, ℕ, ◌+◌, ◌<◌, Option, None, Some, List, [], ◌∷◌, ◌++◌, length, get_or, map, take, drop, take-append-drop, sym, ap, subst, ◌∙◌, arith, append-nil, length-append, append_assoc}
 use Rattle.std.specs.Io.KnownBytes.{Appends, Keeps}
 use Rattle.std.proofs.KnownBytes.{Appends-trans, Appends-nil}
-use Rattle.std.proofs.lemmas.List.{take-append-le}
+use Rattle.std.proofs.lemmas.List.{take-append-le, take_more, flat_map_more}
+use Rattle.std.proofs.lemmas.Grind.{flat_map-append}
 use Rattle.std.proofs.Math.Seq.{take-append-add}
 use Rattle.desk_io.specs.Giving.{AddsFront}
-use Rattle.line_writer.proofs.JournalLemmas.{journal-append, journal-next}
+use Rattle.line_writer.proofs.JournalLemmas.{journal-next}
 use Rattle.desk_model.specs.Entry.{EntryValue}
 use Rattle.desk_model.specs.Opening.{OpeningValue}
 use Rattle.desk_model.specs.Statement.{StatedValue}
 use Rattle.desk_model.specs.History.{History, history_of, with_entry}
 use Rattle.desk_model.specs.Legal.{next, history_from}
-use Rattle.desk_model.specs.Journal.{entry_line, entry_lines, journal}
+use Rattle.desk_model.specs.Journal.{opening_line, entry_line, entry_lines, journal}
 use Rattle.day_replay.specs.Gathered.{Gathers}
 use Rattle.day_replay.specs.Replay.{by_the_day_file, goes_on}
 use Rattle.day_replay.proofs.HistoryLemmas.{goes_on-behind}
@@ -27,19 +28,15 @@ AddsFront-after a b c text more before front = record {
 }
 
 -- a front of a text is one of a longer text
-AddsFront-longer : (a b : Option (List ℕ)) (text more : List ℕ) → AddsFront a b text → AddsFront a b (text ++ more)
+pub AddsFront-longer : (a b : Option (List ℕ)) (text more : List ℕ) → AddsFront a b text → AddsFront a b (text ++ more)
 AddsFront-longer a b text more front = record {
   count = front.count;
   within = omega (arith, front.within, length-append text more);
   added = subst (Appends a b) (sym (take-append-le front.count text more (omega (arith, front.within)))) front.added;
 }
 
--- nothing was gathered yet
-pub Gathers-none : (a : Option (List ℕ)) → Gathers a a [] []
-Gathers-none a = record { put = []; added = Appends-nil a; parts = refl }
-
 -- what is gathered behind what waits is gathered behind all
-Gathers-more : (a b c : Option (List ℕ)) (text waiting line later : List ℕ) → Gathers a b text waiting → Gathers b c (waiting ++ line) later → Gathers a c (text ++ line) later
+pub Gathers-more : (a b c : Option (List ℕ)) (text waiting line later : List ℕ) → Gathers a b text waiting → Gathers b c (waiting ++ line) later → Gathers a c (text ++ line) later
 Gathers-more a b c text waiting line later before next = record {
   put = before.put ++ next.put;
   added = Appends-trans a b c before.put next.put before.added next.added;
@@ -55,6 +52,54 @@ Appends-gathered a b c text waiting before put =
 pub AddsFront-gathered : (a b c : Option (List ℕ)) (text waiting : List ℕ) → Gathers a b text waiting → AddsFront b c waiting → AddsFront a c text
 AddsFront-gathered a b c text waiting before front =
     subst (AddsFront a c) (sym before.parts) (AddsFront-after a b c before.put waiting before.added front)
+
+-- and where a front of it and of more was, a front of all and of that was
+pub AddsFront-more : (a b c : Option (List ℕ)) (text waiting more : List ℕ) → Gathers a b text waiting → AddsFront b c (waiting ++ more) → AddsFront a c (text ++ more)
+AddsFront-more a b c text waiting more before front =
+    subst (AddsFront a c) (sym (ap (λ t. t ++ more) before.parts ∙ append_assoc before.put waiting more)) (AddsFront-after a b c before.put (waiting ++ more) before.added front)
+
+-- ---- lines of entries
+
+-- no line was gathered yet
+pub Gathers-no_lines : (a : Option (List ℕ)) (waiting : List ℕ) (entries : List EntryValue) → Gathers a a (waiting ++ entry_lines (take 0 entries)) waiting
+Gathers-no_lines a waiting entries = record { put = []; added = Appends-nil a; parts = append-nil waiting }
+
+-- what was gathered with the line of the next entry are the lines of one entry more
+pub Gathers-line : (a b c : Option (List ℕ)) (front : List ℕ) (entries : List EntryValue) (place : ℕ) (e : EntryValue) (line waiting gathered : List ℕ)
+    → place < length entries → e ≡ get_or entries place e → line ≡ entry_line e
+    → Gathers a b (front ++ entry_lines (take place entries)) waiting → Gathers b c (waiting ++ line) gathered
+    → Gathers a c (front ++ entry_lines (take (place + 1) entries)) gathered
+Gathers-line a b c front entries place e line waiting gathered within at spelled before next =
+    subst (λ t. Gathers a c t gathered)
+    (ap (λ l. (front ++ entry_lines (take place entries)) ++ l) spelled
+    ∙ flat_map_more entry_line front (take place entries) e
+    ∙ ap (λ es. front ++ entry_lines es) (ap (λ x. take place entries ++ x ∷ []) at ∙ sym (take_more entries place e within)))
+    (Gathers-more a b c (front ++ entry_lines (take place entries)) waiting line gathered before next)
+
+-- a front of the lines of the first entries is one of those of all
+pub AddsFront-lines : (a b : Option (List ℕ)) (front : List ℕ) (entries : List EntryValue) (place : ℕ)
+    → AddsFront a b (front ++ entry_lines (take place entries)) → AddsFront a b (front ++ entry_lines entries)
+AddsFront-lines a b front entries place put =
+    subst (AddsFront a b)
+    (append_assoc front (entry_lines (take place entries)) (entry_lines (drop place entries))
+    ∙ ap (λ t. front ++ t) (sym (flat_map-append entry_line (take place entries) (drop place entries)) ∙ ap entry_lines (take-append-drop place entries)))
+    (AddsFront-longer a b (front ++ entry_lines (take place entries)) (entry_lines (drop place entries)) put)
+
+-- what was gathered where nothing waited with the line of an opening, and then with those of entries, is a journal
+pub Gathers-history : (a b c : Option (List ℕ)) (none line first waiting : List ℕ) (o : OpeningValue) (entries : List EntryValue) → none ≡ [] → line ≡ opening_line o
+    → Gathers a b (none ++ line) first → Gathers b c (first ++ entry_lines entries) waiting → Gathers a c (journal (history_of o entries)) waiting
+Gathers-history a b c none line first waiting o entries empty spelled before next =
+    subst (λ t. Gathers a c t waiting)
+    (ap (λ l. (none ++ l) ++ entry_lines entries) spelled ∙ ap (λ n. (n ++ opening_line o) ++ entry_lines entries) empty)
+    (Gathers-more a b c (none ++ line) first (entry_lines entries) waiting before next)
+
+-- and where a front of the lines of the entries was put, a front of that
+pub AddsFront-history : (a b c : Option (List ℕ)) (none line first : List ℕ) (o : OpeningValue) (entries : List EntryValue) → none ≡ [] → line ≡ opening_line o
+    → Gathers a b (none ++ line) first → AddsFront b c (first ++ entry_lines entries) → AddsFront a c (journal (history_of o entries))
+AddsFront-history a b c none line first o entries empty spelled before put =
+    subst (AddsFront a c)
+    (ap (λ l. (none ++ l) ++ entry_lines entries) spelled ∙ ap (λ n. (n ++ opening_line o) ++ entry_lines entries) empty)
+    (AddsFront-more a b c (none ++ line) first (entry_lines entries) before put)
 
 -- what is put into a sink that holds what it held
 pub Appends-kept : (a b c : Option (List ℕ)) (text : List ℕ) → Keeps a b → Appends b c text → Appends a c text
@@ -99,10 +144,3 @@ AddsFront-journal a b h commands place front =
     let first = goes_on h (take place commands) in
     let more = journal-grows first (map by_the_day_file (drop place commands)) in
     subst (AddsFront a b) (sym more.1 ∙ ap journal (goes_on-behind h commands place)) (AddsFront-longer a b (journal first) more.0 front)
-
--- a front of the journal of the first entries is one of that of all
-pub AddsFront-entries : (a b : Option (List ℕ)) (o : OpeningValue) (entries : List EntryValue) (place : ℕ)
-    → AddsFront a b (journal (history_of o (take place entries))) → AddsFront a b (journal (history_of o entries))
-AddsFront-entries a b o entries place front =
-    subst (AddsFront a b) (sym (journal-append (history_of o (take place entries)) (drop place entries)) ∙ ap (λ es. journal (history_of o es)) (take-append-drop place entries))
-    (AddsFront-longer a b (journal (history_of o (take place entries))) (entry_lines (drop place entries)) front)

@@ -1,3 +1,4 @@
+pub mod ForecastLemmas
 pub mod HistoryLemmas
 pub mod InputLemmas
 pub mod JournalLemmas

@@ -1,3 +1,4 @@
 pub mod Ends
+pub mod Forecast
 pub mod Gathered
 pub mod Replay

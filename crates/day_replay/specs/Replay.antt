@@ -17,6 +17,7 @@ use Rattle.command_parser.specs.DayFile.{IsDayFile, IsSomeDayFile, HasTooMany, H
 use Rattle.day_replay.specs.declared.day_form.DayForm.{DayForm}
 use Rattle.day_replay.specs.declared.day_form.DayForm.TheVariants as form
 use Rattle.day_replay.specs.declared.limits.TheConstants.{BYTE_LIMIT}
+use Rattle.day_replay.specs.Forecast.{forecast_text, when_text}
 use Rattle.day_replay.specs.Ends.{WasRead, WritesOrFails, Tells, TellsMore, EndsAs}
 
 -- stated by caller 0, as a day file's commands are
@@ -47,10 +48,13 @@ pub record Replays (before after : Option (List ℕ)) (text : History → List �
   pub replay : IsReplay opening commands history
   pub written : Writes (text history)
 
--- what is written of a history: its journal or its tally
+-- what is written of a history: its journal or its tally; the journal of all entries but the last, and these as what would be answered;
+-- or from when on a person may be offered a vacancy
 abbrev pub text_of : DayForm → History → List ℕ
 text_of form.Replay h = journal h
 text_of form.Tally h = tally_text h
+text_of (form.Forecast asked) h = forecast_text asked h
+text_of (form.When vac person) h = when_text vac person h
 
 -- a day file with a wrong field was read, and this was done with the line that says which
 pub record FindsWrong (before after : Option (List ℕ)) (Writes : List ℕ → Type 0) : Type 0 where

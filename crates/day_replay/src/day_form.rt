@@ -1,3 +1,5 @@
+use desk_base::{PersonNo, VacNo};
+
 /// What is written of a day file.
 #[derive(Clone, Copy)]
 pub enum DayForm {
@@ -5,4 +7,16 @@ pub enum DayForm {
     Replay,
     /// The tally of its replay.
     Tally,
+    /// The journal of all commands but the last, and what would be answered to those.
+    Forecast {
+        /// How many of the last commands are only supposed; all where there are fewer.
+        supposed: u32,
+    },
+    /// From when on a person may be offered a vacancy, as things stand after all commands.
+    When {
+        /// The vacancy.
+        vac: VacNo,
+        /// The person.
+        person: PersonNo,
+    },
 }

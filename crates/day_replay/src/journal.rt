@@ -10,6 +10,7 @@ ghost use Rattle.day_replay.specs.Gathered.{Gathers};
 ghost use Rattle.day_replay.specs.Replay.{day_history, goes_on};
 
 use crate::gather;
+use crate::lines::gather_lines;
 use desk_io::{Sink, put_all};
 use desk_model::{DeskCore, Entry, Opening, Stated};
 use line_writer::{LineText, fill_with_entry, write_opening};
@@ -41,6 +42,29 @@ pub fn write_journal<C: DeskCore, K: Sink>(
         && write_entries(core, commands, buffer, sink)
 }
 
+/// Gathers the journal of a history that was opened so and has these entries in the buffer, which is put into the sink where a line
+/// doesn't fit. It says whether the sink took what was put, and stops at the first fault.
+pub(crate) fn gather_history<K: Sink>(
+    buffer: &mut Vec<u8>,
+    opening: &Opening,
+    entries: &[Entry],
+    sink: &mut K,
+) -> bool
+    requires empty { buffer.old.items ≡ [] }
+    requires room { 512 ≤ vec_capacity buffer.old }
+    ensures all { OnTrue result (Gathers (K.held sink.old) (K.held sink.new)
+        (journal (history_of opening.now entries.now)) buffer.new.items) }
+    ensures front { OnFalse result (AddsFront (K.held sink.old) (K.held sink.new)
+        (journal (history_of opening.now entries.now))) }
+    ensures capacity { vec_capacity buffer.old ≤ vec_capacity buffer.new }
+
+    ensures later { K.faults sink.old ≤ K.faults sink.new }
+    ensures cause { OnFalse result (Rose (K.faults sink.old) (K.faults sink.new)) }
+    ensures no_fault { OnTrue result (K.faults sink.new ≡ K.faults sink.old) }
+{
+    gather(buffer, write_opening(opening).as_slice(), sink) && gather_lines(buffer, entries, sink)
+}
+
 /// Writes the journal of a history that was opened so and has these entries, as many lines at once as the buffer holds. It says
 /// whether the sink took all lines, and stops at the first fault.
 pub fn write_history<K: Sink>(
@@ -60,19 +84,7 @@ pub fn write_history<K: Sink>(
     ensures cause { OnFalse result (Rose (K.faults sink.old) (K.faults sink.new)) }
     ensures no_fault { OnTrue result (K.faults sink.new ≡ K.faults sink.old) }
 {
-    if !gather(buffer, write_opening(opening).as_slice(), sink) {
-        return false;
-    }
-    let mut line = LineText::new();
-    let mut stated_last = LastMinute::new();
-    let mut moment_last = LastMinute::new();
-    for entry in entries {
-        fill_with_entry(&mut line, &mut stated_last, &mut moment_last, entry);
-        if !gather(buffer, line.as_slice(), sink) {
-            return false;
-        }
-    }
-    put_all(sink, buffer)
+    gather_history(buffer, opening, entries, sink) && put_all(sink, buffer)
 }
 
 /// Steps a desk through the commands as caller 0, and writes the lines of its entries behind the journal of its history so far,

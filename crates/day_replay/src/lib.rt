@@ -1,13 +1,17 @@
-//! Day files replayed: taken from a source, and their journal or tally written to a sink.
+//! Day files replayed: taken from a source, and their journal, their tally or what would be written to a sink.
 #![tactic(auto)]
 
+mod day_forecast;
 mod day_form;
 mod day_input;
 mod day_tally;
+mod day_when;
+mod earliest_line;
 mod journal;
 mod limits;
 mod lines;
 mod replay;
+mod supposed_line;
 
 pub use day_form::DayForm;
 pub use day_input::{take_day, tell_wrong};

@@ -7,7 +7,10 @@ ghost use Rattle.command_parser.specs.DayFile.{HasTooMany, HasNoOpening};
 ghost use Rattle.day_replay.specs.Ends.{WasRead, WritesOrFails, writes};
 ghost use Rattle.day_replay.specs.Replay.{Replays, FindsWrong, EndsByTheDay, day_history, text_of};
 
+use crate::day_forecast::{forecast_day, write_forecast};
 use crate::day_tally::tally_day;
+use crate::day_when::when_after;
+use crate::earliest_line::write_earliest;
 use crate::{BYTE_LIMIT, DayForm, take_day, write_journal};
 use command_parser::DayFile;
 use desk_io::{Sink, Source, Status, put_all};
@@ -18,9 +21,10 @@ use std::alloc::Global;
 // How many bytes of the journal are put into the sink at once, at most.
 const BUFFER_BYTES: usize = 65_536;
 
-/// Reads a day file from the source, replays its commands and writes the journal or the tally to the sink; where a field of the
-/// file is wrong it writes a line that says which, or a front of it where the sink has a fault. It reads all of its input, and
-/// takes all memory for the replay, before it writes anything.
+/// Reads a day file from the source, replays its commands and writes what is asked for to the sink: the journal, the tally, what would
+/// be answered to the last commands, or from when on somebody may be offered a vacancy; where a field of the file is wrong it writes a
+/// line that says which, or a front of it where the sink has a fault. It reads all of its input, and takes all memory for the replay,
+/// before it writes anything.
 pub fn replay_day<S: Source, K: Sink>(
     alloc: Global,
     form: DayForm,
@@ -99,6 +103,22 @@ fn print_day<K: Sink>(alloc: Global, form: DayForm, day: &DayFile, sink: &mut K)
         DayForm::Tally => {
             let tally = tally_day(&mut core, &day.opening, &day.commands);
             put_all(sink, tally.write().as_slice())
+        }
+        DayForm::Forecast { supposed } => {
+            let Ok(told) = forecast_day(alloc, &mut core, &day.commands, supposed) else {
+                return Status::NoMemory;
+            };
+            write_forecast(
+                &day.opening,
+                &told.answered,
+                &told.supposed,
+                &mut buffer,
+                sink,
+            )
+        }
+        DayForm::When { vac, person } => {
+            let told = when_after(&mut core, &day.commands, vac, person);
+            put_all(sink, write_earliest(&told).as_slice())
         }
     };
     if whole {

@@ -1,6 +1,9 @@
 use Rattle.std.proofs.Common.{◌∙◌, sym}
+use Rattle.desk_model.specs.History.{opened}
+use Rattle.day_replay.specs.Replay.{day_history}
+use Rattle.day_replay.proofs.ForecastLemmas.{forecast_text-parted, when_text-told}
 use Rattle.day_replay.proofs.replay.print_day.Goals as goal
-use Rattle.day_replay.proofs.replay.print_day.Goals.{in-Replay, in-Tally}
+use Rattle.day_replay.proofs.replay.print_day.Goals.{in-Replay, in-Tally, in-Forecast+in-Ok-forecast_day, in-When}
 
 pub returns-then-whole-clause-fine : goal.returns-then-whole-clause-fine
 returns-then-whole-clause-fine g c = λ fine. elim c.match-form.branch [
@@ -11,6 +14,14 @@ returns-then-whole-clause-fine g c = λ fine. elim c.match-form.branch [
       let text = w.as_slice.ensures.value ∙ w.write.ensures _ (rw (w.deref-in-Tally.ensures.value) at w.tally_day-tally.ensures) in
       let put = rw (sym w.whole-is ∙ c.if-whole.true, text) at w.put_all-whole.ensures.all in
       rw (w.in-Tally.is, w.sink-is) put
+  | in-Forecast+in-Ok-forecast_day w ↦
+      let parted = rw (w.deref-in-Forecast.ensures.value) at (w.in-Ok-forecast_day.ensures c.args.day.now.opening c.in-Ok.ensures.stands) in
+      let put = rw (sym w.whole-is ∙ c.if-whole.true, w.deref-in-Forecast-2.ensures.value, w.deref-in-Forecast-3.ensures.value) at w.write_forecast-whole.ensures.all in
+      rw (w.in-Forecast.is, w.sink-is, forecast_text-parted _ _ _ _ _ parted) put
+  | in-When w ↦
+      let told = rw (w.deref-in-When.ensures.value) at (w.when_after-told.ensures (opened c.args.day.now.opening) c.in-Ok.ensures.stands) in
+      let put = rw (sym w.whole-is ∙ c.if-whole.true, w.as_slice-in-When.ensures.value ∙ w.write_earliest.ensures) at w.put_all-whole-in-When.ensures.all in
+      rw (w.in-When.is, w.sink-is, when_text-told _ _ (day_history c.args.day.now.opening c.args.day.now.commands.items) _ told) put
 ]
 
 pub returns-clause-write_fault : goal.returns-clause-write_fault
@@ -22,4 +33,12 @@ returns-clause-write_fault g c = λ fault. elim c.match-form.branch [
       let text = w.as_slice.ensures.value ∙ w.write.ensures _ (rw (w.deref-in-Tally.ensures.value) at w.tally_day-tally.ensures) in
       let put = rw (sym w.whole-is ∙ c.if-whole.false, text) at w.put_all-whole.ensures.front in
       rw (w.in-Tally.is, w.sink-is) put
+  | in-Forecast+in-Ok-forecast_day w ↦
+      let parted = rw (w.deref-in-Forecast.ensures.value) at (w.in-Ok-forecast_day.ensures c.args.day.now.opening c.in-Ok.ensures.stands) in
+      let put = rw (sym w.whole-is ∙ c.if-whole.false, w.deref-in-Forecast-2.ensures.value, w.deref-in-Forecast-3.ensures.value) at w.write_forecast-whole.ensures.front in
+      rw (w.in-Forecast.is, w.sink-is, forecast_text-parted _ _ _ _ _ parted) put
+  | in-When w ↦
+      let told = rw (w.deref-in-When.ensures.value) at (w.when_after-told.ensures (opened c.args.day.now.opening) c.in-Ok.ensures.stands) in
+      let put = rw (sym w.whole-is ∙ c.if-whole.false, w.as_slice-in-When.ensures.value ∙ w.write_earliest.ensures) at w.put_all-whole-in-When.ensures.front in
+      rw (w.in-When.is, w.sink-is, when_text-told _ _ (day_history c.args.day.now.opening c.args.day.now.commands.items) _ told) put
 ]
