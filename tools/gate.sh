@@ -1,7 +1,8 @@
 #!/bin/sh
 # gate.sh: the gate. It proves everything from nothing, tries the edits that must fail and runs the tests (`rt ci`);
 # then it runs the examples and the cases of `runs.py` and `texts.py` on the program that this has built, reads again what it writes,
-# has it serve callers over pipes, and compares crates.txt and the table of promises with the sources.
+# compares what it says would be with what is, has it serve callers over pipes, and compares crates.txt and the table of promises with
+# the sources.
 # The last line has the figures. All that is printed is also kept in build/gate.log.
 cd "$(dirname "$0")/.." || exit 2
 log=build/gate.log
@@ -21,6 +22,7 @@ journals='not run'
 callers='not run'
 runs='not run'
 texts='not run'
+forecasts='not run'
 if [ $failed = 0 ]; then
     kept sh examples/compare.sh crates/crewdesk_main/out/crewdesk_main || failed=1
     examples=$(tail -n 1 "$log")
@@ -32,6 +34,8 @@ if [ $failed = 0 ]; then
     runs=$(tail -n 1 "$log")
     kept python3 -B tools/texts.py crates/crewdesk_main/out/crewdesk_main || failed=1
     texts=$(tail -n 1 "$log")
+    kept python3 -B tools/forecasts.py crates/crewdesk_main/out/crewdesk_main || failed=1
+    forecasts=$(tail -n 1 "$log")
 fi
 kept python3 -B tools/listed.py || failed=1
 listed=$(tail -n 1 "$log")
@@ -39,5 +43,5 @@ kept sh tools/promises.sh || failed=1
 promises=$(tail -n 1 "$log")
 rm -f build/gate.status
 [ $failed = 0 ] || echo "build/gate.log says what failed"
-echo "gate: $proofs; examples: $examples; journals: $journals; callers: $callers; runs: $runs; texts: $texts; crates: $listed; promises: $promises"
+echo "gate: $proofs; examples: $examples; journals: $journals; callers: $callers; runs: $runs; texts: $texts; forecasts: $forecasts; crates: $listed; promises: $promises"
 [ $failed = 0 ]

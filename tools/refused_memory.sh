@@ -1,6 +1,6 @@
 #!/bin/sh
 # refused_memory.sh PROGRAM: runs the program on examples again and again, and refuses it each request for memory in turn, the words'
-# among them: a replay, an audit, the records of tours, and a caller who is served. Each run must end with status 6 and `no memory`, and
+# among them: a replay, an audit, the records of tours, what would be, and a caller who is served. Each run must end with status 6 and `no memory`, and
 # write nothing; or with status 0 and all that is written without a refusal; or, of the caller, with status 0 and the reply `no memory`
 # to a line that was not taken. It stops where 64 runs on end are as without a refusal. It needs a C compiler and a linker that loads
 # before others what LD_PRELOAD names, so it is no part of the gate.
@@ -72,7 +72,7 @@ refuse() {
 }
 
 refuse "$examples/first_offer/stdout" '' "$examples/first_offer/stdin" replay
-for example in a_legal_journal the_record_of_a_tour; do
+for example in a_legal_journal the_record_of_a_tour two_commands_supposed who_is_free_when_their_rest_ends; do
     # shellcheck disable=SC2046
     refuse "$examples/$example/stdout" '' "$examples/$example/stdin" $(cat "$examples/$example/args")
 done

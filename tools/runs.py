@@ -186,6 +186,65 @@ REPLAYS = [
     *table(('serve', 'nobody'), ('a caller whose file is not there', FIRST_OFFER, FINE, FIRST_OFFER_JOURNAL)),
 ]
 
+# Forecasts.
+
+
+def supposing(count):
+    """The journal of the first offer, its last entries supposed."""
+    lines = FIRST_OFFER_JOURNAL.splitlines(keepends=True)
+    return b''.join([*lines[:6 - count], b'supposed %d\n' % count, *lines[6 - count:]])
+
+
+# Two who rest till 07:30, the first of them also from too long a tour, to 09:00; nobody else is on the board.
+RESTING = b"""\
+2024-03-04 00:00,open,2024-03,1,15
+2024-03-04 00:01,board,P1,pool,HOM
+2024-03-04 00:01,enrol,101,E,HOM,-
+2024-03-04 00:01,enrol,102,E,HOM,-
+2024-03-04 00:01,enrol,103,E,HOM,-
+2024-03-04 22:00,past,101,duty,2024-03-04 08:00
+2024-03-04 22:00,past,101,relieve,2024-03-04 20:00
+2024-03-04 22:00,past,101,final,2024-03-04 21:30,HOM
+2024-03-04 22:00,past,102,duty,2024-03-04 12:00
+2024-03-04 22:00,past,102,final,2024-03-04 21:30,HOM
+2024-03-04 22:00,list,101,P1
+2024-03-04 22:00,list,102,P1
+2024-03-04 22:01,vacancy,1,E,-,HOM,2024-03-05 10:30,600,0,P1
+2024-03-04 22:01,vacancy,2,E,-,HOM,2024-03-05 07:00,600,0,P1
+2024-03-04 22:01,vacancy,3,E,-,HOM,2024-03-04 22:01,600,0,P1
+2024-03-04 22:02,off,102
+2024-03-04 22:03,on,102
+"""
+
+# From when on somebody may be offered a vacancy.
+TIMES = [
+    (('when', '1', '101'), b'clear 2024-03-05 09:00\n'),
+    (('when', '1', '102'), b'clear 2024-03-05 07:30\n'),
+    (('when', '2', '101'), b'barred 21103(a)(3) 2024-03-05 07:30\n'),
+    (('when', '3', '102'), b'lapsed 2024-03-04 22:01\n'),
+    (('when', '1', '103'), b'not listed\n'),
+    (('when', '4', '101'), b'unknown vacancy\n'),
+    (('when', '4', '104'), b'unknown vacancy\n'),
+    (('when', '1', '104'), b'unknown person\n'),
+    (('when', '3', '103'), b'lapsed 2024-03-04 22:01\n'),
+    (('when', '9999999', '9999999'), b'unknown vacancy\n'),
+]
+
+FORECASTS = [
+    *(Case(f'forecast {count}', ('forecast', str(count)), FIRST_OFFER, FINE, supposing(min(count, 5))) for count in (0, 1, 2, 5, 6, 200_000)),
+    Case('forecast: no commands', ('forecast', '1'), OPENING, FINE, OPENING + b'supposed 0\n'),
+    *(Case(' '.join(words), words, RESTING, FINE, text) for words, text in TIMES),
+    Case('when: at once', ('when', '12', '101'), FIRST_OFFER[:FIRST_OFFER.rindex(b'2024')], FINE, b'clear 2024-03-04 00:03\n'),
+    *(
+        Case(f'{words[0]}: {name}', words, day, status, text)
+        for words in [('forecast', '1'), ('when', '1', '1')]
+        for name, day, status, text in [
+            ('an empty day file', b'', NO_OPENING, b''),
+            ('a field that is missing', OPENING + b'2024-03-04 00:01,next\n', UNREADABLE, b'unreadable 2 3\n'),
+        ]
+    ),
+]
+
 # Tallies.
 
 
@@ -415,6 +474,18 @@ NO_FORMS = [
     ('record', '0'),
     ('record', '10000000'),
     ('excess', '101'),
+    ('forecast',),
+    ('forecast', '-1'),
+    ('forecast', '02'),
+    ('forecast', '200001'),
+    ('forecast', '2', '2'),
+    ('when',),
+    ('when', '1'),
+    ('when', '0', '101'),
+    ('when', '1', '0'),
+    ('when', '10000000', '101'),
+    ('when', '1', '10000000'),
+    ('when', '1', '101', '1'),
 ]
 
 # The name by which the program is called, which is no word of the form, and the words behind it.
@@ -440,7 +511,7 @@ WORDS = [
     *(Case(f'words that are no form: {words}', words, OPENING, USAGE, b'') for words in NO_FORMS),
 ]
 
-CASES = [*OPENED, *REPLAYS, *TALLIES, *AUDITS, *CONTINUES, *TOURS, *WORDS]
+CASES = [*OPENED, *REPLAYS, *FORECASTS, *TALLIES, *AUDITS, *CONTINUES, *TOURS, *WORDS]
 
 # What is read by each form that reads. It ends well where the input does not fail.
 READ = [
@@ -448,6 +519,8 @@ READ = [
     (('replay',), FIRST_OFFER),
     (('serve', 'nobody'), FIRST_OFFER),
     (('tally',), FIRST_OFFER),
+    (('forecast', '2'), FIRST_OFFER),
+    (('when', '12', '101'), FIRST_OFFER),
     (('audit',), FIRST_OFFER_JOURNAL),
     (('continue',), ONE_COMMAND),
     (('record', '101'), LONG_TOUR),
@@ -497,10 +570,11 @@ def long_cases():
 
 
 # The sizes of the pieces in which a text is put. Behind the opening, 1,110 lines of 59 bytes fill the first buffer of 65,536
-# bytes, and the others fit the second. A journal that goes on is put first, and then the lines behind it.
+# bytes, and the others fit the second; with a line of 14 bytes among them 1,109 do. A journal that goes on is put first, and then the lines behind it.
 PIECES = [
     ('the opening', ('replay',), OPENING, [35]),
     ('the journal of 2,000 refused commands', ('replay',), LONG_DAY, [65_525, 52_510]),
+    ('the same with 1,000 of them supposed', ('forecast', '1000'), LONG_DAY, [65_480, 52_569]),
     ('a journal that goes on', ('continue',), ONE_COMMAND, [35, 58]),
 ]
 
