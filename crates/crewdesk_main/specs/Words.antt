@@ -11,6 +11,7 @@ use Rattle.day_replay.specs.declared.day_form.DayForm.TheVariants as day
 use Rattle.crewdesk_main.specs.declared.tour_form.TourForm.TheVariants as tour
 use Rattle.crewdesk_main.specs.declared.form.Form.{Form}
 use Rattle.crewdesk_main.specs.declared.form.Form.TheVariants as form
+use Rattle.crewdesk_main.specs.declared.limits.TheConstants.{MOST_SUPPOSED}
 
 -- they are just this one
 abbrev pub is_alone : List ℕ → List (String Global) → Bool
@@ -39,17 +40,36 @@ gen_form edition (Some commands) None = None
 gen_form edition (Some commands) (Some number) =
     if nat_le SET_UP commands && nat_le commands (most_commands edition) then Some (form.Gen commands number edition) else None
 
+-- persons and vacancies may have the number
+abbrev pub is_number : ℕ → Bool
+is_number number = nat_le 1 number && nat_le number 9_999_999
+
 -- the records of a person's tours are told; none where nobody may have the number
 abbrev pub record_form : Option ℕ → Option Form
 record_form None = None
-record_form (Some person) = if nat_le 1 person && nat_le person 9_999_999 then Some (form.Tours (tour.Record person)) else None
+record_form (Some person) = if is_number person then Some (form.Tours (tour.Record person)) else None
 
--- the form that words with numbers are: `record P`, `gen N K`, and `gen N K 2` for the second edition
+-- so many of a day's last commands are only supposed; none where a day may not have so many
+abbrev pub forecast_form : Option ℕ → Option Form
+forecast_form None = None
+forecast_form (Some supposed) = if nat_le supposed MOST_SUPPOSED then Some (form.Day (day.Forecast supposed)) else None
+
+-- it is told from when on the person may be offered the vacancy; none where no vacancy or nobody may have the number
+abbrev pub when_form : Option ℕ → Option ℕ → Option Form
+when_form None person = None
+when_form (Some vac) None = None
+when_form (Some vac) (Some person) = if is_number vac && is_number person then Some (form.Day (day.When vac person)) else None
+
+-- the form that words with numbers are: `record P`, `forecast K`, `gen N K`, `when V P`, and `gen N K 2` for the second edition
 abbrev pub numbered_form : List (String Global) → Option Form
-numbered_form (word ∷ person ∷ []) =
-    if is_word (codes "record") word then record_form (number_in (string_bytes person)) else None
-numbered_form (word ∷ commands ∷ number ∷ []) =
-    if is_word (codes "gen") word then gen_form edition.One (number_in (string_bytes commands)) (number_in (string_bytes number)) else None
+numbered_form (word ∷ number ∷ []) =
+    if is_word (codes "record") word then record_form (number_in (string_bytes number))
+    else if is_word (codes "forecast") word then forecast_form (number_in (string_bytes number))
+    else None
+numbered_form (word ∷ first ∷ second ∷ []) =
+    if is_word (codes "gen") word then gen_form edition.One (number_in (string_bytes first)) (number_in (string_bytes second))
+    else if is_word (codes "when") word then when_form (number_in (string_bytes first)) (number_in (string_bytes second))
+    else None
 numbered_form (word ∷ commands ∷ number ∷ two ∷ []) =
     if is_word (codes "gen") word && is_word (codes "2") two then gen_form edition.Two (number_in (string_bytes commands)) (number_in (string_bytes number)) else None
 numbered_form other = None

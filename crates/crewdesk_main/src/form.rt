@@ -1,12 +1,13 @@
 ghost use Rattle.std.specs.Prelude.{◌≡◌, IfSome};
-ghost use Rattle.crewdesk_main.specs.Words.{form_of, numbered_form, gen_form, record_form, number_in, HasNumbers};
+ghost use Rattle.crewdesk_main.specs.Words.{form_of, numbered_form, forecast_form, gen_form, record_form, when_form, number_in, HasNumbers};
 
+use crate::limits::MOST_SUPPOSED;
 use crate::read_number::read_number;
 use crate::tour_form::TourForm;
 use crate::words::is_alone;
 use day_gen::{SET_UP, most_commands};
 use day_replay::DayForm;
-use desk_base::PersonNo;
+use desk_base::{PersonNo, VacNo};
 use desk_model::Edition;
 
 /// The forms of the command line.
@@ -68,8 +69,12 @@ fn numbered(words: &[String]) -> Option<Form>
 {
     match words {
         [word, person] if word.as_str() == "record" => record_form(person.as_str()),
+        [word, supposed] if word.as_str() == "forecast" => forecast_form(supposed.as_str()),
         [word, commands, number] if word.as_str() == "gen" => {
             gen_form(Edition::One, commands.as_str(), number.as_str())
+        }
+        [word, vac, person] if word.as_str() == "when" => {
+            when_form(vac.as_str(), person.as_str())
         }
         [word, commands, number, two] if word.as_str() == "gen" && two.as_str() == "2" => {
             gen_form(Edition::Two, commands.as_str(), number.as_str())
@@ -86,6 +91,38 @@ fn record_form(person: &str) -> Option<Form>
     let number = read_number(person)?;
     if number <= 9_999_999 {
         Some(Form::Tours(TourForm::Record(PersonNo::new(number as u32)?)))
+    } else {
+        None
+    }
+}
+
+// The form that only supposes so many of a day's last commands; `None` where a day may not have so many.
+fn forecast_form(supposed: &str) -> Option<Form>
+    ensures is { result ≡ forecast_form (number_in supposed.now) }
+    ensures numbers { IfSome result HasNumbers }
+{
+    let supposed = read_number(supposed)?;
+    if supposed <= u64::from(MOST_SUPPOSED) {
+        Some(Form::Day(DayForm::Forecast {
+            supposed: supposed as u32,
+        }))
+    } else {
+        None
+    }
+}
+
+// The form that tells from when on a person may be offered a vacancy; `None` where no vacancy or nobody may have the number.
+fn when_form(vac: &str, person: &str) -> Option<Form>
+    ensures is { result ≡ when_form (number_in vac.now) (number_in person.now) }
+    ensures numbers { IfSome result HasNumbers }
+{
+    let vac = read_number(vac)?;
+    let person = read_number(person)?;
+    if vac <= 9_999_999 && person <= 9_999_999 {
+        Some(Form::Day(DayForm::When {
+            vac: VacNo::new(vac as u32)?,
+            person: PersonNo::new(person as u32)?,
+        }))
     } else {
         None
     }

@@ -1,4 +1,4 @@
-//! How much a journal may hold.
+//! How much a journal may hold, and how many commands may be supposed.
 ghost use Rattle.std.specs.Prelude.{◌≡◌};
 
 /// How many lines a journal may have: its opening's, and those of as many entries as a desk may answer.
@@ -6,6 +6,9 @@ pub const LINE_LIMIT: usize = 515_001;
 
 /// How many entries a journal that goes on may have in all.
 pub const ENTRY_LIMIT: u32 = 515_000;
+
+/// How many of a day's last commands may be asked for as only supposed: as many as a day may have.
+pub const MOST_SUPPOSED: u32 = 200_000;
 
 /// How many lines a journal may have. It does nothing: its clause is the law.
 pub fn the_most_lines_of_a_journal()
@@ -15,4 +18,9 @@ pub fn the_most_lines_of_a_journal()
 /// How many entries a journal that goes on may have in all. It does nothing: its clause is the law.
 pub fn the_most_entries_of_a_journal()
     ensures { ENTRY_LIMIT ≡ 515_000 }
+{}
+
+/// How many of a day's last commands may be asked for as only supposed. It does nothing: its clause is the law.
+pub fn the_most_supposed_commands()
+    ensures { MOST_SUPPOSED ≡ 200_000 }
 {}
