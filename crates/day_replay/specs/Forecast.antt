@@ -25,8 +25,7 @@ forecast_text asked h =
     let answered = length h.entries - min asked (length h.entries) in
     forecast_lines h.opening (take answered h.entries) (drop answered h.entries)
 
--- a history that was opened so has these entries, and of the others that are supposed as many as are asked for, or all where there are
--- fewer
+-- a history that was opened so has just these entries, those that are supposed last: as many as are asked for, or all where there are fewer
 pub record IsParted (asked : ℕ) (o : OpeningValue) (h : History) (answered supposed : List EntryValue) : Type 0 where
   pub history : h ≡ history_of o (answered ++ supposed)
   pub count : length supposed ≡ min asked (length h.entries)
