@@ -1,9 +1,8 @@
 -- How many members of a board a search passes over, in the history's words.
-use Rattle.std.proofs.Common.{◌≡◌, ◌≤◌, ◌<◌, ℕ, suc, Bool, true, false, not, ◌||◌, ◌&&◌, cond, nat_eq, nat_le, filter, Option, None, Some, is_some, List, [], ◌∷◌, length, refl, sym, ap, subst, ◌∙◌, arith}
+use Rattle.std.proofs.Common.{◌≡◌, ◌<◌, ℕ, suc, Bool, true, false, not, ◌||◌, ◌&&◌, cond, nat_eq, nat_le, filter, Option, Some, is_some, List, [], ◌∷◌, length, refl, sym, ap, subst, ◌∙◌, arith}
 use Rattle.std.specs.List.{list_any, slice_get}
 use Rattle.std.proofs.lemmas.Bool.{false≢true, lt-leb}
 use Rattle.std.proofs.lemmas.Bool.Decides.{nat_tests}
-use Rattle.desk_base.specs.declared.minute.TheConstants.{YEARS_END}
 use Rattle.rest_rules.specs.Rest.{rest_end}
 use Rattle.denial_rules.specs.declared.bar.Bar.{Bar}
 use Rattle.slot_tree.specs.declared.slot.Slot.{Slot}

@@ -57,7 +57,7 @@ fn are_alike(one: &mut FastCore, other: &mut FastCore, steps: &[Step]) -> bool {
     alike
 }
 
-// The vacancy stands so at eight minutes past midnight.
+// The answer to it at eight minutes past midnight.
 fn stands(state: Option<VacState>) -> Option<(Minute, Reply)> {
     Some((at(b"00:08")?, Reply::State(state?)))
 }

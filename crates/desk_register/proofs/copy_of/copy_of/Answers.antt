@@ -7,7 +7,7 @@ pub returns-clause-entries : goal.returns-clause-entries
 returns-clause-entries g c =
     let ran = c.in_ok-extend.ensures.ran in
     all-copied g.K.PartialEq.eq g.met.K.Eq.laws c.args.map.now.entries c.in_ok-copy.copy.entries c.extend.new.self.entries ran.1
-        (all-shown ran.0 ran.1 ran.2.2 ran.4 ∙ ran.2.0) ran.2.4 c.in_ok-copy.ensures.empty ran.3.0
+    (all-shown ran.0 ran.1 ran.2.2 ran.4 ∙ ran.2.0) ran.2.4 c.in_ok-copy.ensures.empty ran.3.0
 
 pub returns-clause-room : goal.returns-clause-room
 returns-clause-room g c =
