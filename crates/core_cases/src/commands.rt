@@ -3,6 +3,14 @@ use desk_base::{Code, Minute, PersonNo};
 use desk_model::{Cmd, DeskCore, Reply, Stated};
 use qualifications::{Craft, Quals};
 
+/// What is stated, where there are a minute and a command.
+pub fn stated(minute: Option<Minute>, cmd: Option<Cmd>) -> Option<Stated> {
+    match (minute, cmd) {
+        (Some(minute), Some(cmd)) => Stated::new(minute, cmd),
+        _ => None,
+    }
+}
+
 /// The moment and the answer; `None` where no step is left.
 pub fn take<C: DeskCore>(
     core: &mut C,

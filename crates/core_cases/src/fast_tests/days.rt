@@ -3,7 +3,7 @@ use super::drawn::{Day, SET_UP, command};
 use super::draws::Draws;
 use super::kinds::{FIRST_KINDS, SECOND_KINDS, kind};
 use super::{at, opening};
-use crate::commands::take;
+use crate::commands::{stated, take};
 use desk_base::{Minute, VacNo};
 use desk_model::{Cmd, Edition, Reply, Stated};
 use fast_core::FastCore;
@@ -103,28 +103,26 @@ pub fn drawn_commands(
     edition: Edition,
     seed: u64,
     count: u32,
-) -> Result<Vec<Stated>, Fail> {
-    let mut core = FastCore::new(
-        alloc,
-        opening(edition).ok_or("no opening")?,
-        u64::from(count),
-    )?;
+) -> Option<Vec<Stated>> {
+    let mut core = FastCore::new(alloc, opening(edition)?, u64::from(count)).ok()?;
     let mut draws = Draws { state: seed };
-    let mut day = first_day().ok_or("no minute")?;
+    let mut day = first_day()?;
     let mut commands = Vec::new(alloc);
     for step in 0..count {
         let state = draws.state();
-        let minute = minute_of(&mut draws, &day, step).ok_or("no minute")?;
+        let minute = minute_of(&mut draws, &day, step);
         let cmd = command(&day, step, state);
-        let stated = cmd
-            .and_then(|cmd| Stated::new(minute, cmd))
-            .ok_or("no command")?;
-        let (_, reply) = take(&mut core, Some(minute), cmd).ok_or("no step")?;
-        commands.push(stated)?;
         let minutes = minutes_after(&mut draws, step);
-        day = day_after(&day, &cmd, minutes, &reply);
+        let (Some(stated), Some(answer)) = (stated(minute, cmd), take(&mut core, minute, cmd))
+        else {
+            return None;
+        };
+        if commands.push(stated).is_err() {
+            return None;
+        }
+        day = day_after(&day, &cmd, minutes, &answer.1);
     }
-    Ok(commands)
+    Some(commands)
 }
 
 // The first step of any day that the desks answer otherwise, and the kinds of replies that were reached.

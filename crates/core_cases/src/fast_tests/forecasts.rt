@@ -3,7 +3,7 @@
 use super::days::drawn_commands;
 use super::draws::Draws;
 use super::{at, opening};
-use crate::commands::{enrol, take};
+use crate::commands::{enrol, stated, take};
 use desk_base::{Minute, PersonNo, VacNo};
 use desk_model::{Cmd, DeskCore, Edition, Entry, Reply, Stated};
 use fast_core::FastCore;
@@ -71,27 +71,34 @@ fn is_answered_so<C: DeskCore>(core: &mut C, commands: &[Stated], entries: &[Ent
     true
 }
 
-// A vacancy, mostly one that was made whose report is not far ahead, and a person.
+// A vacancy that was asked for whose report is not before the last moment and not far ahead, the first behind some place in the day;
+// `None` where none is.
+fn open_vacancy(commands: &[Stated], from: usize, last: Minute) -> Option<VacNo> {
+    for stated in commands.iter().skip(from) {
+        if let Cmd::Vacancy(job) = stated.cmd() {
+            let report = job.report();
+            if report >= last && report.number() <= last.number() + AHEAD {
+                return Some(job.vac());
+            }
+        }
+    }
+    None
+}
+
+// A vacancy, mostly one that is open, and a person.
 fn drawn_question(
     draws: &mut Draws,
     commands: &[Stated],
     last: Minute,
 ) -> Option<(VacNo, PersonNo)> {
     let from = draws.below(COMMANDS) as usize;
-    let mut vac = VacNo::new(draws.below(400).saturating_add(1))?;
-    for stated in commands.iter().skip(from) {
-        if let Cmd::Vacancy(job) = stated.cmd() {
-            if job.report().number() <= last.number() + AHEAD {
-                vac = job.vac();
-                break;
-            }
-        }
+    let any = draws.below(60).saturating_add(1);
+    let open = open_vacancy(commands, from, last).or(open_vacancy(commands, 0, last));
+    let person = PersonNo::new(draws.person())?;
+    match open {
+        Some(vac) if draws.below(8) > 0 => Some((vac, person)),
+        _ => Some((VacNo::new(any)?, person)),
     }
-    let number = match draws.below(3) {
-        0 => draws.person(),
-        _ => draws.below(5).saturating_add(1),
-    };
-    Some((vac, PersonNo::new(number)?))
 }
 
 // What a desk says at each minute from this one on, as a forecast: the first at which it says that the person is clear, or else what
@@ -124,85 +131,98 @@ fn scanned<C: DeskCore>(
     None
 }
 
-// The kind of the forecast on a drawn day; `None` where it, or what was supposed, isn't what then is.
-fn forecast_kind(alloc: Global, edition: Edition, seed: u64) -> Result<Option<u32>, Fail> {
-    let opening = opening(edition).ok_or("no opening")?;
-    let commands = drawn_commands(alloc, edition, seed, COMMANDS)?;
-    let mut draws = Draws { state: seed };
-    let mut plain = PlainCore::new(alloc, opening, 10_000)?;
-    let mut fast = FastCore::new(alloc, opening, u64::from(COMMANDS))?;
+// Whether a desk forecasts of its last commands what it then answers. It has answered all of them behind it.
+fn supposes_rightly(alloc: Global, core: &mut FastCore, later: &[Stated]) -> bool {
+    match suppose(alloc, core, later) {
+        Ok(entries) => is_answered_so(core, later, &entries),
+        Err(_) => false,
+    }
+}
+
+// A desk that has answered a drawn day, whose last commands were supposed before; `None` where these were answered otherwise.
+fn desk_after(alloc: Global, edition: Edition, commands: &[Stated]) -> Option<FastCore> {
+    let mut core = FastCore::new(alloc, opening(edition)?, u64::from(COMMANDS)).ok()?;
     let (first, later) = commands.split_at(commands.len().saturating_sub(SUPPOSED));
-    step_all(&mut fast, first).ok_or("no step")?;
-    let entries = suppose(alloc, &fast, later).ok().ok_or("no entries")?;
-    if !is_answered_so(&mut fast, later, &entries) {
-        return Ok(None);
+    step_all(&mut core, first)?;
+    if supposes_rightly(alloc, &mut core, later) {
+        Some(core)
+    } else {
+        None
     }
-    let last = step_all(&mut plain, &commands).ok_or("no step")?;
-    let (vac, person) = drawn_question(&mut draws, &commands, last).ok_or("no question")?;
+}
+
+// The kind of the forecast on a drawn day; `None` where it, or what was supposed, isn't what then is.
+fn forecast_kind(alloc: Global, edition: Edition, seed: u64) -> Option<u32> {
+    let commands = drawn_commands(alloc, edition, seed, COMMANDS)?;
+    let fast = desk_after(alloc, edition, &commands)?;
+    let mut plain = PlainCore::new(alloc, opening(edition)?, 10_000).ok()?;
+    let last = step_all(&mut plain, &commands)?;
+    let (vac, person) = drawn_question(&mut Draws { state: seed }, &commands, last)?;
     let told = when(&fast, vac, person);
-    if scanned(&mut plain, last, vac, person) != Some(told) {
-        return Ok(None);
+    if scanned(&mut plain, last, vac, person) == Some(told) {
+        Some(kind(&told, last))
+    } else {
+        None
     }
-    Ok(Some(kind(&told, last)))
 }
 
 // The first day whose forecast isn't what then is, and the kinds of answers that were reached.
-fn first_wrong(alloc: Global, edition: Edition) -> Result<(Option<u64>, u32), Fail> {
+fn first_wrong(alloc: Global, edition: Edition) -> (Option<u64>, u32) {
     let mut kinds = 0;
     for seed in 0..DAYS {
-        match forecast_kind(alloc, edition, seed)? {
+        match forecast_kind(alloc, edition, seed) {
             Some(kind) => kinds |= kind,
-            None => return Ok((Some(seed), kinds)),
+            None => return (Some(seed), kinds),
         }
     }
-    Ok((None, kinds))
+    (None, kinds)
 }
 
 #[test]
 fn forecasts_come_true_in_the_first_edition(rt: HostRuntime) -> Result<(), Fail> {
-    let (wrong, kinds) = first_wrong(rt.alloc(), Edition::One)?;
-    assert!(rt; wrong.is_none());
-    assert!(rt; kinds == ALL_KINDS);
+    assert!(rt; first_wrong(rt.alloc(), Edition::One) == (None, ALL_KINDS));
     Ok(())
 }
 
 #[test]
 fn forecasts_come_true_in_the_second_edition(rt: HostRuntime) -> Result<(), Fail> {
-    let (wrong, kinds) = first_wrong(rt.alloc(), Edition::Two)?;
-    assert!(rt; wrong.is_none());
-    assert!(rt; kinds == ALL_KINDS);
+    assert!(rt; first_wrong(rt.alloc(), Edition::Two) == (None, ALL_KINDS));
     Ok(())
+}
+
+// Whether of a desk with one step left two commands are too many, and one is answered without taking it.
+fn has_room_for_one(alloc: Global) -> Option<bool> {
+    let core = FastCore::new(alloc, opening(Edition::One)?, 1).ok()?;
+    let stated = stated(at(b"00:01"), enrol(101))?;
+    let many = suppose(alloc, &core, &[stated, stated]).err()?;
+    let one = suppose(alloc, &core, &[stated]).ok()?;
+    Some(many == SupposeFault::TooMany { left: 1 } && one.len() == 1 && core.left() == 1)
 }
 
 #[test]
 fn more_is_supposed_than_there_is_room_for(rt: HostRuntime) -> Result<(), Fail> {
-    let core = FastCore::new(rt.alloc(), opening(Edition::One).ok_or("no opening")?, 1)?;
-    let minute = at(b"00:01").ok_or("no minute")?;
-    let stated = enrol(101)
-        .and_then(|cmd| Stated::new(minute, cmd))
-        .ok_or("no command")?;
-    let many = suppose(rt.alloc(), &core, &[stated, stated]);
-    assert!(rt; many.err() == Some(SupposeFault::TooMany { left: 1 }));
-    let one = suppose(rt.alloc(), &core, &[stated])
-        .ok()
-        .ok_or("no entry")?;
-    assert!(rt; one.len() == 1 && one[0].reply() == Reply::Done);
-    assert!(rt; core.left() == 1);
+    assert!(rt; has_room_for_one(rt.alloc()) == Some(true));
     Ok(())
+}
+
+// Whether a question is answered at the last moment by a desk that has no step left.
+fn answers_without_a_step(alloc: Global) -> Option<bool> {
+    let mut core = FastCore::new(alloc, opening(Edition::One)?, 1).ok()?;
+    if take(&mut core, at(b"00:02"), enrol(101)).is_none() {
+        return None;
+    }
+    let vac = VacNo::new(12)?;
+    let question = Stated::new(at(b"00:01")?, Cmd::Vac { vac })?;
+    let entry = core.ask(question);
+    Some(
+        core.left() == 0
+            && entry.moment() == at(b"00:02")?
+            && entry.reply() == Reply::UnknownVacancy,
+    )
 }
 
 #[test]
 fn a_question_takes_no_step(rt: HostRuntime) -> Result<(), Fail> {
-    let mut core = FastCore::new(rt.alloc(), opening(Edition::One).ok_or("no opening")?, 1)?;
-    assert!(rt;
-        take(&mut core, at(b"00:02"), enrol(101))
-            == at(b"00:02").map(|moment| (moment, Reply::Done))
-    );
-    let minute = at(b"00:01").ok_or("no minute")?;
-    let vac = VacNo::new(12).ok_or("no vacancy")?;
-    let stated = Stated::new(minute, Cmd::Vac { vac }).ok_or("no question")?;
-    let entry = core.ask(stated);
-    assert!(rt; Some(entry.moment()) == at(b"00:02") && entry.reply() == Reply::UnknownVacancy);
-    assert!(rt; core.left() == 0);
+    assert!(rt; answers_without_a_step(rt.alloc()) == Some(true));
     Ok(())
 }
