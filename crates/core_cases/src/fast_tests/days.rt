@@ -4,8 +4,9 @@ use super::draws::Draws;
 use super::kinds::{FIRST_KINDS, SECOND_KINDS, kind};
 use super::{at, opening};
 use crate::commands::{stated, take};
-use desk_base::{Minute, VacNo};
+use desk_base::{Code, Minute, PersonNo, VacNo};
 use desk_model::{Cmd, Edition, Reply, Stated};
+use duty_events::Event;
 use fast_core::FastCore;
 use plain_core::PlainCore;
 use std::alloc::Global;
@@ -97,7 +98,25 @@ fn first_otherwise(
     Ok(None)
 }
 
-/// The commands of a drawn day: the first so many, each as it is stated where a desk has answered those before it.
+// A person ends a tour at home.
+fn released(person: u32, at: Minute) -> Option<Stated> {
+    let person = PersonNo::new(person)?;
+    let event = Event::Final(at, Code::read(b"HOM")?);
+    Stated::new(at, Cmd::Happened { person, event })
+}
+
+// The commands that end a drawn day: each of twelve persons is released, and some hours later it is asked how a vacancy stands.
+fn push_end(commands: &mut Vec<Stated>, at: Minute) -> Option<()> {
+    for person in 1..13 {
+        commands.push(released(person, at)?).ok()?;
+    }
+    let later = Minute::new(at.number() + 400)?;
+    let vac = VacNo::new(1)?;
+    commands.push(Stated::new(later, Cmd::Vac { vac })?).ok()
+}
+
+/// The commands of a drawn day: the first so many, each as it is stated where a desk has answered those before it, and then those that
+/// end the day.
 pub fn drawn_commands(
     alloc: Global,
     edition: Edition,
@@ -122,6 +141,7 @@ pub fn drawn_commands(
         }
         day = day_after(&day, &cmd, minutes, &answer.1);
     }
+    push_end(&mut commands, Minute::new(day.now)?)?;
     Some(commands)
 }
 

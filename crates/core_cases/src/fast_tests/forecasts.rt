@@ -1,7 +1,6 @@
 //! Forecasts on days that are drawn: what would be answered beside what then is, and from when on somebody may be offered a vacancy
 //! beside what a desk that searches all that was stated says of each minute.
 use super::days::drawn_commands;
-use super::draws::Draws;
 use super::{at, opening};
 use crate::commands::{enrol, stated, take};
 use desk_base::{Minute, PersonNo, VacNo};
@@ -12,7 +11,7 @@ use plain_core::PlainCore;
 use std::alloc::Global;
 use std::test::Fail;
 
-// The days of each edition, the commands of a day, and of these the last that are supposed first.
+// The days of each edition, the drawn commands of a day, and how many of its last commands are supposed first.
 const DAYS: u64 = 1_000;
 
 const COMMANDS: u32 = 240;
@@ -25,6 +24,9 @@ const AHEAD: u64 = 500;
 // A bit for each kind of answer: the four refusals, that nothing bars the person now, or only later, and that something does
 // throughout.
 const ALL_KINDS: u32 = 127;
+
+// The last three of these.
+const OPEN_KINDS: u32 = 112;
 
 fn kind(told: &Earliest, last: Minute) -> u32 {
     match told {
@@ -71,34 +73,32 @@ fn is_answered_so<C: DeskCore>(core: &mut C, commands: &[Stated], entries: &[Ent
     true
 }
 
-// A vacancy that was asked for whose report is not before the last moment and not far ahead, the first behind some place in the day;
-// `None` where none is.
-fn open_vacancy(commands: &[Stated], from: usize, last: Minute) -> Option<VacNo> {
-    for stated in commands.iter().skip(from) {
-        if let Cmd::Vacancy(job) = stated.cmd() {
-            let report = job.report();
-            if report >= last && report.number() <= last.number() + AHEAD {
-                return Some(job.vac());
+// A vacancy that was asked for, whose report is not far ahead of the last moment; `None` where none was.
+fn near_vacancy(stated: &Stated, last: Minute) -> Option<VacNo> {
+    match stated.cmd() {
+        Cmd::Vacancy(job) if job.report().number() <= last.number() + AHEAD => Some(job.vac()),
+        _ => None,
+    }
+}
+
+// A vacancy of the day and a person of whom a desk forecasts one of these kinds; `None` where there are no such two.
+fn question_of(
+    core: &FastCore,
+    commands: &[Stated],
+    kinds: u32,
+    last: Minute,
+) -> Option<(VacNo, PersonNo)> {
+    for stated in commands {
+        if let Some(vac) = near_vacancy(stated, last) {
+            for number in 1..14 {
+                let person = PersonNo::new(number)?;
+                if kind(&when(core, vac, person), last) & kinds != 0 {
+                    return Some((vac, person));
+                }
             }
         }
     }
     None
-}
-
-// A vacancy, mostly one that is open, and a person.
-fn drawn_question(
-    draws: &mut Draws,
-    commands: &[Stated],
-    last: Minute,
-) -> Option<(VacNo, PersonNo)> {
-    let from = draws.below(COMMANDS) as usize;
-    let any = draws.below(60).saturating_add(1);
-    let open = open_vacancy(commands, from, last).or(open_vacancy(commands, 0, last));
-    let person = PersonNo::new(draws.person())?;
-    match open {
-        Some(vac) if draws.below(8) > 0 => Some((vac, person)),
-        _ => Some((VacNo::new(any)?, person)),
-    }
 }
 
 // What a desk says at each minute from this one on, as a forecast: the first at which it says that the person is clear, or else what
@@ -141,7 +141,7 @@ fn supposes_rightly(alloc: Global, core: &mut FastCore, later: &[Stated]) -> boo
 
 // A desk that has answered a drawn day, whose last commands were supposed before; `None` where these were answered otherwise.
 fn desk_after(alloc: Global, edition: Edition, commands: &[Stated]) -> Option<FastCore> {
-    let mut core = FastCore::new(alloc, opening(edition)?, u64::from(COMMANDS)).ok()?;
+    let mut core = FastCore::new(alloc, opening(edition)?, commands.len() as u64).ok()?;
     let (first, later) = commands.split_at(commands.len().saturating_sub(SUPPOSED));
     step_all(&mut core, first)?;
     if supposes_rightly(alloc, &mut core, later) {
@@ -151,13 +151,16 @@ fn desk_after(alloc: Global, edition: Edition, commands: &[Stated]) -> Option<Fa
     }
 }
 
-// The kind of the forecast on a drawn day; `None` where it, or what was supposed, isn't what then is.
+// The kind of the forecast on a drawn day, one of each seven of a kind, where it has such; `None` where it, or what was supposed, isn't what then is.
 fn forecast_kind(alloc: Global, edition: Edition, seed: u64) -> Option<u32> {
     let commands = drawn_commands(alloc, edition, seed, COMMANDS)?;
     let fast = desk_after(alloc, edition, &commands)?;
     let mut plain = PlainCore::new(alloc, opening(edition)?, 10_000).ok()?;
     let last = step_all(&mut plain, &commands)?;
-    let (vac, person) = drawn_question(&mut Draws { state: seed }, &commands, last)?;
+    let wanted = question_of(&fast, &commands, 1 << (seed % 7), last);
+    let open = question_of(&fast, &commands, OPEN_KINDS, last);
+    let any = question_of(&fast, &commands, ALL_KINDS, last);
+    let (vac, person) = wanted.or(open).or(any)?;
     let told = when(&fast, vac, person);
     if scanned(&mut plain, last, vac, person) == Some(told) {
         Some(kind(&told, last))
