@@ -185,7 +185,7 @@ def bar_in(answer):
 
 
 def show_times(checks, name, day, journal, draw):
-    """From when on each of some persons may be offered each of some vacancies."""
+    """From when on nothing bars each of some persons from each of some vacancies."""
     last = minute_of(journal[-1].split("|")[-2])
     reports = reports_in(journal)
     pairs = draw.sample([(vac, person) for vac in [*reports][-5:] for person in PERSONS], 4 if reports else 0)

@@ -216,7 +216,7 @@ RESTING = b"""\
 2024-03-04 22:03,on,102
 """
 
-# From when on somebody may be offered a vacancy.
+# From when on nothing bars somebody from a vacancy.
 TIMES = [
     (('when', '1', '101'), b'clear 2024-03-05 09:00\n'),
     (('when', '1', '102'), b'clear 2024-03-05 07:30\n'),

@@ -16,7 +16,7 @@ help_text =
     line (codes "crewdesk replay          reads a day file from standard input and writes its journal to standard output")
     ++ line (codes "crewdesk tally           reads a day file from standard input and writes its tally to standard output")
     ++ line (codes "crewdesk forecast K      reads a day file from standard input and writes its journal without the last K commands, and what would be answered to these")
-    ++ line (codes "crewdesk when V P        reads a day file from standard input and writes from when on person P may be offered vacancy V")
+    ++ line (codes "crewdesk when V P        reads a day file from standard input and writes from when on nothing bars person P from vacancy V")
     ++ line (codes "crewdesk serve NAME ...  reads a day file from standard input, serves the caller of each name from NAME.in to NAME.out, and writes the journal of all")
     ++ line (codes "crewdesk audit           reads a journal from standard input and writes whether it is legal, or what is wrong in it")
     ++ line (codes "crewdesk continue        reads a journal, a line + and commands from standard input and writes the journal that goes on with them")

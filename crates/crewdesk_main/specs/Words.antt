@@ -54,7 +54,7 @@ abbrev pub forecast_form : Option ℕ → Option Form
 forecast_form None = None
 forecast_form (Some supposed) = if nat_le supposed MOST_SUPPOSED then Some (form.Day (day.Forecast supposed)) else None
 
--- it is told from when on the person may be offered the vacancy; none where no vacancy or nobody may have the number
+-- it is told from when on nothing bars the person from the vacancy; none where no vacancy or nobody may have the number
 abbrev pub when_form : Option ℕ → Option ℕ → Option Form
 when_form None person = None
 when_form (Some vac) None = None

@@ -111,7 +111,7 @@ fn forecast_form(supposed: &str) -> Option<Form>
     }
 }
 
-// The form that tells from when on a person may be offered a vacancy; `None` where no vacancy or nobody may have the number.
+// The form that tells from when on nothing bars a person from a vacancy; `None` where no vacancy or nobody may have the number.
 fn when_form(vac: &str, person: &str) -> Option<Form>
     ensures is { result ≡ when_form (number_in vac.now) (number_in person.now) }
     ensures numbers { IfSome result HasNumbers }

@@ -17,7 +17,7 @@ use std::alloc::Global;
 
 /// Runs the desk as the words say: with `replay` it reads a day file from the source and writes its journal to the sink, with
 /// `tally` its tally, with `forecast` and a number its journal without so many last commands and what would be answered to these, and
-/// with `when` and two numbers from when on a person may be offered a vacancy; with `audit` it reads a journal and writes whether it is
+/// with `when` and two numbers from when on nothing bars a person from a vacancy; with `audit` it reads a journal and writes whether it is
 /// legal; with `continue` it reads a journal and commands, and writes the journal that goes on with them; with `record` and a number,
 /// or `excess`, it reads a journal as it stands and writes records of its tours; with `gen` and numbers it reads nothing, and writes
 /// the tally of a day that is made from them. It knows no other words.

@@ -10,7 +10,7 @@ use Rattle.desk_model.specs.History.{History, history_of, opened}
 use Rattle.desk_model.specs.Legal.{given, history_from}
 use Rattle.desk_model.proofs.LegalLemmas.{legal-opened}
 use Rattle.desk_model.specs.Journal.{entry_lines, journal}
-use Rattle.forecast.specs.Supposed.{by_nobody, IsSupposed, GoesOn}
+use Rattle.forecast.specs.Supposed.{by_nobody, IsSupposed, OnlyThese}
 use Rattle.earliest_minute.specs.declared.earliest.Earliest.{Earliest}
 use Rattle.earliest_minute.specs.When.{when_of}
 use Rattle.day_replay.specs.Forecast.{IsParted, forecast_lines, forecast_text, supposed_line, earliest_line, when_text}
@@ -25,7 +25,7 @@ supposed-length h commands es supposed =
     sym (length-map es given) ∙ ap length supposed.stated ∙ length-map commands by_nobody
 
 -- the first commands answered, and the others supposed behind them, are the day's history
-pub IsParted-day : GoesOn → (o : OpeningValue) (commands : List StatedValue) (asked place : ℕ) (answered supposed : List EntryValue)
+pub IsParted-day : OnlyThese → (o : OpeningValue) (commands : List StatedValue) (asked place : ℕ) (answered supposed : List EntryValue)
     → place ≡ length commands - asked
     → IsSupposed (opened o) (take place commands) answered
     → IsSupposed (history_of o answered) (take (length commands - place) (drop place commands)) supposed

@@ -19,18 +19,21 @@ supposed_line count = count_line (codes "supposed") count
 abbrev pub forecast_lines : OpeningValue → List EntryValue → List EntryValue → List ℕ
 forecast_lines o answered supposed = journal (history_of o answered) ++ supposed_line (length supposed) ++ entry_lines supposed
 
--- so of a history of which the last entries are only supposed: so many as are asked for, or all where there are fewer
+-- so of a history of which the last entries are only supposed: so many as are asked for, or all where there are fewer. That these are
+-- what is supposed of their commands after the others is the law of `OnlyThese`
 unfoldable pub forecast_text : ℕ → History → List ℕ
 forecast_text asked h =
     let answered = length h.entries - min asked (length h.entries) in
     forecast_lines h.opening (take answered h.entries) (drop answered h.entries)
 
--- a history that was opened so has just these entries, those that are supposed last: as many as are asked for, or all where there are fewer
+-- a history that was opened so has just these entries, those that are supposed last: as many as are asked for, or all where there are
+-- fewer
 pub record IsParted (asked : ℕ) (o : OpeningValue) (h : History) (answered supposed : List EntryValue) : Type 0 where
   pub history : h ≡ history_of o (answered ++ supposed)
   pub count : length supposed ≡ min asked (length h.entries)
 
--- from when on a person may be offered a vacancy, or why not
+-- from when on nothing bars a person from a vacancy, or why not. A clear minute is no later than a report, which is of the years 2000 to
+-- 2099
 abbrev pub earliest_text : Earliest → List ℕ
 earliest_text (earliest.Clear minute) = codes "clear " ++ minute_text minute
 earliest_text (earliest.Barred bar) = codes "barred " ++ bar_text bar

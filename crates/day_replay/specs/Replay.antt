@@ -49,7 +49,7 @@ pub record Replays (before after : Option (List ℕ)) (text : History → List �
   pub written : Writes (text history)
 
 -- what is written of a history: its journal or its tally; the journal of all entries but the last, and these as what would be answered;
--- or from when on a person may be offered a vacancy
+-- or from when on nothing bars a person from a vacancy
 abbrev pub text_of : DayForm → History → List ℕ
 text_of form.Replay h = journal h
 text_of form.Tally h = tally_text h

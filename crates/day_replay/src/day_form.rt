@@ -12,7 +12,7 @@ pub enum DayForm {
         /// How many of the last commands are only supposed; all where there are fewer.
         supposed: u32,
     },
-    /// From when on a person may be offered a vacancy, as things stand after all commands.
+    /// From when on nothing bars a person from a vacancy, as things stand after all commands.
     When {
         /// The vacancy.
         vac: VacNo,

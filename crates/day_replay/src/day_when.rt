@@ -1,4 +1,4 @@
-//! From when on somebody may be offered a vacancy, after a day.
+//! From when on nothing bars somebody from a vacancy, after a day.
 ghost use Rattle.std.specs.Prelude.{◌≡◌, ◌≤◌, length};
 ghost use Rattle.desk_model.specs.History.{History};
 ghost use Rattle.earliest_minute.specs.When.{when_of};
@@ -10,7 +10,7 @@ use earliest_minute::{Earliest, the_earliest_minute_is_one};
 use fast_core::FastCore;
 use forecast::when;
 
-/// Steps a desk through the commands as caller 0, and says from when on the person may be offered the vacancy then.
+/// Steps a desk through the commands as caller 0, and says from when on nothing bars the person from the vacancy then.
 pub(crate) fn when_after(
     core: &mut FastCore,
     commands: &[Stated],

@@ -1,4 +1,4 @@
-//! From when on somebody may be offered a vacancy, as a line.
+//! From when on nothing bars somebody from a vacancy, as a line.
 ghost use Rattle.std.specs.Prelude.{◌≡◌, ◌≤◌, ◌+◌, ◌++◌};
 ghost use Rattle.arrayvec.specs.ArrayVec.{array_vec_len};
 ghost use Rattle.day_replay.specs.Forecast.{earliest_line, earliest_text};
@@ -6,7 +6,7 @@ ghost use Rattle.day_replay.specs.Forecast.{earliest_line, earliest_text};
 use earliest_minute::Earliest;
 use line_writer::{LineText, put, put_bar, put_byte, put_late};
 
-/// The line that says from when on a person may be offered a vacancy, or why not.
+/// The line that says from when on nothing bars a person from a vacancy, or why not.
 pub(crate) fn write_earliest(earliest: &Earliest) -> LineText
     ensures { result.items ≡ earliest_line earliest.now }
 {

@@ -22,7 +22,7 @@ use std::alloc::Global;
 const BUFFER_BYTES: usize = 65_536;
 
 /// Reads a day file from the source, replays its commands and writes what is asked for to the sink: the journal, the tally, what would
-/// be answered to the last commands, or from when on somebody may be offered a vacancy; where a field of the file is wrong it writes a
+/// be answered to the last commands, or from when on nothing bars somebody from a vacancy; where a field of the file is wrong it writes a
 /// line that says which, or a front of it where the sink has a fault. It reads all of its input, and takes all memory for the replay,
 /// before it writes anything.
 pub fn replay_day<S: Source, K: Sink>(

@@ -28,10 +28,10 @@ pub record IsBarredThroughout (h : History) (job : JobValue) (p : ℕ) (person :
 
 -- ---- the search for it
 
--- of two of these minutes something bars an enrolled person at the one, and nothing at the other
+-- of two minutes from the last moment to the job's report something bars an enrolled person at the one, and nothing at the other
 pub record IsBetween (h : History) (job : JobValue) (p : ℕ) (person : Person) (barred clear : ℕ) : Type 0 where
-  pub from : IsAsked h barred job
-  pub to : IsAsked h clear job
+  pub barred_asked : IsAsked h barred job
+  pub clear_asked : IsAsked h clear job
   pub enrolled : person_of h p ≡ Some person
   pub bars : bar_of h barred job p person ≢ None
   pub gone : bar_of h clear job p person ≡ None

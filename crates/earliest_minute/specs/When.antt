@@ -1,4 +1,4 @@
--- From when on a person may be offered a vacancy.
+-- From when on nothing bars a person from a vacancy.
 use Rattle.std.specs.Prelude.{◌≡◌, ℕ, ◌+◌, ◌-◌, Option, None, Some, is_none, List}
 use Rattle.std.specs.List.{find, range_with_len}
 use Rattle.denial_rules.specs.declared.bar.Bar.{Bar}
@@ -37,7 +37,7 @@ IsToldBy h v p (reply.Lapsed report) told = told ≡ earliest.Lapsed report
 IsToldBy h v p reply.NotListed told = told ≡ earliest.NotListed
 IsToldBy h v p other told = IsTime h v p told
 
--- from when on a person may be offered a vacancy, by what `explain` would be answered at the last moment
+-- from when on nothing bars a person from a vacancy, by what `explain` would be answered at the last moment
 abbrev pub IsWhen : History → ℕ → ℕ → Earliest → Type 0
 IsWhen h v p told = IsToldBy h v p (explain_answer h (last_moment h) v p) told
 
@@ -51,7 +51,8 @@ minutes from to = range_with_len from (to + 1 - from)
 abbrev pub first_clear : History → JobValue → ℕ → Person → List ℕ → Option ℕ
 first_clear h job p person among = find (λ m. is_none (bar_of h m job p person)) among
 
--- that one; else the bar at the report. Where nothing bars them at the report either, that is such a minute: the last row never comes
+-- that one; else the bar at the report. Where nothing bars them at the report, that is such a minute, so the last row never comes
+-- (`the_earliest_minute_is_one`)
 abbrev pub clear_or : Option ℕ → Option Bar → Earliest
 clear_or (Some minute) bar = earliest.Clear minute
 clear_or None (Some bar) = earliest.Barred bar

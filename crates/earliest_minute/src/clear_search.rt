@@ -39,7 +39,7 @@ fn judge<R: Reads>(
     }
 }
 
-/// From when on a person may be offered a vacancy, as things stand. The first four answers come in their order, just where
+/// From when on nothing bars a person from a vacancy, as things stand. The first four answers come in their order, just where
 /// `explain` at the last moment has them.
 pub fn earliest_clear<R: Reads>(
     reads: &R,

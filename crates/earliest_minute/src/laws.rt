@@ -20,8 +20,8 @@ pub fn a_bar_that_is_gone_stays_gone()
     no_bar_where_the_law_is_kept();
 }
 
-/// There is exactly one answer to when a person may be offered a vacancy: that which is found by looking at each minute from the
-/// last moment to the report. It does nothing: its clause is the law.
+/// There is exactly one answer to from when on nothing bars a person from a vacancy: that which is found by looking at each minute
+/// from the last moment to the report. It does nothing: its clause is the law.
 pub fn the_earliest_minute_is_one()
     ensures { (h : History) (v p : ℕ) (told : EarliestValue) → IsWhen h v p told ↔ (told ≡ when_of h v p) }
 {}

@@ -8,9 +8,11 @@ use desk_answers::Reads;
 use desk_base::{Minute, PersonNo};
 use desk_model::{Job, Person};
 
-// A minute between two, where there is one.
+// The minute in the middle of two, where there is one between them: as far from the one as from the other, or a minute nearer to the
+// first.
 fn middle(from: Minute, to: Minute) -> Option<Minute>
     ensures some { IfSome result (λ m. (from < m) × (m < to)) }
+    ensures near { IfSome result (λ m. (m + m ≤ from + to) × (from + to ≤ m + m + 1)) }
     ensures none { IfNone result (to ≤ from + 1) }
 {
     let low = from.number();

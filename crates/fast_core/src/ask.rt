@@ -25,7 +25,7 @@ impl FastCore {
         self.ask_in::<Brand>(Blank::new(1), &stated)
     }
 
-    /// From when on a person may be offered a vacancy, as things stand: the first minute from the last moment to the report at which
+    /// From when on nothing bars a person from a vacancy, as things stand: the first minute from the last moment to the report at which
     /// nothing bars them, or what bars them at the report. It takes no memory.
     pub fn earliest(&self, vac: VacNo, person: PersonNo) -> Earliest
         ensures { (h : History) → ⟦<FastCore as DeskCore>⟧.stands self.now h → IsWhen h vac person result }

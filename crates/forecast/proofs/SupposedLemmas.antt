@@ -6,7 +6,7 @@ use Rattle.desk_model.specs.Statement.{StatedValue}
 use Rattle.desk_model.specs.Entry.{EntryValue}
 use Rattle.desk_model.specs.History.{History, history_of, opened, with_entry}
 use Rattle.desk_model.specs.Legal.{next, given, history_from, history, IsLegal}
-use Rattle.forecast.specs.Supposed.{by_nobody, with_entries, IsSupposed, GoesOn}
+use Rattle.forecast.specs.Supposed.{by_nobody, with_entries, IsSupposed, OnlyThese}
 
 -- no entries change nothing
 pub with_entries-none : (h : History) → h ≡ with_entries h []
@@ -34,7 +34,7 @@ stated-more h commands place s es e within at answer were =
 -- by the laws of legal histories: a legal one is the one of its commands, and commands behind others go on from the history of those
 pub goes-on : ((h : History) → IsLegal h → h ≡ history h.opening (map given h.entries))
     → ((h : History) (commands later : List (ℕ × StatedValue)) → history_from h (commands ++ later) ≡ history_from (history_from h commands) later)
-    → GoesOn
+    → OnlyThese
 goes-on only behind h commands es legal supposed =
     only (with_entries h es) supposed.legal
     ∙ ap (history h.opening) (map-append given h.entries es ∙ ap (λ cs. map given h.entries ++ cs) supposed.stated)

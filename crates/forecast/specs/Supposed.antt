@@ -18,7 +18,7 @@ pub record IsSupposed (h : History) (commands : List StatedValue) (es : List Ent
   pub legal : IsLegal (with_entries h es)
   pub stated : map given es ≡ map by_nobody commands
 
--- so the entries that are supposed are those with which the history goes on by the rules, and no others
-abbrev pub GoesOn : Type 0
-GoesOn = (h : History) (commands : List StatedValue) (es : List EntryValue) → IsLegal h → IsSupposed h commands es
+-- the entries that are supposed are those with which the history goes on by the rules, and no others
+abbrev pub OnlyThese : Type 0
+OnlyThese = (h : History) (commands : List StatedValue) (es : List EntryValue) → IsLegal h → IsSupposed h commands es
     → with_entries h es ≡ history_from h (map by_nobody commands)

@@ -6,7 +6,7 @@ use desk_model::DeskCore;
 use earliest_minute::Earliest;
 use fast_core::FastCore;
 
-/// From when on a person may be offered a vacancy, as things stand: the first minute from the last moment to the vacancy's report at
+/// From when on nothing bars a person from a vacancy, as things stand: the first minute from the last moment to the vacancy's report at
 /// which nothing bars the person, or what bars them at the report where there is none. The first four answers come in their order, just
 /// where `explain` at the last moment has them. It takes no memory, and the core stays as it is.
 pub fn when(core: &FastCore, vac: VacNo, person: PersonNo) -> Earliest

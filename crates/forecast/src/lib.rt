@@ -1,4 +1,4 @@
-//! What would be: the answers to commands that are only supposed, and from when on somebody may be offered a vacancy. The desk that is
+//! What would be: the answers to commands that are only supposed, and from when on nothing bars somebody from a vacancy. The desk that is
 //! asked stays as it is.
 #![tactic(auto)]
 

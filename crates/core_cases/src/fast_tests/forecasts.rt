@@ -1,4 +1,4 @@
-//! Forecasts on days that are drawn: what would be answered beside what then is, and from when on somebody may be offered a vacancy
+//! Forecasts on days that are drawn: what would be answered beside what then is, and from when on nothing bars somebody from a vacancy
 //! beside what a desk that searches all that was stated says of each minute.
 use super::days::drawn_commands;
 use super::{at, opening};

@@ -42,8 +42,8 @@ returns-in-Some-bar-clause-answer g c h tells v made enrolled last early =
     let at_report = asked-at h _ v c.args.job.now made (omega (arith, report, last, early)) (omega (arith, report)) in
     let at_last = asked-at h c.args.last v c.args.job.now made (omega (arith, last)) early in
     c.least.ensures.answer h tells (record {
-      from = at_last;
-      to = at_report;
+      barred_asked = at_last;
+      clear_asked = at_report;
       enrolled = enrolled;
       bars = λ none. let bar = c.bar-2.ensures.answer h tells at_last enrolled in let held = c.in-Some-bar.is in cc;
       gone = sym (c.bar.ensures.answer h tells at_report enrolled) ∙ c.in_default.is;

@@ -10,8 +10,8 @@ use Rattle.earliest_minute.proofs.least.least.Goals as goal
 least-is : StaysGone → (h : History) (job : JobValue) (p : ℕ) (person : Person) (barred clear : ℕ) → IsLegal h → IsBetween h job p person barred clear → clear ≤ barred + 1
     → IsLeast h job p person clear
 least-is stays h job p person barred clear legal between next = record {
-  from = between.to.from;
-  to = between.to.to;
+  from = between.clear_asked.from;
+  to = between.clear_asked.to;
   clear = between.gone;
   before = λ m late below none. between.bars (stays h job p person m barred legal late (omega (arith, below, next)) none);
 }
