@@ -1,5 +1,5 @@
 -- The earliest minute is the one that is found among all.
-use Rattle.std.proofs.Common.{◌≡◌, ◌≢◌, ℕ, zero, suc, ◌+◌, ◌-◌, ◌<◌, ◌≤◌, Bool, true, false, cond, nat_lt, nat_eq, Option, None, Some, is_none, unwrap_or, List, [], ◌∷◌, refl, sym, ap, subst, ◌∙◌, arith}
+use Rattle.std.proofs.Common.{◌≡◌, ◌≢◌, ℕ, zero, suc, ◌+◌, ◌-◌, ◌<◌, ◌≤◌, Bool, true, false, cond, nat_lt, nat_eq, Option, None, Some, is_none, unwrap_or, refl, sym, ap, subst, ◌∙◌, arith}
 use Rattle.std.proofs.lemmas.Bool.Decides.{nat_tests}
 use Rattle.std.specs.List.{find, range_with_len}
 use Rattle.denial_rules.specs.declared.bar.Bar.{Bar}
@@ -16,7 +16,7 @@ use Rattle.desk_model.specs.Legal.{last_moment}
 use Rattle.desk_model.specs.ExplainAnswer.{place_in, place_answer, clear_answer, person_answer, job_answer}
 use Rattle.earliest_minute.specs.declared.earliest.Earliest.{Earliest}
 use Rattle.earliest_minute.specs.declared.earliest.Earliest.TheVariants as earliest
-use Rattle.earliest_minute.specs.Least.{IsLeast, IsBarredThroughout}
+use Rattle.earliest_minute.specs.Least.{IsLeast}
 use Rattle.earliest_minute.specs.When.{IsJudged, IsTime, IsToldBy, IsWhen, minutes, first_clear, clear_or, judged_of, told_of, when_of}
 
 -- the first of some minutes at which a test of bars has none

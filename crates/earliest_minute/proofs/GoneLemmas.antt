@@ -1,5 +1,5 @@
 -- From the last moment on a bar that is gone stays gone.
-use Rattle.std.proofs.Common.{◌≡◌, inl, inr, ℕ, ◌≤◌, ◌<◌, Bool, true, false, cond, nat_lt, Option, None, Some, List, [], ◌∷◌, refl, sym, ap, subst, ◌∙◌, arith, unwrap_or}
+use Rattle.std.proofs.Common.{◌≡◌, inl, inr, ℕ, ◌≤◌, Bool, true, false, cond, nat_lt, Option, None, Some, List, [], refl, ap, ◌∙◌, arith, unwrap_or}
 use Rattle.std.specs.Option.{option_map}
 use Rattle.std.proofs.lemmas.Bool.{false≢true}
 use Rattle.std.proofs.lemmas.Bool.Decides.{nat_tests}
@@ -7,11 +7,10 @@ use Rattle.std.specs.Str.{bytes_eq}
 use Rattle.duty_events.specs.declared.event.Event.{Event}
 use Rattle.duty_events.specs.Lists.{latest, IsLawful}
 use Rattle.rest_rules.specs.Rest.{RestOk}
-use Rattle.law_bars.specs.Law.{law_bar, KeepsLaw, LawInWords}
-use Rattle.denial_rules.specs.declared.bar.Bar.{Bar}
+use Rattle.law_bars.specs.Law.{law_bar, LawInWords}
 use Rattle.denial_rules.specs.declared.bar.Bar.TheVariants as bar
 use Rattle.denial_rules.specs.declared.facts.Facts.{Facts}
-use Rattle.denial_rules.specs.Table.{marked_off_row, busy_row, on_offer_row, place_row, craft_row, quals_row, answered_row, held_row, law_row, first_bar}
+use Rattle.denial_rules.specs.Table.{marked_off_row, busy_row, on_offer_row, place_row, craft_row, quals_row, answered_row, held_row, law_row}
 use Rattle.denial_rules.proofs.TableLemmas.{both-none}
 use Rattle.desk_model.specs.declared.edition.Edition.{Edition}
 use Rattle.desk_model.specs.declared.edition.Edition.TheVariants as edition
@@ -20,7 +19,7 @@ use Rattle.desk_model.specs.History.{History}
 use Rattle.desk_model.specs.Job.{JobValue}
 use Rattle.desk_model.specs.Duty.{events, in_tour, place_at}
 use Rattle.desk_model.specs.Held.{held_in, hold_end, held}
-use Rattle.desk_model.specs.Bars.{law_of, facts_of, bar_of}
+use Rattle.desk_model.specs.Bars.{law_of, facts_of}
 use Rattle.desk_model.specs.Legal.{last_moment, IsLegal}
 use Rattle.desk_model.proofs.EventLemmas.{lawful-events}
 use Rattle.earliest_minute.specs.Least.{StaysGone}
