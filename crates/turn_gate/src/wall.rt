@@ -1,13 +1,13 @@
 ghost use base.Fml.{ftrue};
 ghost use Rattle.std.specs.Coded.{coded_option};
-ghost use Rattle.atomic_table.specs.Seated.{table_id_coded};
+ghost use Rattle.logbook.specs.Pages.{book_coded};
 ghost use Rattle.desk_model.specs.Mark.{Mark};
 
 use std::marker::Model;
 
 /// Which wall of windows shows a book's entries, as contracts see it. No value of it is made.
 pub struct Wall {
-    pub ghost mark: { Mark } by { coded_option table_id_coded },
+    pub ghost mark: { Mark } by { coded_option book_coded },
 }
 
 impl Model for Wall {
