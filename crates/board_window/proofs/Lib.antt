@@ -1,0 +1,9 @@
+mod SaidLemmas
+mod FoundLemmas
+mod SpotLemmas
+mod MovedLemmas
+mod BoardLemmas
+mod OfferLemmas
+mod FrontLemmas
+mod PublishedLemmas
+mod WallLemmas

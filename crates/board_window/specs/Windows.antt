@@ -1,0 +1,18 @@
+-- What contracts see of a wall.
+use Rattle.std.specs.Prelude.{◌≡◌, Option, None, Some, List}
+use Rattle.desk_model.specs.Entry.{EntryValue}
+use Rattle.board_window.specs.Shelves.{IsNextChange}
+use Rattle.board_window.specs.Walls.{FrontValue}
+use Rattle.board_window.specs.declared.change.Change.{Change}
+use Rattle.board_window.specs.declared.wall_name.WallName.{WallName}
+
+-- which wall it is; the entries whose boards its views may see; and those that it has been given, of which the last may wait to be shown
+pub record WallValue : Type 0 where
+  pub wall : WallName
+  pub shown : List EntryValue
+  pub added : List EntryValue
+
+-- all that was added is shown; or all but the last, whose change waits
+abbrev pub IsWaiting : FrontValue → FrontValue → Option Change → Type 0
+IsWaiting shown added None = shown ≡ added
+IsWaiting shown added (Some change) = (added ≡ change.front) × IsNextChange shown change

@@ -1,0 +1,278 @@
+ghost use Rattle.std.specs.Prelude.{◌≡◌, ◌+◌, ◌<◌, ◌≤◌, ◌^◌, [], ◌∷◌, ◌++◌, IfOk, IfSome, IfNone, OnOk, MatchBool, None, Some, length, drop, vec_len};
+ghost use Rattle.std.specs.List.{All};
+ghost use mathlib.Core.List.{IsPrefix};
+ghost use Rattle.desk_model.specs.History.{history_of};
+ghost use Rattle.desk_model.specs.Legal.{IsLegal};
+ghost use Rattle.board_window.specs.Shelves.{IsNextChange, IsRight};
+ghost use Rattle.board_window.specs.Walls.{front_of, history_in, longer_by};
+ghost use Rattle.board_window.specs.Windows.{IsWaiting};
+
+use crate::change::Change;
+use crate::copies::{Copies, publish};
+use crate::front::Front;
+use crate::laws::{
+    a_desk_opens_without_boards, the_last_entry_is_next, what_an_entry_makes_of_the_boards,
+};
+use crate::note::Note;
+use crate::published::{Learn, Tell};
+use crate::shelf::Shelf;
+use crate::showing::Showing;
+use crate::view::View;
+use crate::wall_list::WallList;
+use desk_base::NoMemory;
+use desk_model::{Entry, Opening, the_first_entries_are_legal};
+use left_right::writer::Writer;
+use std::alloc::Global;
+use std::marker::Model;
+use std::sync::Wait;
+
+/// A wall of windows on a desk's boards. It is given the desk's entries, and shows its views the boards that these make.
+/// It is not `Drop`: end it by `end`.
+pub struct Wall {
+    copies: Copies,
+    list: WallList,
+    /// The change of the last entry of the list, where it isn't shown yet.
+    waiting: Option<Change>,
+}
+
+impl Model for Wall {
+    ghost use Rattle.std.specs.Prelude.{◌≡◌, [], drop, Some};
+    ghost use Rattle.board_window.specs.Windows.{WallValue, IsWaiting};
+
+    ghost Value = { WallValue };
+
+    ghost view = { λ w. record {
+      wall = w.list.wall;
+      shown = w.copies.desk.shown.value.front.entries;
+      added = w.list.entries;
+    } };
+
+    ghost invariant = { λ w. (drop w.copies.behind w.copies.log.items ≡ [])
+        × (w.copies.desk.place.me.0.client ≡ Some w.list.wall)
+        × (w.copies.desk.shown.value.front.wall ≡ w.list.wall)
+        × IsWaiting w.copies.desk.shown.value.front w.list w.waiting };
+}
+
+// What the entry behind those that are shown changes: it waits, or is given to the list; `None` where that could not be.
+fn next_change(
+    shown: &Front,
+    list: &mut WallList,
+    waiting: Option<Change>,
+    entry: &Entry,
+) -> Option<Change>
+    requires waiting { IsWaiting shown.now list.old waiting }
+    requires few { length shown.now.entries + 1 < 2 ^ 32 }
+    requires legal { IsLegal (history_in (longer_by shown.now entry.now)) }
+    requires same { IsPrefix list.old.entries (shown.now.entries ++ entry.now ∷ []) }
+    ensures change { IfSome result (λ change. IsNextChange shown.now change) }
+    ensures entry { IfSome result (λ change. change.entry ≡ entry.now) }
+    ensures front { IfSome result (λ change. list.new ≡ change.front) }
+    ensures none { IfNone result (list.new ≡ shown.now) }
+{
+    match waiting {
+        Some(change) => Some(change),
+        None => list.give(entry),
+    }
+}
+
+// Makes two shelves that are alike of the entries that are given to a new list.
+fn fill(
+    list: &mut WallList,
+    first: &mut Shelf,
+    second: &mut Shelf,
+    entries: &[Entry],
+) -> Result<(), NoMemory>
+    requires none { list.old.entries ≡ [] }
+    requires first { first.old ≡ record { boards = []; front = list.old } }
+    requires second { second.old ≡ record { boards = []; front = list.old } }
+    requires few { length entries.now < 2 ^ 32 }
+    requires legal { IsLegal (history_of list.old.wall.opening entries.now) }
+    ensures list { OnOk result (list.new ≡ front_of list.old.wall entries.now) }
+    ensures first { OnOk result (first.new.front ≡ list.new) }
+    ensures second { OnOk result (second.new ≡ first.new) }
+    ensures right { OnOk result (IsRight first.new) }
+{
+    a_desk_opens_without_boards();
+    what_an_entry_makes_of_the_boards();
+    the_first_entries_are_legal();
+    the_last_entry_is_next();
+    for entry in entries {
+        let Some(change) = list.give(entry) else {
+            return Err(NoMemory);
+        };
+        first.follow(&change);
+        second.follow(&change);
+    }
+    Ok(())
+}
+
+impl Wall {
+    /// A wall that shows these entries of a desk that was opened so, fewer than 2^32, with 1 to 63 views; `NoMemory` where there is
+    /// none for it. The wall and each view stand for the history of these entries.
+    pub fn new<R: Wait>(
+        rt: &R,
+        alloc: Global,
+        opening: &Opening,
+        entries: &[Entry],
+        views: u8,
+    ) -> Result<(Wall, Vec<View>), NoMemory>
+        requires legal { IsLegal (history_of opening.now entries.now) }
+        requires few { length entries.now < 2 ^ 32 }
+        requires some { 1 ≤ views }
+        requires most { views ≤ 63 }
+        ensures opening { IfOk result (λ made. made.0.wall.opening ≡ opening.now) }
+        ensures shown { IfOk result (λ made. made.0.shown ≡ entries.now) }
+        ensures added { IfOk result (λ made. made.0.added ≡ entries.now) }
+        ensures count { IfOk result (λ made. vec_len made.1 ≡ views) }
+        ensures each { IfOk result (λ made. All (λ view. view ≡ front_of made.0.wall entries.now) made.1.items) }
+    {
+        let mut list = WallList::new(alloc, *opening)?;
+        let mut first = Shelf::new(alloc, list.front())?;
+        let mut second = Shelf::new(alloc, list.front())?;
+        fill(&mut list, &mut first, &mut second, entries)?;
+        let mut copies = match Writer::new(alloc, first, second, usize::from(views)) {
+            Ok(copies) => copies,
+            Err(_) => return Err(NoMemory),
+        };
+        publish(&mut copies, rt);
+        let mut wall = Wall {
+            copies,
+            list,
+            waiting: None,
+        };
+        match wall.views(alloc, views) {
+            Ok(views) => Ok((wall, views)),
+            Err(NoMemory) => {
+                wall.end(rt);
+                Err(NoMemory)
+            }
+        }
+    }
+
+    // A view of what is shown.
+    fn view(&mut self) -> Result<View, NoMemory>
+        ensures same { self.new ≡ self.old }
+        ensures view { IfOk result (λ view. view ≡ front_of self.old.wall self.old.shown) }
+    {
+        let mut reader = match self.copies.factory().reader() {
+            Ok(reader) => reader,
+            Err(_) => return Err(NoMemory),
+        };
+        let told = self.copies.tell::<Tell>();
+        reader.learn::<Learn>(told);
+        Ok(View::new(reader, self.copies.published().front.again()))
+    }
+
+    // So many views of what is shown.
+    fn views(&mut self, alloc: Global, count: u8) -> Result<Vec<View>, NoMemory>
+        ensures same { self.new ≡ self.old }
+        ensures count { IfOk result (λ views. vec_len views ≡ count) }
+        ensures each { IfOk result (λ views. All (λ view. view ≡ front_of self.old.wall self.old.shown) views.items) }
+    {
+        let mut views = Vec::with_capacity(alloc, usize::from(count))?;
+        for _ in 0..count {
+            let view = self.view()?;
+            views.push_reserved(view);
+        }
+        Ok(views)
+    }
+
+    // How many entries are shown.
+    fn count(&self) -> u32
+        ensures count { result ≡ length self.now.shown }
+        ensures begins { IsPrefix self.now.shown self.now.added }
+        ensures most { length self.now.added ≤ length self.now.shown + 1 }
+    {
+        self.copies.published().front.count()
+    }
+
+    // The list that is shown, as a note.
+    fn note(&self) -> Note
+        ensures { result ≡ front_of self.now.wall self.now.shown }
+    {
+        Note {
+            front: self.copies.published().front.again(),
+        }
+    }
+
+    // Shows the next entry, and says whether it did; else there is no memory for it.
+    fn show_one<R: Wait>(&mut self, rt: &R, entry: &Entry) -> bool
+        requires few { length self.old.shown + 1 < 2 ^ 32 }
+        requires legal { IsLegal (history_of self.old.wall.opening (self.old.shown ++ entry.now ∷ [])) }
+        requires added { IsPrefix self.old.added (self.old.shown ++ entry.now ∷ []) }
+        ensures wall { self.new.wall ≡ self.old.wall }
+        ensures shown { MatchBool result (self.new.shown ≡ self.old.shown ++ entry.now ∷ []) (self.new.shown ≡ self.old.shown) }
+        ensures added { IsPrefix self.new.added (self.old.shown ++ entry.now ∷ []) }
+    {
+        what_an_entry_makes_of_the_boards();
+        the_last_entry_is_next();
+        let waiting = self.waiting.take();
+        let Some(change) = next_change(
+            &self.copies.published().front,
+            &mut self.list,
+            waiting,
+            entry,
+        ) else {
+            return false;
+        };
+        match self.copies.append(change) {
+            Ok(()) => {
+                publish(&mut self.copies, rt);
+                true
+            }
+            Err(change) => {
+                self.waiting = Some(change);
+                false
+            }
+        }
+    }
+
+    // Shows the entries behind those that are shown, up to the first for which there is no memory.
+    fn show_all<R: Wait>(&mut self, rt: &R, entries: &[Entry])
+        requires legal { IsLegal (history_of self.old.wall.opening entries.now) }
+        requires few { length entries.now < 2 ^ 32 }
+        requires added { IsPrefix self.old.added entries.now }
+        ensures wall { self.new.wall ≡ self.old.wall }
+        ensures shown { IsPrefix self.new.shown entries.now }
+        ensures added { IsPrefix self.new.added entries.now }
+        ensures more { IsPrefix self.old.shown self.new.shown }
+    {
+        the_first_entries_are_legal();
+        for place in self.count() as usize..entries.len() {
+            self.count();
+            if !self.show_one(rt, &entries[place]) {
+                return;
+            }
+        }
+    }
+
+    /// Shows a desk's entries, all of them, fewer than 2^32, of which those that it was given before are the first. What is shown grows, and
+    /// is all but the last `behind` of them; above 0 is a want of memory. Views learn what is shown by the note.
+    pub fn show<R: Wait>(&mut self, rt: &R, entries: &[Entry]) -> Showing
+        requires legal { IsLegal (history_of self.old.wall.opening entries.now) }
+        requires few { length entries.now < 2 ^ 32 }
+        requires added { IsPrefix self.old.added entries.now }
+        ensures wall { self.new.wall ≡ self.old.wall }
+        ensures note { result.note ≡ front_of self.new.wall self.new.shown }
+        ensures shown { IsPrefix self.new.shown entries.now }
+        ensures behind { length self.new.shown + result.behind ≡ length entries.now }
+        ensures added { IsPrefix self.new.added entries.now }
+        ensures more { IsPrefix self.old.shown self.new.shown }
+    {
+        self.show_all(rt, entries);
+        Showing {
+            note: self.note(),
+            behind: entries.len() as u32 - self.count(),
+        }
+    }
+
+    /// Ends the windows: from then on no view sees anything. It waits for views that are just looking.
+    pub fn end<R: Wait>(self, rt: &R) {
+        let Wall {
+            copies,
+            list: _,
+            waiting: _,
+        } = self;
+        copies.take(rt);
+    }
+}
