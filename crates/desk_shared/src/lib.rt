@@ -1,14 +1,24 @@
-//! One desk for many callers, who take turns at it.
+//! One desk for many callers, who take turns at it; and one with windows on its boards.
 #![tactic(auto)]
 
 mod called;
+mod called_shown;
 mod desk;
+mod laws;
 mod receipt;
 mod seat_spent;
 mod seats_missing;
+mod shown_book;
+mod shown_desk;
+mod shown_seats_missing;
 
 pub use called::Called;
+pub use called_shown::CalledShown;
 pub use desk::Desk;
+pub use laws::a_desk_has_one_wall;
 pub use receipt::Receipt;
 pub use seat_spent::SeatSpent;
 pub use seats_missing::SeatsMissing;
+pub use shown_book::ShownBook;
+pub use shown_desk::ShownDesk;
+pub use shown_seats_missing::ShownSeatsMissing;

@@ -1,0 +1,8 @@
+use Rattle.std.proofs.Common.{List, ap, sym, subst}
+use Rattle.std.specs.List.{All}
+use Rattle.desk_model.specs.Entry.{EntryValue}
+use Rattle.turn_gate.specs.Turns.{Knows}
+use Rattle.desk_shared.proofs.shown_desk.ShownDesk.close.Goals as goal
+
+pub returns-in-Ok-clause-known : goal.returns-in-Ok-clause-known
+returns-in-Ok-clause-known g c = subst (λ (es : List EntryValue). All (Knows es) c.args.seats.items) (sym (ap (λ h. h.entries) c.end.ensures.history)) c.in-Ok.ensures.known

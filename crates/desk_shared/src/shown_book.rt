@@ -1,0 +1,96 @@
+ghost use Rattle.std.specs.Prelude.{◌≡◌, ◌+◌, ◌<◌, ◌≤◌, length};
+ghost use mathlib.Core.List.{IsPrefix};
+ghost use Rattle.desk_model.specs.History.{with_entry};
+ghost use Rattle.desk_model.specs.Legal.{IsLegal, next};
+ghost use Rattle.desk_model.specs.declared.limits.TheConstants.{LAST_CALLER};
+
+use board_window::{Showing, Wall};
+use call_history::Book;
+use desk_model::{Booked, DeskCore, Entry, Stated};
+use std::marker::Model;
+use std::sync::Wait;
+
+/// A book with the wall of windows that shows its entries. It is not `Drop`: end it by `end`.
+pub struct ShownBook<B: Booked> {
+    pub(crate) book: B,
+    pub(crate) wall: Wall,
+}
+
+impl<B: Booked> Model for ShownBook<B> {
+    ghost use Rattle.std.specs.Prelude.{◌≡◌, ◌-◌, length, take};
+    ghost use Rattle.desk_shared.specs.Shown.{ShownValue};
+
+    ghost Value = { ShownValue };
+
+    ghost view = { λ b. record {
+      history = B.history b.book;
+      left = B.room b.book - length (B.history b.book).entries;
+      wall = b.wall.wall;
+      shown = b.wall.shown;
+      added = b.wall.added;
+    } };
+
+    ghost invariant = { λ b. (b.wall.wall.opening ≡ (B.history b.book).opening)
+        × (b.wall.added ≡ take (length b.wall.added) (B.history b.book).entries) };
+}
+
+impl<B: Booked> Booked for ShownBook<B> {
+    ghost use Rattle.std.specs.Prelude.{◌+◌, length};
+    ghost use Rattle.std.proofs.Common.{arith};
+    ghost use Rattle.desk_shared.specs.Shown.{mark_of};
+
+    ghost history = { λ b. b.history };
+
+    ghost room = { λ b. length b.history.entries + b.left };
+
+    ghost mark = { λ b. mark_of b.wall };
+
+    fn count(&self) -> u32 {
+        self.book.count()
+    }
+
+    ghost within = { λ b. Prim.omega arith };
+}
+
+impl<C: DeskCore> ShownBook<Book<C>> {
+    /// Answers what caller 0 to 63 states, keeps the entry, and shows it. There is room for it.
+    pub(crate) fn step<R: Wait>(&mut self, rt: &R, caller: u8, stated: Stated) -> (Entry, Showing)
+        requires caller { caller ≤ LAST_CALLER }
+        requires room { 0 < self.old.left }
+        ensures answer { result.0 ≡ next self.old.history caller stated }
+        ensures kept { self.new.history ≡ with_entry self.old.history result.0 }
+        ensures left { self.new.left + 1 ≡ self.old.left }
+        ensures wall { self.new.wall ≡ self.old.wall }
+        ensures note_wall { result.1.note.wall ≡ self.old.wall }
+        ensures note { IsPrefix result.1.note.entries self.new.history.entries }
+        ensures behind { length result.1.note.entries + result.1.behind ≡ length self.new.history.entries }
+    {
+        self.book.left();
+        let Ok(entry) = self.book.step(caller, stated) else {
+            unreachable!()
+        };
+        self.book.is_legal();
+        self.book.left();
+        let showing = self.wall.show(rt, self.book.entries());
+        (entry, showing)
+    }
+
+    /// What it keeps is a legal history, and its wall is of a desk that was opened so. It does nothing: its clauses are the laws.
+    pub(crate) fn is_legal(&self)
+        ensures legal { IsLegal self.now.history }
+        ensures opening { self.now.wall.opening ≡ self.now.history.opening }
+    {
+        self.book.is_legal();
+    }
+
+    /// Ends the windows, and gives the book.
+    pub(crate) fn end<R: Wait>(self, rt: &R) -> Book<C>
+        ensures history { ⟦<Book<C> as Booked>⟧.history result ≡ self.history }
+        ensures room { ⟦<Book<C> as Booked>⟧.room result ≡ length self.history.entries + self.left }
+    {
+        self.book.left();
+        let ShownBook { book, wall } = self;
+        wall.end(rt);
+        book
+    }
+}
