@@ -1,3 +1,4 @@
 mod PutLemmas
 mod LineLemmas
 mod TakeLemmas
+mod LookLemmas

@@ -5,3 +5,4 @@ pub mod FileLine
 pub mod MemoryLine
 pub mod Hears
 pub mod Takes
+pub mod Looks

@@ -1,0 +1,26 @@
+-- A look's record, and the line that holds it.
+use Rattle.std.proofs.Common.{◌≡◌, ◌∙◌, ℕ, ◌<◌, ◌≤◌, Bool, true, false, not, List, [], ◌∷◌, length, get_or, map, codes, decimal, nat_eq, refl, sym, arith, Bor}
+use Rattle.std.specs.Cmp.Lexicographic.{pointwise}
+use Rattle.std.proofs.lemmas.Bool.Decides.{Decides-eqb}
+use Rattle.std.proofs.lemmas.Slice.Eq.{slice_eq-Decides}
+use Rattle.desk_base.specs.Code.{IsCode}
+use Rattle.caller_lines.specs.Looks.{IsLookRecord}
+
+no_not : (b : Bool) → not b ≡ false → b ≡ true
+no_not true not_false = refl
+no_not false not_false = sym not_false
+
+-- a text that doesn't compare as unlike a word is the word
+pub look-word : (text word : List ℕ) (unlike : Bool) → unlike ≡ not (pointwise nat_eq text word) → unlike ≡ false → word ≡ codes "look" → text ≡ codes "look"
+look-word text word unlike told like is = (slice_eq-Decides Decides-eqb text word _ refl).0 (no_not _ (sym told ∙ like)) ∙ is
+
+-- three fields are a look's, where each is
+pub look-record : (fields : List (Bor (List ℕ))) (d : Bor (List ℕ)) (board : List ℕ) (place : ℕ) → 3 ≤ length fields → length fields < 4
+    → (get_or fields 0 d).now ≡ codes "look" → IsCode (get_or fields 1 d).now × (board ≡ (get_or fields 1 d).now)
+    → (1 ≤ place) × (place ≤ 9_999) × ((get_or fields 2 d).now ≡ decimal place) → IsLookRecord (map (λ field. field.now) fields) board place
+look-record [] d board place least below word code at = absurd (omega (arith, least))
+look-record (_ ∷ []) d board place least below word code at = absurd (omega (arith, least))
+look-record (_ ∷ _ ∷ []) d board place least below word code at = absurd (omega (arith, least))
+look-record (x ∷ y ∷ z ∷ []) d board place least below word code at =
+    record { code = rw code.1 code.0; some = at.0; most = at.1; fields_are = rw (word, code.1, at.2) refl }
+look-record (_ ∷ _ ∷ _ ∷ _ ∷ rest) d board place least below word code at = absurd (omega (arith, below))

@@ -1,0 +1,90 @@
+//! A line that asks for a look at a board.
+ghost use Rattle.std.specs.Prelude.{◌≡◌, ℕ, List, ◌∷◌, [], map, IfOk, IfSome, IsNone};
+ghost use Rattle.desk_base.specs.Parts.{parts_by};
+ghost use Rattle.record_rows.specs.Rows.{records_of, row_fields};
+ghost use Rattle.caller_lines.specs.Looks.{IsLookLine, IsNoLook, IsLookRecord};
+
+use command_parser::read_place;
+use desk_base::{Code, NoMemory};
+use record_rows::{Fields, Row, Rows, fill_with_line, is_plain};
+use std::alloc::Global;
+
+/// A look that a line asks for: who stands at this place of the board, from 1.
+#[derive(Clone, Copy, Debug)]
+pub struct LookLine {
+    pub board: Code,
+    pub place: u16,
+}
+
+/// The look that a line asks for; `None` where it asks for none. The line has to be one record of the fields `look`, a board's
+/// code and a place, 1 to 9,999, as `csv` reads it, with or without a line feed.
+pub fn read_look(alloc: Global, line: &[u8]) -> Result<Option<LookLine>, NoMemory>
+    ensures look { IfOk result (λ found. IfSome found (λ look. IsLookLine line.now look.board look.place)) }
+    ensures none { IfOk result (λ found. IsNone found → IsNoLook line.now) }
+{
+    if is_plain(line) {
+        Ok(read_plain(line))
+    } else {
+        read_only_record(alloc, line)
+    }
+}
+
+// Reads a line that is one record, whose fields stand between its commas. It needs no reader of records, which is dear to make
+// for each.
+fn read_plain(line: &[u8]) -> Option<LookLine>
+    requires { records_of line.now ≡ parts_by 44 line.now ∷ [] }
+    ensures look { IfSome result (λ look. IsLookLine line.now look.board look.place) }
+    ensures none { IsNone result → IsNoLook line.now }
+{
+    if !line.starts_with(b"look,") {
+        return None;
+    }
+    let mut fields = Fields::new();
+    fill_with_line(&mut fields, line);
+    look_of(fields.as_slice())
+}
+
+// Reads the line's first record, and sees that it has no second one.
+fn read_only_record(alloc: Global, line: &[u8]) -> Result<Option<LookLine>, NoMemory>
+    ensures look { IfOk result (λ found. IfSome found (λ look. IsLookLine line.now look.board look.place)) }
+    ensures none { IfOk result (λ found. IsNone found → IsNoLook line.now) }
+{
+    let mut rows = Rows::of(alloc, line);
+    let mut row = Row::new(alloc);
+    if !rows.next(&mut row)? {
+        return Ok(None);
+    }
+    let found = read_row(&row);
+    if rows.next(&mut row)? {
+        return Ok(None);
+    }
+    Ok(found)
+}
+
+// The look that a record asks for.
+fn read_row(row: &Row) -> Option<LookLine>
+    ensures some { IfSome result (λ look. IsLookRecord (row_fields row.now) look.board look.place) }
+    ensures none { IsNone result → (board : List ℕ) (place : ℕ) → ¬ IsLookRecord (row_fields row.now) board place }
+{
+    let mut fields = Fields::new();
+    row.fill_fields(&mut fields);
+    look_of(fields.as_slice())
+}
+
+// The look that a record's fields ask for.
+fn look_of(fields: &[&[u8]]) -> Option<LookLine>
+    ensures some { IfSome result (λ look. IsLookRecord (map (λ field. field.now) fields.now) look.board look.place) }
+    ensures none { IsNone result → (board : List ℕ) (place : ℕ)
+        → ¬ IsLookRecord (map (λ field. field.now) fields.now) board place }
+{
+    let [word, board, place] = fields else {
+        return None;
+    };
+    if *word != b"look".as_slice() {
+        return None;
+    }
+    Some(LookLine {
+        board: Code::read(board)?,
+        place: read_place(place)?,
+    })
+}
