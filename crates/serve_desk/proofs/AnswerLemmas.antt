@@ -55,7 +55,7 @@ follows-fault heard left GaveTooLong reads = absurd (cc)
 follows-fault heard left GaveEnd reads = absurd (cc)
 
 -- it gave a line that is too long
-follows-too_long : (heard left : ℕ) (gave : Given) (texts : List (List ℕ)) (ends : Option Why) → heard < LINE_LIMIT → ReadsAs gave said.TooLong → Puts too_long None texts ends
+pub follows-too_long : (heard left : ℕ) (gave : Given) (texts : List (List ℕ)) (ends : Option Why) → heard < LINE_LIMIT → ReadsAs gave said.TooLong → Puts too_long None texts ends
     → Follows heard left gave [] texts ends
 follows-too_long heard left GaveTooLong texts ends few reads puts = a_line_too_long texts ends few puts
 follows-too_long heard left (GaveLine bytes) texts ends few reads puts = absurd reads
@@ -71,7 +71,7 @@ follows-no_memory heard left GaveEnd texts ends few reads puts = absurd (cc)
 follows-no_memory heard left GaveFailed texts ends few reads puts = absurd (cc)
 
 -- it gave no command
-follows-malformed : (heard left : ℕ) (gave : Given) (field : ℕ) (texts : List (List ℕ)) (ends : Option Why) → heard < LINE_LIMIT → ReadsAs gave (said.Malformed field)
+pub follows-malformed : (heard left : ℕ) (gave : Given) (field : ℕ) (texts : List (List ℕ)) (ends : Option Why) → heard < LINE_LIMIT → ReadsAs gave (said.Malformed field)
     → Puts (malformed field) None texts ends → Follows heard left gave [] texts ends
 follows-malformed heard left (GaveLine bytes) field texts ends few reads puts = no_command bytes field texts ends few reads puts
 follows-malformed heard left GaveTooLong field texts ends few reads puts = absurd (cc)
@@ -79,7 +79,7 @@ follows-malformed heard left GaveEnd field texts ends few reads puts = absurd (c
 follows-malformed heard left GaveFailed field texts ends few reads puts = absurd (cc)
 
 -- it gave a command, and the seat has no call left
-follows-spent : (heard left : ℕ) (gave : Given) (s : StatedValue) (texts : List (List ℕ)) (ends : Option Why) → heard < LINE_LIMIT → ReadsAs gave (said.Command s) → left ≡ 0
+pub follows-spent : (heard left : ℕ) (gave : Given) (s : StatedValue) (texts : List (List ℕ)) (ends : Option Why) → heard < LINE_LIMIT → ReadsAs gave (said.Command s) → left ≡ 0
     → Puts spent (Some why.Spent) texts ends → Follows heard left gave [] texts ends
 follows-spent heard left (GaveLine bytes) s texts ends few reads none puts = no_call_left bytes s texts ends few reads none puts
 follows-spent heard left GaveTooLong s texts ends few reads none puts = absurd (cc)
@@ -87,7 +87,7 @@ follows-spent heard left GaveEnd s texts ends few reads none puts = absurd (cc)
 follows-spent heard left GaveFailed s texts ends few reads none puts = absurd (cc)
 
 -- it gave a command, which was called
-follows-call : (heard left : ℕ) (gave : Given) (e : EntryValue) (texts : List (List ℕ)) (ends : Option Why) → heard < LINE_LIMIT → ReadsAs gave (said.Command e.stated) → 0 < left
+pub follows-call : (heard left : ℕ) (gave : Given) (e : EntryValue) (texts : List (List ℕ)) (ends : Option Why) → heard < LINE_LIMIT → ReadsAs gave (said.Command e.stated) → 0 < left
     → Puts (entry_line e) None texts ends → Follows heard left gave (e ∷ []) texts ends
 follows-call heard left (GaveLine bytes) e texts ends few reads some puts = a_call bytes e texts ends few reads some puts
 follows-call heard left GaveTooLong e texts ends few reads some puts = absurd (cc)

@@ -4,3 +4,7 @@ mod AnswerLemmas
 mod SessionLemmas
 mod LineLemmas
 mod ServeLemmas
+mod SightLemmas
+mod WatchLemmas
+mod WatchAnswerLemmas
+mod WatchLineLemmas

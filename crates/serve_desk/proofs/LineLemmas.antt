@@ -12,7 +12,7 @@ use Rattle.turn_gate.specs.declared.start.Start.{Start}
 use Rattle.turn_gate.specs.declared.told.Told.{Told}
 use Rattle.serve_desk.specs.Told.{LineValue}
 use Rattle.serve_desk.specs.Session.{Session}
-use Rattle.serve_desk.specs.AllLines.{IsServed, AreServed}
+use Rattle.serve_desk.specs.AllLines.{IsServed, OneLine, AreAllServed, AreServed}
 use Rattle.serve_desk.specs.Attends.{Attends}
 
 -- the seats of a new gate, one by one
@@ -20,13 +20,13 @@ pub length-new_seats : (gate : GateValue) (first count : ℕ) → length (new_se
 length-new_seats gate first zero = refl
 length-new_seats gate first (suc count) = ap (λ n. suc n) (length-new_seats gate (first + 1) count)
 
-new_seats-at : (gate : GateValue) (first count i : ℕ) (d : SeatValue) → i < count → get_or (new_seats gate first count) i d ≡ new_seat gate (first + i)
+pub new_seats-at : (gate : GateValue) (first count i : ℕ) (d : SeatValue) → i < count → get_or (new_seats gate first count) i d ≡ new_seat gate (first + i)
 new_seats-at gate first zero i d within = absurd (omega arith)
 new_seats-at gate first (suc count) zero d within = ap (new_seat gate) (omega arith)
 new_seats-at gate first (suc count) (suc i) d within = new_seats-at gate (first + 1) count i d (omega arith) ∙ ap (new_seat gate) (omega arith)
 
 -- what a post has at its place, where all seats are told in order
-seat-at : {P : Type 0} (seat : P → Option SeatValue) (posts : List P) (seats : List SeatValue) (i : ℕ) (d : P) (e : SeatValue) → map seat posts ≡ map (λ s. Some s) seats → i < length posts
+pub seat-at : {P X : Type 0} (seat : P → Option X) (posts : List P) (seats : List X) (i : ℕ) (d : P) (e : X) → map seat posts ≡ map (λ s. Some s) seats → i < length posts
     → seat (get_or posts i d) ≡ Some (get_or seats i e)
 seat-at seat posts seats i d e same within =
     let long : length seats ≡ length posts = sym (length-map seats (λ s. Some s)) ∙ (ap length (sym same) ∙ length-map posts seat) in
@@ -34,7 +34,7 @@ seat-at seat posts seats i d e same within =
     sym (get_or-map seat posts i d (Some e) within) ∙ (ap (λ l. get_or l i (Some e)) same ∙ get_or-map (λ s. Some s) seats i e (Some e) near)
 
 -- of a seat that knew what the book began with, the book's later entries are those of its session
-own-served : (base after : List EntryValue) (number : ℕ) (seat later : SeatValue) (es : List EntryValue) → seat.number ≡ number → seat.known ≡ base → later.number ≡ seat.number
+pub own-served : (base after : List EntryValue) (number : ℕ) (seat later : SeatValue) (es : List EntryValue) → seat.number ≡ number → seat.known ≡ base → later.number ≡ seat.number
     → own later.known seat.number ≡ own seat.known seat.number ++ es → Knows after later → own after number ≡ own base number ++ es
 own-served base after number seat later es is began same made knows =
     let here : later.number ≡ number = same ∙ is in
@@ -42,7 +42,7 @@ own-served base after number seat later es is began same made knows =
     ∙ (subst (λ n. own later.known n ≡ own seat.known n ++ es) is made ∙ ap (λ l. own l number ++ es) began)
 
 -- so of its number the entries behind those are its session's
-own-more : (base more after es : List EntryValue) (number : ℕ) → after ≡ base ++ more → own after number ≡ own base number ++ es → es ≡ own more number
+pub own-more : (base more after es : List EntryValue) (number : ℕ) → after ≡ base ++ more → own after number ≡ own base number ++ es → es ≡ own more number
 own-more base more after es number begins served =
     append_cancel_left (own base number) es (own more number)
     (sym served ∙ (ap (λ l. own l number) begins ∙ filter-append (λ e. e.caller == number) base more))
@@ -70,7 +70,7 @@ IsServed-attends gate more after i seat later known line served a had has knows 
     }
 
 -- an element, where a list has a place
-some_element : {P : Type 0} (posts : List P) (i : ℕ) → i < length posts → P
+pub some_element : {P : Type 0} (posts : List P) (i : ℕ) → i < length posts → P
 some_element [] i within = absurd (omega arith)
 some_element (post ∷ posts) i within = post
 
@@ -97,15 +97,20 @@ All-left posts later seats seat line gate attends as_many back k e within =
     let is : a.behind ≡ get_or seats k e = cc (a.has, has) in
     subst (λ s. IsSeatOf gate s) is a.of_desk
 
+-- what one post makes one line, at the seat of its number, by what the book has then
+abbrev pub AttendsOne : {P : Type 0} → (P → Option SeatValue) → (P → LineValue) → GateValue → List P → List P → Told → List EntryValue → OneLine → Type 0
+AttendsOne {P} seat line gate posts later book more One = (i : ℕ) (d : P) (known : SeatValue) → i < length posts → seat (get_or posts i d) ≡ Some (new_seat gate (1 + i)) → seat (get_or later i d) ≡ Some known
+    → Knows book.entries known → One (i + 1) (own more (i + 1)) (line (get_or posts i d)) (line (get_or later i d))
+
 -- all lines, at the seats of a new desk
-AreServed-attended : {P : Type 0} (seat : P → Option SeatValue) (line : P → LineValue) (gate : GateValue) (posts later : List P) (seats : List SeatValue) (book : Told)
-    → ((i : ℕ) (d : P) → i < length posts → Attends gate (seat (get_or posts i d)) (seat (get_or later i d)) (line (get_or posts i d)) (line (get_or later i d)))
+AreServed-attended : {P : Type 0} (One : OneLine) (seat : P → Option SeatValue) (line : P → LineValue) (gate : GateValue) (posts later : List P) (seats : List SeatValue) (book : Told)
+    → (of_gate : IsBookOf gate.start book) → AttendsOne seat line gate posts later book of_gate.later One
     → length later ≡ length posts → gate.start.seats ≡ length posts → map seat posts ≡ map (λ s. Some s) (new_seats gate 1 (length posts)) → map (λ s. Some s) seats ≡ map seat later
-    → All (Knows book.entries) seats → IsBookOf gate.start book
-    → AreServed gate.start.quota gate.start.book.entries book.entries (map line posts) (map line later)
-AreServed-attended {P} seat line gate posts later seats book attends as_many count new back knows of_gate =
+    → All (Knows book.entries) seats
+    → AreAllServed One gate.start.book.entries book.entries (map line posts) (map line later)
+AreServed-attended {P} One seat line gate posts later seats book of_gate attends as_many count new back knows =
     let n : length (map line posts) ≡ length posts = length-map posts line in
-    let one : (i : ℕ) (x : LineValue) → i < length (map line posts) → IsServed gate.start.quota (own of_gate.later (i + 1)) (get_or (map line posts) i x) (get_or (map line later) i x) =
+    let one : (i : ℕ) (x : LineValue) → i < length (map line posts) → One (i + 1) (own of_gate.later (i + 1)) (get_or (map line posts) i x) (get_or (map line later) i x) =
     λ i x within.
     let here : i < length posts = omega arith in
     let there : i < length later = omega arith in
@@ -115,9 +120,9 @@ AreServed-attended {P} seat line gate posts later seats book attends as_many cou
     let had : seat (get_or posts i d) ≡ Some (new_seat gate (1 + i)) = seat-at seat posts (new_seats gate 1 (length posts)) i d e new here ∙ ap (λ s. Some s) (new_seats-at gate 1 (length posts) i e here) in
     let has : seat (get_or later i d) ≡ Some (get_or seats i e) = seat-at seat later seats i d e (sym back) there in
     let k : Knows book.entries (get_or seats i e) = knows i e (omega arith) in
-    let served = IsServed-attends gate of_gate.later book.entries i (seat (get_or posts i d)) (seat (get_or later i d)) (get_or seats i e) (line (get_or posts i d)) (line (get_or later i d)) (attends i d here) had has k (sym of_gate.begins) in
-    subst (λ l. IsServed gate.start.quota (own of_gate.later (i + 1)) l (get_or (map line later) i x)) (sym (get_or-map line posts i d x here))
-    (subst (λ l. IsServed gate.start.quota (own of_gate.later (i + 1)) (line (get_or posts i d)) l) (sym (get_or-map line later i d x there)) served)
+    let served = attends i d (get_or seats i e) here had has k in
+    subst (λ l. One (i + 1) (own of_gate.later (i + 1)) l (get_or (map line later) i x)) (sym (get_or-map line posts i d x here))
+    (subst (λ l. One (i + 1) (own of_gate.later (i + 1)) (line (get_or posts i d)) l) (sym (get_or-map line later i d x there)) served)
     in
     record {
       more = of_gate.later;
@@ -127,25 +132,33 @@ AreServed-attended {P} seat line gate posts later seats book attends as_many cou
       each = one;
     }
 
-map-map : {A B C : Type 0} (f : A → B) (g : B → C) (xs : List A) → map g (map f xs) ≡ map (λ x. g (f x)) xs
+pub map-map : {A B C : Type 0} (f : A → B) (g : B → C) (xs : List A) → map g (map f xs) ≡ map (λ x. g (f x)) xs
 map-map f g [] = refl
 map-map f g (x ∷ xs) = ap (λ ys. g (f x) ∷ ys) (map-map f g xs)
 
 -- the lines of a list, which were taken to posts with the seats of a new desk, and back
-pub AreServed-all : {P L : Type 0} (posts later : List P) (lines served : List L) (made seats : List SeatValue) (seat : P → Option SeatValue) (line : P → L) (value : L → LineValue) (gate : GateValue)
-    (start : Start) (book : Told)
-    → ((i : ℕ) (d : P) → i < length posts
-    → Attends gate (seat (get_or posts i d)) (seat (get_or later i d)) (value (line (get_or posts i d))) (value (line (get_or later i d))))
-    → length later ≡ length posts → map line posts ≡ lines → served ≡ map line later → made ≡ new_seats gate 1 start.seats → map seat posts ≡ map (λ s. Some s) made
-    → map (λ s. Some s) seats ≡ map seat later → gate.start ≡ start → start.seats ≡ length lines → All (Knows book.entries) seats → IsBookOf gate.start book
-    → AreServed start.quota start.book.entries book.entries (map value lines) (map value served)
-AreServed-all posts later lines served made seats seat line value gate start book attends as_many taken left new had back began count knows of_gate =
+pub AreServed-all : {P L : Type 0} (One : OneLine) (posts later : List P) (lines served : List L) (made seats : List SeatValue) (seat : P → Option SeatValue) (line : P → L) (value : L → LineValue) (gate : GateValue)
+    (many : ℕ) (book : Told) → (of_gate : IsBookOf gate.start book) → AttendsOne seat (λ p. value (line p)) gate posts later book of_gate.later One
+    → length later ≡ length posts → map line posts ≡ lines → served ≡ map line later → made ≡ new_seats gate 1 many → map seat posts ≡ map (λ s. Some s) made
+    → map (λ s. Some s) seats ≡ map seat later → gate.start.seats ≡ many → many ≡ length lines → All (Knows book.entries) seats
+    → AreAllServed One gate.start.book.entries book.entries (map value lines) (map value served)
+AreServed-all One posts later lines served made seats seat line value gate many book of_gate attends as_many taken left new had back began count knows =
     let long : length lines ≡ length posts = ap length (sym taken) ∙ length-map posts line in
     let seated : map seat posts ≡ map (λ s. Some s) (new_seats gate 1 (length posts)) = had ∙ ap (λ l. map (λ s. Some s) l) (new ∙ ap (new_seats gate 1) (count ∙ long)) in
-    let counted : gate.start.seats ≡ length posts = ap (λ k. k.seats) began ∙ (count ∙ long) in
-    let all = AreServed-attended seat (λ p. value (line p)) gate posts later seats book attends as_many counted seated back knows of_gate in
+    let all = AreServed-attended One seat (λ p. value (line p)) gate posts later seats book of_gate attends as_many (began ∙ (count ∙ long)) seated back knows in
     let here : map (λ p. value (line p)) posts ≡ map value lines = sym (map-map line value posts) ∙ ap (map value) taken in
     let there : map (λ p. value (line p)) later ≡ map value served = sym (map-map line value later) ∙ ap (map value) (sym left) in
-    subst (λ k. AreServed k.quota k.book.entries book.entries (map value lines) (map value served)) began
-    (subst (λ l. AreServed gate.start.quota gate.start.book.entries book.entries l (map value served)) here
-    (subst (λ l. AreServed gate.start.quota gate.start.book.entries book.entries (map (λ p. value (line p)) posts) l) there all))
+    subst (λ l. AreAllServed One gate.start.book.entries book.entries l (map value served)) here
+    (subst (λ l. AreAllServed One gate.start.book.entries book.entries (map (λ p. value (line p)) posts) l) there all)
+
+-- each by a session without looks
+pub AttendsOne-session : {P : Type 0} (seat : P → Option SeatValue) (line : P → LineValue) (gate : GateValue) (posts later : List P) (book : Told) → (of_gate : IsBookOf gate.start book)
+    → ((i : ℕ) (d : P) → i < length posts → Attends gate (seat (get_or posts i d)) (seat (get_or later i d)) (line (get_or posts i d)) (line (get_or later i d)))
+    → AttendsOne seat line gate posts later book of_gate.later (λ number. IsServed gate.start.quota)
+AttendsOne-session seat line gate posts later book of_gate attends i d known within had has knows =
+    IsServed-attends gate of_gate.later book.entries i (seat (get_or posts i d)) (seat (get_or later i d)) known (line (get_or posts i d)) (line (get_or later i d)) (attends i d within) had has knows (sym of_gate.begins)
+
+-- at a desk that began so
+pub AreServed-began : (start begun : Start) (after : List EntryValue) (lines later : List LineValue) → start ≡ begun → AreAllServed (λ number. IsServed start.quota) start.book.entries after lines later
+    → AreServed begun.quota begun.book.entries after lines later
+AreServed-began start begun after lines later is all = subst (λ k. AreServed k.quota k.book.entries after lines later) is all

@@ -15,10 +15,8 @@ use Rattle.day_replay.specs.Ends.{WasRead}
 use Rattle.day_replay.specs.Replay.{IsReplay, by_the_day_file, day_history}
 use Rattle.day_replay.proofs.HistoryLemmas.{goes_on-length}
 use Rattle.turn_gate.specs.Told.{own, IsNumber}
-use Rattle.serve_desk.specs.declared.limits.TheConstants.{CALLS_PER_LINE}
 use Rattle.serve_desk.specs.Told.{LineValue}
-use Rattle.serve_desk.specs.AllLines.{IsServed}
-use Rattle.serve_desk.specs.Serve.{ServesBehind, ServesHistory, ServesDay}
+use Rattle.serve_desk.specs.Serve.{OneOfAll, ServesAllBehind, ServesAllOf, ServesAllOfDay}
 
 -- caller 0 stated what the day file has, so no line's caller did
 own-day : (es : List EntryValue) (commands : List StatedValue) (number : ℕ) → 0 < number → map given es ≡ map by_the_day_file commands → own es number ≡ []
@@ -32,9 +30,9 @@ own-day (e ∷ es) (s ∷ commands) number some same =
     ap (λ b. cond b (e ∷ own es number) (own es number)) other ∙ own-day es commands number some rest
 
 -- the history of lines that were served behind a day file's commands
-pub ServesHistory-served : (o : OpeningValue) (commands : List StatedValue) (h : History) (lines later : List LineValue) (Writes : List ℕ → Type 0)
-    → h ≡ day_history o commands → IsReplay o commands (day_history o commands) → ServesBehind h lines later Writes → ServesHistory o commands lines later Writes
-ServesHistory-served o commands h lines later Writes is replay behind =
+served-all : (One : OneOfAll) (o : OpeningValue) (commands : List StatedValue) (h : History) (lines later : List LineValue) (Writes : List ℕ → Type 0)
+    → h ≡ day_history o commands → IsReplay o commands (day_history o commands) → ServesAllBehind One h lines later Writes → ServesAllOf One o commands lines later Writes
+served-all One o commands h lines later Writes is replay behind =
     let after = behind.after in
     let served = behind.served in
     let day = day_history o commands in
@@ -52,15 +50,25 @@ ServesHistory-served o commands h lines later Writes is replay behind =
       each = λ i line within.
           let mine : own served.more (i + 1) ≡ own after.entries (i + 1) =
           sym (ap (λ es. own es (i + 1)) begins ∙ filter-append (λ e. e.caller == i + 1) day.entries served.more ∙ ap (λ es. es ++ own served.more (i + 1)) (own-day day.entries commands (i + 1) (omega arith) replay.given)) in
-          subst (λ es. IsServed CALLS_PER_LINE es (slice_index_or lines i line) (slice_index_or later i line)) mine (served.each i line within);
+          subst (λ es. One after.entries (i + 1) es (slice_index_or lines i line) (slice_index_or later i line)) mine (served.each i line within);
       written = behind.written;
     }
 
+-- so of what becomes of a line by how the desk was opened, and how many entries it had then
+pub ServesHistory-served : (One : OpeningValue → ℕ → OneOfAll) (o : OpeningValue) (commands : List StatedValue) (h : History) (lines later : List LineValue) (Writes : List ℕ → Type 0)
+    → h ≡ day_history o commands → IsReplay o commands (day_history o commands) → ServesAllBehind (One h.opening (length h.entries)) h lines later Writes
+    → ServesAllOf (One o (length commands)) o commands lines later Writes
+ServesHistory-served One o commands h lines later Writes is replay behind =
+    let as_opened : h.opening ≡ o = ap (λ x. x.opening) is ∙ replay.opening in
+    let as_many : length h.entries ≡ length commands = ap (λ x. length x.entries) is ∙ omega (arith, goes_on-length (opened o) commands) in
+    served-all (One o (length commands)) o commands h lines later Writes is replay
+    (subst (λ n. ServesAllBehind (One o n) h lines later Writes) as_many (subst (λ x. ServesAllBehind (One x (length h.entries)) h lines later Writes) as_opened behind))
+
 -- a day file was taken, and lines were served behind it; and what was done with their journal is as if nothing had been done before
-pub ServesDay-taken : (before after : Option (List ℕ)) (o : OpeningValue) (commands : List StatedValue) (lines later : List LineValue) (Writes WritesAll : List ℕ → Type 0)
+pub ServesDay-taken : (One : OpeningValue → ℕ → OneOfAll) (before after : Option (List ℕ)) (o : OpeningValue) (commands : List StatedValue) (lines later : List LineValue) (Writes WritesAll : List ℕ → Type 0)
     → ((text : List ℕ) → Writes text → WritesAll text) → IsOpening o → WasRead BYTE_LIMIT before after (λ bytes. IsDayFile bytes o commands)
-    → ServesHistory o commands lines later Writes → ServesDay before after lines later WritesAll
-ServesDay-taken before after o commands lines later Writes WritesAll as_well valid read serves = record {
+    → ServesAllOf (One o (length commands)) o commands lines later Writes → ServesAllOfDay One before after lines later WritesAll
+ServesDay-taken One before after o commands lines later Writes WritesAll as_well valid read serves = record {
   opening = o;
   valid = valid;
   commands = commands;

@@ -1,5 +1,5 @@
 -- A session, answer by answer.
-use Rattle.std.proofs.Common.{◌≡◌, ℕ, ◌+◌, ◌-◌, ◌<◌, true, List, [], ◌∷◌, ◌++◌, length, None, Some, refl, sym, ap, ◌∙◌, subst, arith}
+use Rattle.std.proofs.Common.{◌≡◌, ℕ, ◌+◌, ◌-◌, ◌<◌, true, List, [], ◌++◌, length, None, Some, refl, sym, ap, ◌∙◌, subst, arith}
 use Rattle.std.specs.declared.option.Option.{Option}
 use Rattle.desk_model.specs.Entry.{EntryValue}
 use Rattle.desk_model.specs.Opening.{OpeningValue}
@@ -59,7 +59,7 @@ goes-on heard left _ _ _ _ (no_call_left bytes s texts ends few states none puts
 goes-on heard left _ _ _ _ (a_call bytes e texts ends few states some puts) on = record { few = few; line = refl }
 
 -- how many calls are left behind some, as the session counts and as the seat does
-left-behind : (quota calls now count : ℕ) → now ≡ calls + count → quota - now ≡ (quota - calls) - count
+pub left-behind : (quota calls now count : ℕ) → now ≡ calls + count → quota - now ≡ (quota - calls) - count
 left-behind quota calls now count is = omega arith
 
 -- what follows at a seat, as the session counts

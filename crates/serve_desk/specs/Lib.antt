@@ -8,3 +8,10 @@ pub mod Serves
 pub mod Attends
 pub mod AllLines
 pub mod Serve
+pub mod Looks
+pub mod WatchFollows
+pub mod WatchSession
+pub mod Sees
+pub mod Watches
+pub mod WatchAnswers
+pub mod WatchLines

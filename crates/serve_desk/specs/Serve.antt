@@ -1,6 +1,7 @@
 -- What serving lines behind a day file makes of the source, the lines and the sink.
 use Rattle.std.specs.Prelude.{◌≡◌, ◌⊎◌, ℕ, ◌+◌, ◌<◌, Option, List, length, map, take, drop, slice_index_or}
 use Rattle.std.specs.List.{All}
+use Rattle.desk_model.specs.Entry.{EntryValue}
 use Rattle.desk_model.specs.History.{History}
 use Rattle.desk_model.specs.Journal.{journal}
 use Rattle.desk_model.specs.Legal.{IsLegal, given}
@@ -14,25 +15,29 @@ use Rattle.day_replay.specs.declared.limits.TheConstants.{BYTE_LIMIT}
 use Rattle.turn_gate.specs.Told.{own, IsNumber}
 use Rattle.serve_desk.specs.declared.limits.TheConstants.{CALLS_PER_LINE}
 use Rattle.serve_desk.specs.Told.{LineValue}
-use Rattle.serve_desk.specs.AllLines.{IsServed, AreServed}
+use Rattle.serve_desk.specs.AllLines.{IsServed, OneLine, AreAllServed}
 
 -- there are fewer lines than can be served, or more
 abbrev pub IsNoNumberOfLines : ℕ → Type 0
 IsNoNumberOfLines count = (count ≡ 0) ⊎ (LAST_CALLER < count)
 
--- lines were served at a desk that stands behind this history, and this was done with the journal of the legal history that goes on
+-- what became of one line, beside all entries of the desk
+abbrev pub OneOfAll : Type 1
+OneOfAll = List EntryValue → OneLine
+
+-- lines were served so at a desk that stands behind this history, and this was done with the journal of the legal history that goes on
 -- from it
-pub record ServesBehind (before : History) (lines later : List LineValue) (Writes : List ℕ → Type 0) : Type 0 where
+pub record ServesAllBehind (One : OneOfAll) (before : History) (lines later : List LineValue) (Writes : List ℕ → Type 0) : Type 0 where
   pub after : History
   pub opened : after.opening ≡ before.opening
   pub legal : IsLegal after
-  pub served : AreServed CALLS_PER_LINE before.entries after.entries lines later
+  pub served : AreAllServed (One after.entries) before.entries after.entries lines later
   pub written : Writes (journal after)
 
 -- there is one legal history of a desk that was opened so. Its first entries have these commands, each once, in their order, with
 -- caller 0; the caller of each later one is the number of a line; and of each line's number it has just the entries that come of
 -- what the line gave. This was done with its journal
-pub record ServesHistory (o : OpeningValue) (commands : List StatedValue) (lines later : List LineValue) (Writes : List ℕ → Type 0) : Type 0 where
+pub record ServesAllOf (One : OneOfAll) (o : OpeningValue) (commands : List StatedValue) (lines later : List LineValue) (Writes : List ℕ → Type 0) : Type 0 where
   pub history : History
   pub opened : history.opening ≡ o
   pub legal : IsLegal history
@@ -40,13 +45,27 @@ pub record ServesHistory (o : OpeningValue) (commands : List StatedValue) (lines
   pub callers : All (λ e. IsNumber (length lines) e.caller) (drop (length commands) history.entries)
   pub count : length later ≡ length lines
   pub each : (i : ℕ) (line : LineValue) → i < length lines
-      → IsServed CALLS_PER_LINE (own history.entries (i + 1)) (slice_index_or lines i line) (slice_index_or later i line)
+      → One history.entries (i + 1) (own history.entries (i + 1)) (slice_index_or lines i line) (slice_index_or later i line)
   pub written : Writes (journal history)
 
--- a day file was read, and lines were served behind it at a desk that was opened so
-pub record ServesDay (before after : Option (List ℕ)) (lines later : List LineValue) (Writes : List ℕ → Type 0) : Type 0 where
+-- a day file was read, and lines were served so behind it at a desk that was opened so: by the opening, and how many entries the day
+-- file's commands made
+pub record ServesAllOfDay (One : OpeningValue → ℕ → OneOfAll) (before after : Option (List ℕ)) (lines later : List LineValue) (Writes : List ℕ → Type 0) : Type 0 where
   pub opening : OpeningValue
   pub valid : IsOpening opening
   pub commands : List StatedValue
   pub read : WasRead BYTE_LIMIT before after (λ bytes. IsDayFile bytes opening commands)
-  pub serves : ServesHistory opening commands lines later Writes
+  pub serves : ServesAllOf (One opening (length commands)) opening commands lines later Writes
+
+-- each line by a session without looks
+abbrev pub served : OpeningValue → ℕ → OneOfAll
+served o begun entries number mine line later = IsServed CALLS_PER_LINE mine line later
+
+abbrev pub ServesBehind : History → List LineValue → List LineValue → (List ℕ → Type 0) → Type 0
+ServesBehind before lines later Writes = ServesAllBehind (served before.opening (length before.entries)) before lines later Writes
+
+abbrev pub ServesHistory : OpeningValue → List StatedValue → List LineValue → List LineValue → (List ℕ → Type 0) → Type 0
+ServesHistory o commands lines later Writes = ServesAllOf (served o (length commands)) o commands lines later Writes
+
+abbrev pub ServesDay : Option (List ℕ) → Option (List ℕ) → List LineValue → List LineValue → (List ℕ → Type 0) → Type 0
+ServesDay before after lines later Writes = ServesAllOfDay served before after lines later Writes

@@ -3,17 +3,9 @@ ghost use Rattle.std.specs.Prelude.{◌≡◌, ◌≤◌, [], map, vec_len, vec_
 ghost use Rattle.std.specs.List.{All};
 
 use crate::post::Post;
-use call_history::Book;
-use caller_lines::CallerLine;
-use desk_model::DeskCore;
-use turn_gate::Seat;
 
 /// Gives each line the seat of its place. The posts have room for all.
-pub fn seat_lines<C: DeskCore>(
-    lines: &mut Vec<Box<dyn CallerLine + Send>>,
-    seats: &mut Vec<Seat<Book<C>>>,
-    posts: &mut Vec<Post<Seat<Book<C>>, Box<dyn CallerLine + Send>>>,
-)
+pub fn seat_lines<S, L>(lines: &mut Vec<L>, seats: &mut Vec<S>, posts: &mut Vec<Post<S, L>>)
     requires as_many { vec_len seats.old ≡ vec_len lines.old }
     requires empty { posts.old.items ≡ [] }
     requires room { vec_len lines.old ≤ vec_capacity posts.old }
@@ -32,16 +24,13 @@ pub fn seat_lines<C: DeskCore>(
 }
 
 /// Takes each line and its seat from the posts, in their order. There is room for all.
-pub fn leave_posts<C: DeskCore>(
-    posts: &mut Vec<Post<Seat<Book<C>>, Box<dyn CallerLine + Send>>>,
-    lines: &mut Vec<Box<dyn CallerLine + Send>>,
-    seats: &mut Vec<Seat<Book<C>>>,
-)
+pub fn leave_posts<S, L>(posts: &mut Vec<Post<S, L>>, lines: &mut Vec<L>, seats: &mut Vec<S>)
     requires seated { All (λ post. IsSome post.seat) posts.old.items }
     requires no_line { lines.old.items ≡ [] }
     requires no_seat { seats.old.items ≡ [] }
     requires line_room { vec_len posts.old ≤ vec_capacity lines.old }
     requires seat_room { vec_len posts.old ≤ vec_capacity seats.old }
+    ensures no_post { posts.new.items ≡ [] }
     ensures lines { lines.new.items ≡ map (λ post. post.line) posts.old.items }
     ensures seats { map (λ seat. Some seat) seats.new.items ≡ map (λ post. post.seat) posts.old.items }
 {

@@ -28,8 +28,8 @@ use std::alloc::Global;
 use std::sync::Wait;
 use std::thread::Threads;
 
-// How many bytes of the journal are put into the sink at once, at most.
-const BUFFER_BYTES: usize = 65_536;
+/// How many bytes of the journal are put into the sink at once, at most.
+pub(crate) const BUFFER_BYTES: usize = 65_536;
 
 /// Reads a day file from the source and answers its commands as caller 0; then serves 1 to 63 lines at the same time, line i as
 /// caller i, from 1, with 5,000 calls of each; and when all have ended, writes the journal of the whole to the sink. It takes all
@@ -197,8 +197,8 @@ fn serve_book<C: DeskCore + Send, R: Threads + Wait + Sync, K: Sink>(
     }
 }
 
-// The book of a desk that has answered the day file's commands as caller 0, with room for all calls of so many lines.
-fn set_up(alloc: Global, day: &DayFile, lines: usize) -> Result<Book<FastCore>, NoMemory>
+/// The book of a desk that has answered the day file's commands as caller 0, with room for all calls of so many lines.
+pub(crate) fn set_up(alloc: Global, day: &DayFile, lines: usize) -> Result<Book<FastCore>, NoMemory>
     requires most { lines ≤ LAST_CALLER }
     requires few { vec_len day.now.commands < RECORD_LIMIT }
     ensures history { IfOk result (λ book.

@@ -1,6 +1,6 @@
 use Rattle.std.proofs.Common.{arith, ap, length}
 use Rattle.serve_desk.specs.Told.{line_of}
-use Rattle.serve_desk.proofs.LineLemmas.{length-new_seats, All-seated, All-left, AreServed-all}
+use Rattle.serve_desk.proofs.LineLemmas.{length-new_seats, All-seated, All-left, AttendsOne-session, AreServed-all, AreServed-began}
 use Rattle.serve_desk.proofs.all_lines.serve_lines.Goals as goal
 
 pub seat_lines-requires-clause-as_many : goal.seat_lines-requires-clause-as_many
@@ -17,5 +17,8 @@ close-requires g c =
 
 pub returns-clause-served : goal.returns-clause-served
 returns-clause-served g c =
-    AreServed-all c.seat_lines.new.posts.items c.attend_all.new.posts.items _ _ _ _ (λ post. post.seat) (λ post. post.line) _ _ _ _ c.attend_all.ensures.each (omega arith) c.seat_lines.ensures.lines
-    c.leave_posts.ensures.lines c.in_ok-desk.ensures.seats c.seat_lines.ensures.seats c.leave_posts.ensures.seats c.in_ok-desk.ensures.start (omega arith) c.in-Ok.ensures.known c.in-Ok.ensures.book
+    let attends = AttendsOne-session (λ post. post.seat) (λ post. let line = goal.CallerLine-dyn g (post.line.vtable, post.line.value) in line_of (line.faults post.line.value) (line.calls post.line.value)) _
+    c.seat_lines.new.posts.items c.attend_all.new.posts.items _ c.in-Ok.ensures.book c.attend_all.ensures.each in
+    AreServed-began _ _ _ _ _ c.in_ok-desk.ensures.start
+    (AreServed-all _ c.seat_lines.new.posts.items c.attend_all.new.posts.items _ _ _ _ (λ post. post.seat) (λ post. post.line) _ _ _ _ c.in-Ok.ensures.book attends (omega arith) c.seat_lines.ensures.lines
+    c.leave_posts.ensures.lines c.in_ok-desk.ensures.seats c.seat_lines.ensures.seats c.leave_posts.ensures.seats (ap (λ k. k.seats) c.in_ok-desk.ensures.start) (omega arith) c.in-Ok.ensures.known)

@@ -3,6 +3,7 @@ use Rattle.std.specs.Io.KnownBytes.{Appends}
 use Rattle.desk_io.specs.Giving.{AddsFront}
 use Rattle.desk_model.specs.History.{opened}
 use Rattle.day_replay.proofs.HistoryLemmas.{IsReplay-day, goes_on-length}
+use Rattle.serve_desk.specs.Serve.{served}
 use Rattle.serve_desk.proofs.ServeLemmas.{ServesHistory-served}
 use Rattle.serve_desk.proofs.serving.serve_day.Goals as goal
 
@@ -14,10 +15,10 @@ pub returns-in-Ok-set_up-clause-fine : goal.returns-in-Ok-set_up-clause-fine
 returns-in-Ok-set_up-clause-fine g c = λ fine.
     let law = c.one_history_is_legal.ensures in
     let replay = IsReplay-day law.opening law.legal law.given _ _ c.requires.opening c.requires.stated in
-    ServesHistory-served _ _ _ _ _ (Appends _ _) c.in-Ok-set_up.ensures.history replay (c.serve_book.ensures.fine fine)
+    ServesHistory-served served _ _ _ _ _ (Appends _ _) c.in-Ok-set_up.ensures.history replay (c.serve_book.ensures.fine fine)
 
 pub returns-in-Ok-set_up-clause-write_fault : goal.returns-in-Ok-set_up-clause-write_fault
 returns-in-Ok-set_up-clause-write_fault g c = λ fault.
     let law = c.one_history_is_legal.ensures in
     let replay = IsReplay-day law.opening law.legal law.given _ _ c.requires.opening c.requires.stated in
-    ServesHistory-served _ _ _ _ _ (AddsFront _ _) c.in-Ok-set_up.ensures.history replay (c.serve_book.ensures.write_fault fault)
+    ServesHistory-served served _ _ _ _ _ (AddsFront _ _) c.in-Ok-set_up.ensures.history replay (c.serve_book.ensures.write_fault fault)

@@ -1,0 +1,66 @@
+-- What one answer of a line where looks are heard, and what follows it, make of the line, of the seat and of the view.
+use Rattle.std.specs.Prelude.{◌≡◌, ℕ, true, false, List, [], ◌∷◌, ◌++◌, length, map}
+use Rattle.std.specs.declared.option.Option.{Option}
+use mathlib.Core.List.{IsPrefix}
+use Rattle.board_window.specs.Shows.{spot_of}
+use Rattle.board_window.specs.Walls.{FrontValue}
+use Rattle.board_window.specs.declared.spot.Spot.{Spot}
+use Rattle.caller_lines.specs.Given.{Given}
+use Rattle.caller_lines.specs.LineCalls.{LineCall, PutText}
+use Rattle.caller_lines.specs.Looks.{ReadsOrLooks}
+use Rattle.caller_lines.specs.declared.said_or_look.SaidOrLook.{SaidOrLook}
+use Rattle.desk_model.specs.Entry.{EntryValue}
+use Rattle.desk_model.specs.History.{history_of}
+use Rattle.desk_model.specs.Opening.{OpeningValue}
+use Rattle.desk_shared.specs.Shown.{IsViewOf}
+use Rattle.turn_gate.specs.Seats.{GateValue, SeatValue, IsSeatOf}
+use Rattle.turn_gate.specs.Told.{own}
+use Rattle.serve_desk.specs.declared.why.Why.{Why}
+use Rattle.serve_desk.specs.Seats.{Made}
+use Rattle.serve_desk.specs.Session.{asked_then_put}
+use Rattle.serve_desk.specs.Told.{with_all, LineValue}
+use Rattle.serve_desk.specs.WatchFollows.{Act, Looked, Called, PutsTwo, FollowsWatched}
+
+-- the seat and the view are of this desk, and know what its book began with
+pub record IsCallerOf (desk : GateValue) (seat : SeatValue) (view : FrontValue) : Type 0 where
+  pub sits : IsSeatOf desk seat
+  pub knows : IsPrefix desk.start.book.entries seat.known
+  pub looks : IsViewOf desk view
+  pub saw : IsPrefix desk.start.book.entries view.entries
+
+-- what an answer makes of what a view has seen and of what the caller knows, by what it came to
+pub data Sight (o : OpeningValue) (number : ℕ) (seen later known now : List EntryValue) : List Act → Type 0 where
+  as_before : IsPrefix seen later → now ≡ known → Sight o number seen later known now []
+  by_a_look : (board : List ℕ) (place n : ℕ) (what : Spot) → IsPrefix seen later → now ≡ known → n ≡ length later → what ≡ spot_of (history_of o later) board place
+      → Sight o number seen later known now (Looked n board place what ∷ [])
+  by_a_call : (e : EntryValue) (before : List EntryValue) → IsPrefix seen later → IsPrefix known before → now ≡ before ++ e ∷ [] → own before number ≡ own known number
+      → own now number ≡ own known number ++ e ∷ [] → IsPrefix now later → Sight o number seen later known now (Called e true ∷ [])
+  by_a_call_behind : (e : EntryValue) → IsPrefix seen later → IsPrefix known now → own now number ≡ own known number ++ e ∷ []
+      → Sight o number seen later known now (Called e false ∷ [])
+
+-- two texts were put on a line, one behind the other, where that tells what was put
+pub record PutsTwoOn (first second : List ℕ) (before now : Option (List LineCall)) (ends : Option Why) : Type 0 where
+  pub texts : List (List ℕ)
+  pub puts : PutsTwo first second texts ends
+  pub told : now ≡ with_all before (map PutText texts)
+
+-- what was said of an answer of the line was replied to: whatever it gave that is said so, this follows
+pub record RepliesWatched (o : OpeningValue) (heard left : ℕ) (before now : Option (List LineCall)) (s : SaidOrLook) (seat after : SeatValue) (view later : FrontValue) (ends : Option Why) : Type 0 where
+  pub entries : List EntryValue
+  pub texts : List (List ℕ)
+  pub acts : List Act
+  pub follows : (gave : Given) → ReadsOrLooks gave s → FollowsWatched heard left gave entries texts acts ends
+  pub told : now ≡ with_all before (map PutText texts)
+  pub made : Made o seat after entries
+  pub sight : Sight o seat.number view.entries later.entries seat.known after.known acts
+
+-- a line, a seat and a view after one answer of the line and what followed it: the texts were put behind the answer
+pub record AnswersWatched (o : OpeningValue) (heard left : ℕ) (line next : LineValue) (seat after : SeatValue) (view later : FrontValue) (ends : Option Why) : Type 0 where
+  pub gave : Given
+  pub entries : List EntryValue
+  pub texts : List (List ℕ)
+  pub acts : List Act
+  pub follows : FollowsWatched heard left gave entries texts acts ends
+  pub told : next.calls ≡ with_all line.calls (asked_then_put gave texts)
+  pub made : Made o seat after entries
+  pub sight : Sight o seat.number view.entries later.entries seat.known after.known acts

@@ -1,0 +1,78 @@
+-- What serving all lines at one desk with looks makes of them.
+use Rattle.std.specs.Prelude.{◌≡◌, ◌≢◌, ℕ, ◌-◌, ◌≤◌, Some, List, length, take}
+use Rattle.std.specs.declared.option.Option.{Option}
+use Rattle.board_window.specs.Walls.{FrontValue}
+use Rattle.caller_lines.specs.LineCalls.{LineCall}
+use Rattle.desk_io.specs.Faults.{Rose}
+use Rattle.desk_model.specs.Entry.{EntryValue}
+use Rattle.desk_model.specs.History.{History}
+use Rattle.desk_model.specs.Opening.{OpeningValue}
+use Rattle.desk_model.specs.Statement.{StatedValue}
+use Rattle.turn_gate.specs.Seats.{GateValue, SeatValue}
+use Rattle.turn_gate.specs.Told.{own}
+use Rattle.serve_desk.specs.declared.limits.TheConstants.{CALLS_PER_LINE}
+use Rattle.serve_desk.specs.declared.why.Why.{Why}
+use Rattle.serve_desk.specs.declared.why.Why.TheVariants.{LineFault}
+use Rattle.serve_desk.specs.Sees.{Sees}
+use Rattle.serve_desk.specs.Serve.{OneOfAll, ServesAllBehind, ServesAllOf, ServesAllOfDay}
+use Rattle.serve_desk.specs.Told.{with_all, LineValue}
+use Rattle.serve_desk.specs.WatchAnswers.{IsCallerOf}
+use Rattle.serve_desk.specs.WatchFollows.{Act}
+use Rattle.serve_desk.specs.Watches.{Watches}
+use Rattle.serve_desk.specs.WatchSession.{SessionWatched}
+
+-- a line after its session with looks, of which these entries came, at a seat with so many calls of a desk whose entries are all these, the
+-- first of which, so many, its windows were made with. There is a history of the desk, `seen`, by which its looks are right. It ended with a
+-- fault only where the line's faults rose, which never fall
+pub record IsWatched (left : ℕ) (o : OpeningValue) (made_with : ℕ) (all : List EntryValue) (number : ℕ) (entries : List EntryValue) (line later : LineValue) : Type 0 where
+  pub calls : List LineCall
+  pub acts : List Act
+  pub why : Why
+  pub session : SessionWatched left calls entries acts why
+  pub told : later.calls ≡ with_all line.calls calls
+  pub seen : List EntryValue
+  pub sees : Sees o made_with (take made_with all) seen all number (own (take made_with all) number) acts
+  pub fault : why ≡ LineFault → Rose line.faults later.faults
+  pub no_fault : why ≢ LineFault → later.faults ≡ line.faults
+  pub faults : line.faults ≤ later.faults
+
+-- of a line that is served with 5,000 calls, at windows that were made with so many entries
+abbrev pub watched : OpeningValue → ℕ → OneOfAll
+watched o made_with all number entries line later = IsWatched CALLS_PER_LINE o made_with all number entries line later
+
+-- lines were served with looks behind a history, behind an opening's commands, and behind a day file, as `serve` serves them without
+abbrev pub WatchesBehind : History → List LineValue → List LineValue → (List ℕ → Type 0) → Type 0
+WatchesBehind before lines later Writes = ServesAllBehind (watched before.opening (length before.entries)) before lines later Writes
+
+abbrev pub WatchesHistory : OpeningValue → List StatedValue → List LineValue → List LineValue → (List ℕ → Type 0) → Type 0
+WatchesHistory o commands lines later Writes = ServesAllOf (watched o (length commands)) o commands lines later Writes
+
+abbrev pub WatchesDay : Option (List ℕ) → Option (List ℕ) → List LineValue → List LineValue → (List ℕ → Type 0) → Type 0
+WatchesDay before after lines later Writes = ServesAllOfDay watched before after lines later Writes
+
+-- a seat and a view at a post are of this desk
+pub record IsManned (desk : GateValue) (seat : Option SeatValue) (view : Option FrontValue) : Type 0 where
+  pub at_seat : SeatValue
+  pub with_view : FrontValue
+  pub has_seat : seat ≡ Some at_seat
+  pub has_view : view ≡ Some with_view
+  pub caller : IsCallerOf desk at_seat with_view
+
+-- a post's line was served at its seat with its view, at a desk of this gate
+pub record AttendsWatched (desk : GateValue) (seat after : Option SeatValue) (view seen : Option FrontValue) (line later : LineValue) : Type 0 where
+  pub before : SeatValue
+  pub behind : SeatValue
+  pub saw : FrontValue
+  pub sees : FrontValue
+  pub why : Why
+  pub taken : ℕ
+  pub had : seat ≡ Some before
+  pub has : after ≡ Some behind
+  pub viewed : view ≡ Some saw
+  pub views : seen ≡ Some sees
+  pub was_of_desk : IsCallerOf desk before saw
+  pub watches : Watches desk.start.book.opening (desk.start.quota - before.calls) (length desk.start.book.entries) line later before behind saw sees why taken
+  pub of_desk : IsCallerOf desk behind sees
+  pub fault : why ≡ LineFault → Rose line.faults later.faults
+  pub no_fault : why ≢ LineFault → later.faults ≡ line.faults
+  pub faults : line.faults ≤ later.faults

@@ -1,0 +1,218 @@
+//! One answer of a line where looks at boards are heard, and what follows it.
+ghost use Rattle.std.specs.Prelude.{◌≡◌, ◌≢◌, ℕ, ◌-◌, ◌<◌, ◌≤◌, ◌+◌, IfNone, IfSome, None, Some, length};
+ghost use mathlib.Core.List.{IsPrefix};
+ghost use Rattle.desk_io.specs.Faults.{Rose};
+ghost use Rattle.turn_gate.specs.Seats.{SeatValue};
+ghost use Rattle.desk_model.specs.Journal.{entry_line};
+ghost use Rattle.serve_desk.specs.Looks.{behind};
+ghost use Rattle.serve_desk.specs.Told.{line_of};
+ghost use Rattle.serve_desk.specs.Answers.{PutsOn};
+ghost use Rattle.serve_desk.specs.WatchAnswers.{IsCallerOf, PutsTwoOn, RepliesWatched, AnswersWatched};
+
+use crate::answered_watched::AnsweredWatched;
+use crate::entry_lines::EntryLines;
+use crate::look_text::{write_behind, write_look};
+use crate::malformed::write_malformed;
+use crate::put::{put_both, put_on};
+use crate::texts::{NO_MEMORY, SPENT, TOO_LONG, TOO_MANY};
+use crate::{LINE_LIMIT, Why};
+use board_window::{Showing, View};
+use call_history::Book;
+use caller_lines::{CallerLine, Said, SaidOrLook, hear_or_look};
+use desk_base::Code;
+use desk_model::{DeskCore, Entry, Stated};
+use desk_shared::{CalledShown, SeatSpent, ShownBook, ShownDesk, a_desk_has_one_wall};
+use std::alloc::Global;
+use std::sync::Wait;
+use turn_gate::{Seat, what_one_entry_more_makes_known};
+
+/// Asks the line once, which gave so many lines before, and does what follows: a look is answered from the view, without a turn and
+/// without an entry. What is shown after a call is learnt before its reply is put, and the reply to a line is put before the next is asked.
+pub fn answer_watched<C: DeskCore, R: Wait>(
+    rt: &R,
+    alloc: Global,
+    desk: &ShownDesk<C>,
+    seat: Seat<ShownBook<Book<C>>>,
+    view: &mut View,
+    heard: u32,
+    entry_lines: &mut EntryLines,
+    line: &mut Box<dyn CallerLine + Send>,
+) -> AnsweredWatched<C>
+    requires caller { IsCallerOf desk.now seat view.old }
+    requires heard { heard ≤ LINE_LIMIT }
+    ensures answers { AnswersWatched desk.now.start.book.opening heard (desk.now.start.quota - seat.calls)
+        (line_of (faults line.old) (calls line.old))
+        (line_of (faults line.new) (calls line.new))
+        seat result.seat view.old view.new result.ends }
+    ensures caller { IsCallerOf desk.now result.seat view.new }
+    ensures later { faults line.old ≤ faults line.new }
+    ensures cause { result.ends ≡ Some Why.LineFault → Rose (faults line.old) (faults line.new) }
+    ensures no_fault { result.ends ≢ Some Why.LineFault → faults line.new ≡ faults line.old }
+{
+    match hear_or_look(alloc, line) {
+        SaidOrLook::Look { board, place } => AnsweredWatched {
+            seat,
+            ends: look(view, heard, board, place, line),
+        },
+        SaidOrLook::Said(said) => match said {
+            Said::End => AnsweredWatched {
+                seat,
+                ends: Some(Why::End),
+            },
+            Said::LineFault => AnsweredWatched {
+                seat,
+                ends: Some(Why::LineFault),
+            },
+            said => reply(rt, desk, seat, view, heard, said, entry_lines, line),
+        },
+    }
+}
+
+// Looks at a place of a board, from 1, and puts what is seen on the line; or that there was nothing to see.
+fn look(
+    view: &mut View,
+    heard: u32,
+    board: Code,
+    place: u16,
+    line: &mut Box<dyn CallerLine + Send>,
+) -> Option<Why>
+    requires { heard ≤ LINE_LIMIT }
+    ensures replies { (left : ℕ) (seat : SeatValue) →
+        RepliesWatched view.old.wall.opening heard left (calls line.old) (calls line.new)
+        (SaidOrLook.Look board place) seat seat view.old view.new result }
+    ensures wall { view.new.wall ≡ view.old.wall }
+    ensures begins { IsPrefix view.old.entries view.new.entries }
+    ensures later { faults line.old ≤ faults line.new }
+    ensures cause { result ≡ Some Why.LineFault → Rose (faults line.old) (faults line.new) }
+    ensures no_fault { result ≢ Some Why.LineFault → faults line.new ≡ faults line.old }
+{
+    if heard == LINE_LIMIT {
+        return put_on(line, TOO_MANY, Some(Why::TooManyLines));
+    }
+    match view.look(board, place) {
+        Some(look) => put_on(line, write_look(&look).as_slice(), None),
+        None => put_on(line, NO_MEMORY, None),
+    }
+}
+
+// Replies to what was said.
+fn reply<C: DeskCore, R: Wait>(
+    rt: &R,
+    desk: &ShownDesk<C>,
+    seat: Seat<ShownBook<Book<C>>>,
+    view: &mut View,
+    heard: u32,
+    said: Said,
+    entry_lines: &mut EntryLines,
+    line: &mut Box<dyn CallerLine + Send>,
+) -> AnsweredWatched<C>
+    requires caller { IsCallerOf desk.now seat view.old }
+    requires heard { heard ≤ LINE_LIMIT }
+    requires not_end { said ≢ Said.End }
+    requires no_fault { said ≢ Said.LineFault }
+    ensures replies { RepliesWatched desk.now.start.book.opening heard (desk.now.start.quota - seat.calls)
+        (calls line.old) (calls line.new) (SaidOrLook.Said said) seat result.seat view.old view.new result.ends }
+    ensures caller { IsCallerOf desk.now result.seat view.new }
+    ensures later { faults line.old ≤ faults line.new }
+    ensures cause { result.ends ≡ Some Why.LineFault → Rose (faults line.old) (faults line.new) }
+    ensures no_fault { result.ends ≢ Some Why.LineFault → faults line.new ≡ faults line.old }
+{
+    if heard == LINE_LIMIT {
+        let ends = put_on(line, TOO_MANY, Some(Why::TooManyLines));
+        return AnsweredWatched { seat, ends };
+    }
+    match said {
+        Said::TooLong => AnsweredWatched {
+            seat,
+            ends: put_on(line, TOO_LONG, None),
+        },
+        Said::NoMemory => AnsweredWatched {
+            seat,
+            ends: put_on(line, NO_MEMORY, None),
+        },
+        Said::Malformed(field) => AnsweredWatched {
+            seat,
+            ends: put_on(line, write_malformed(field).as_slice(), None),
+        },
+        Said::Command(stated) => call(rt, desk, seat, view, stated, entry_lines, line),
+        Said::End | Said::LineFault => unreachable!(),
+    }
+}
+
+// Calls the desk with a command, learns what is shown then, and puts the entry's line, and how far what is shown is behind; or says that
+// the seat has no call left.
+fn call<C: DeskCore, R: Wait>(
+    rt: &R,
+    desk: &ShownDesk<C>,
+    seat: Seat<ShownBook<Book<C>>>,
+    view: &mut View,
+    stated: Stated,
+    entry_lines: &mut EntryLines,
+    line: &mut Box<dyn CallerLine + Send>,
+) -> AnsweredWatched<C>
+    requires caller { IsCallerOf desk.now seat view.old }
+    ensures replies { (heard : ℕ) → heard < LINE_LIMIT
+        → RepliesWatched desk.now.start.book.opening heard (desk.now.start.quota - seat.calls)
+        (calls line.old) (calls line.new) (SaidOrLook.Said (Said.Command stated)) seat result.seat view.old view.new result.ends }
+    ensures caller { IsCallerOf desk.now result.seat view.new }
+    ensures later { faults line.old ≤ faults line.new }
+    ensures cause { result.ends ≡ Some Why.LineFault → Rose (faults line.old) (faults line.new) }
+    ensures no_fault { result.ends ≢ Some Why.LineFault → faults line.new ≡ faults line.old }
+{
+    a_desk_has_one_wall();
+    what_one_entry_more_makes_known();
+    let CalledShown {
+        seat,
+        outcome,
+        showing,
+    } = desk.call(rt, seat, stated);
+    match outcome {
+        Ok(receipt) => {
+            let Some(showing) = showing else {
+                unreachable!()
+            };
+            let behind = learn(view, showing);
+            let ends = put_entry(line, entry_lines, &receipt.entry, behind);
+            AnsweredWatched { seat, ends }
+        }
+        Err(SeatSpent) => AnsweredWatched {
+            seat,
+            ends: put_on(line, SPENT, Some(Why::Spent)),
+        },
+    }
+}
+
+// Learns what is shown, and answers how far that is behind.
+fn learn(view: &mut View, showing: Showing) -> u32
+    requires { showing.note.wall ≡ view.old.wall }
+    ensures wall { view.new.wall ≡ view.old.wall }
+    ensures begins { IsPrefix view.old.entries view.new.entries }
+    ensures told { IsPrefix showing.note.entries view.new.entries }
+    ensures behind { result ≡ showing.behind }
+{
+    let Showing { note, behind } = showing;
+    view.learn(note);
+    behind
+}
+
+// Puts an entry's line, and behind it how many entries are not shown yet, where there are any.
+fn put_entry(
+    line: &mut Box<dyn CallerLine + Send>,
+    entry_lines: &mut EntryLines,
+    entry: &Entry,
+    count: u32,
+) -> Option<Why>
+    ensures shown { count ≡ 0
+        → PutsOn (entry_line entry.now) None (calls line.old) (calls line.new) result }
+    ensures not_shown { 0 < count
+        → PutsTwoOn (entry_line entry.now) (behind count) (calls line.old) (calls line.new) result }
+    ensures later { faults line.old ≤ faults line.new }
+    ensures cause { result ≡ Some Why.LineFault → Rose (faults line.old) (faults line.new) }
+    ensures no_fault { result ≢ Some Why.LineFault → faults line.new ≡ faults line.old }
+{
+    let text = entry_lines.write(entry);
+    if count == 0 {
+        return put_on(line, text, None);
+    }
+    put_both(line, text, write_behind(count).as_slice())
+}
