@@ -12,6 +12,8 @@ use Rattle.crewdesk_main.specs.declared.tour_form.TourForm.TheVariants as tour
 use Rattle.crewdesk_main.specs.declared.form.Form.{Form}
 use Rattle.crewdesk_main.specs.declared.form.Form.TheVariants as form
 use Rattle.crewdesk_main.specs.declared.limits.TheConstants.{MOST_SUPPOSED}
+use Rattle.crewdesk_main.specs.declared.sessions.Sessions.{Sessions}
+use Rattle.crewdesk_main.specs.declared.sessions.Sessions.TheVariants as sessions
 
 -- they are just this one
 abbrev pub is_alone : List ℕ → List (String Global) → Bool
@@ -105,7 +107,11 @@ abbrev pub is_asked : (Form → Bool) → Option Form → Bool
 is_asked test None = false
 is_asked test (Some form) = test form
 
--- the names of the callers that are to be served; none where the first word isn't `serve`
-abbrev pub callers_of : List (String Global) → Option (List (String Global))
+-- the callers that are to be served, by sessions without looks or with them, and by their names; none where the first word is
+-- neither `serve` nor `watch`
+abbrev pub callers_of : List (String Global) → Option (Sessions × List (String Global))
 callers_of [] = None
-callers_of (word ∷ names) = if is_word (codes "serve") word then Some names else None
+callers_of (word ∷ names) =
+    if is_word (codes "serve") word then Some (sessions.WithoutLooks, names)
+    else if is_word (codes "watch") word then Some (sessions.WithLooks, names)
+    else None

@@ -19,6 +19,7 @@ mod read_number;
 mod read_tours;
 mod run;
 mod serve_form;
+mod sessions;
 mod take_journal;
 mod tour_form;
 mod tours;
@@ -41,7 +42,13 @@ fn main(rt: HostRuntime) -> ExitCode {
     let mut sink = WriterSink::new(rt.stdout());
     let status = match given_words(&rt) {
         Ok(words) => match named_callers(&words) {
-            Some(names) => serve_callers(&rt, names, &mut source, &mut sink),
+            Some(callers) => serve_callers(
+                &rt,
+                callers.sessions,
+                callers.names,
+                &mut source,
+                &mut sink,
+            ),
             None => perform(rt.alloc(), &words, &mut source, &mut sink),
         },
         Err(status) => status,

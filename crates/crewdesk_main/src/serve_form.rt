@@ -11,21 +11,23 @@ ghost use Rattle.day_replay.specs.declared.limits.TheConstants.{BYTE_LIMIT};
 ghost use Rattle.serve_desk.specs.Serve.{IsNoNumberOfLines};
 ghost use Rattle.crewdesk_main.specs.Callers.{ServesNames};
 
+use crate::sessions::Sessions;
 use caller_lines::{CallerLine, FileLine};
 use desk_base::NoMemory;
 use desk_io::{Sink, Source, Status};
 use desk_model::LAST_CALLER;
-use serve_desk::serve;
+use serve_desk::{serve, watch};
 use std::fs::{File, Files};
 use std::sync::Wait;
 use std::thread::Threads;
 
-/// Serves callers behind the day file that the source has: the caller of each name says what is in the file `NAME.in`, a line at
-/// a time, and has the replies in `NAME.out`, which is made anew. Where a file can't be opened or made, the caller's line has a
-/// fault at once. Where there is no name, or there are more than 63, no file is opened. What is in the files, and whose they are, no
-/// clause says: the lines over them tell nothing.
+/// Serves callers behind the day file that the source has, by sessions of this kind: the caller of each name says what is in the
+/// file `NAME.in`, a line at a time, and has the replies in `NAME.out`, which is made anew. Where a file can't be opened or made, the
+/// caller's line has a fault at once. Where there is no name, or there are more than 63, no file is opened. What is in the files, and
+/// whose they are, no clause says: the lines over them tell nothing.
 pub fn serve_callers<R, S: Source, K: Sink>(
     rt: &R,
+    sessions: Sessions,
     names: &[String],
     source: &mut S,
     sink: &mut K,
@@ -34,10 +36,10 @@ where
     R: Files<File = File> + Threads + Wait + Sync + AllocGlobal,
     ensures usage { result ≡ Status.Usage ↔ IsNoNumberOfLines (length names.now) }
     ensures fine { result ≡ Status.Fine
-        → ServesNames (length names.now) (S.left source.old) (S.left source.new)
+        → ServesNames sessions (length names.now) (S.left source.old) (S.left source.new)
         (Appends (K.held sink.old) (K.held sink.new)) }
     ensures write_fault { result ≡ Status.WriteFault
-        → ServesNames (length names.now) (S.left source.old) (S.left source.new)
+        → ServesNames sessions (length names.now) (S.left source.old) (S.left source.new)
         (AddsFront (K.held sink.old) (K.held sink.new)) }
     ensures unread { result ≡ Status.Usage → S.left source.new ≡ S.left source.old }
     ensures silent { writes result ≡ false → Keeps (K.held sink.old) (K.held sink.new) }
@@ -79,7 +81,10 @@ where
             return Status::NoMemory;
         }
     }
-    serve(rt, rt.alloc(), source, &mut lines, sink)
+    match sessions {
+        Sessions::WithoutLooks => serve(rt, rt.alloc(), source, &mut lines, sink),
+        Sessions::WithLooks => watch(rt, rt.alloc(), source, &mut lines, sink),
+    }
 }
 
 // The line of a caller over the files of this name.

@@ -1,0 +1,8 @@
+/// By which sessions callers are served.
+#[derive(Clone, Copy, Debug, PartialEq, Eq)]
+pub enum Sessions {
+    /// Each line is a command.
+    WithoutLooks,
+    /// A line may ask for a look at a board.
+    WithLooks,
+}
