@@ -1,9 +1,10 @@
 #!/bin/sh
 # refused_memory.sh PROGRAM: runs the program on examples again and again, and refuses it each request for memory in turn, the words'
-# among them: a replay, an audit, the records of tours, what would be, and a caller who is served. Each run must end with status 6 and `no memory`, and
-# write nothing; or with status 0 and all that is written without a refusal; or, of the caller, with status 0 and the reply `no memory`
-# to a line that was not taken. It stops where 64 runs on end are as without a refusal. It needs a C compiler and a linker that loads
-# before others what LD_PRELOAD names, so it is no part of the gate.
+# among them: a replay, an audit, the records of tours, what would be, a caller who is served, and one who looks. Each run must end with
+# status 6 and `no memory`, and write nothing; or with status 0 and all that is written without a refusal; or, of the caller, with status 0
+# and the reply `no memory` to a line that was not taken, or to a look, or with `behind n` of what looks do not show yet. It stops where
+# 64 runs on end are as without a refusal. It needs a C compiler and a linker that loads before others what LD_PRELOAD names, so it is
+# no part of the gate.
 program=$(realpath "$1") || exit 2
 examples=$(realpath "$(dirname "$0")/../examples") || exit 2
 work=$(mktemp -d) || exit 2
@@ -59,7 +60,7 @@ refuse() {
             same=$((same + 1))
         elif [ $status = 6 ] && [ ! -s "$work/stdout" ] && [ "$(cat "$work/stderr")" = 'no memory' ] && [ ! -s "$work/east.out" ]; then
             same=0 refused=$((refused + 1))
-        elif [ $status = 0 ] && [ -n "$replies" ] && grep -qx 'no memory' "$work/east.out"; then
+        elif [ $status = 0 ] && [ -n "$replies" ] && grep -qxE 'no memory|behind [1-9][0-9]*' "$work/east.out"; then
             same=0 refused=$((refused + 1))
         else
             echo "$*: request $number was refused: status $status" >&2
@@ -78,3 +79,5 @@ for example in a_legal_journal the_record_of_a_tour two_commands_supposed who_is
 done
 cp "$examples/callers_of_a_day/east.in" "$work" || exit 2
 refuse "$examples/callers_of_a_day/stdout" "$examples/callers_of_a_day/east.out" "$examples/callers_of_a_day/stdin" serve "$work/east"
+cp "$examples/looks_at_a_board/screen.in" "$work/east.in" || exit 2
+refuse "$examples/looks_at_a_board/stdout" "$examples/looks_at_a_board/screen.out" "$examples/looks_at_a_board/stdin" watch "$work/east"
