@@ -1,6 +1,6 @@
 use Rattle.turn_gate.specs.Seats.{IsSeatOf}
 use Rattle.desk_shared.specs.Shown.{IsViewOf}
-use Rattle.shared_cases.proofs.window_tests.first_unlike.Given as goal
+use Rattle.shared_cases.proofs.window_tests.moves.first_unlike.Given as goal
 
 abbrev pub invariant-loop-seen : goal.invariant-loop-seen
 invariant-loop-seen g l =

@@ -1,0 +1,3 @@
+mod CourseLemmas
+mod EndedLemmas
+mod OutcomeLemmas

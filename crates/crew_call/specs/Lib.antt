@@ -1,0 +1,4 @@
+pub mod Course
+pub mod CrewCalls
+pub mod Ended
+pub mod Outcomes
