@@ -3,6 +3,7 @@
 
 mod called;
 mod called_shown;
+mod crew_called;
 mod desk;
 mod laws;
 mod receipt;
@@ -11,9 +12,11 @@ mod seats_missing;
 mod shown_book;
 mod shown_desk;
 mod shown_seats_missing;
+mod too_few;
 
 pub use called::Called;
 pub use called_shown::CalledShown;
+pub use crew_called::CrewCalled;
 pub use desk::Desk;
 pub use laws::a_desk_has_one_wall;
 pub use receipt::Receipt;
@@ -22,3 +25,4 @@ pub use seats_missing::SeatsMissing;
 pub use shown_book::ShownBook;
 pub use shown_desk::ShownDesk;
 pub use shown_seats_missing::ShownSeatsMissing;
+pub use too_few::TooFew;

@@ -1,19 +1,24 @@
-ghost use Rattle.std.specs.Prelude.{◌≡◌, ◌+◌, ◌*◌, ◌<◌, ◌≤◌, length, vec_len, IfOk, IfErr, IfSome, IfNone};
+ghost use Rattle.std.specs.Prelude.{◌≡◌, ◌+◌, ◌*◌, ◌<◌, ◌≤◌, [], length, vec_len, IfOk, IfErr, IfSome, IfNone};
 ghost use Rattle.std.specs.List.{All};
 ghost use Rattle.turn_gate.specs.Told.{told, start_of, IsBookOf};
 ghost use Rattle.turn_gate.specs.Seats.{IsSeatOf, new_seats};
 ghost use Rattle.turn_gate.specs.Turns.{Knows};
+ghost use Rattle.desk_base.specs.Minute.{IsInYears};
+ghost use Rattle.crew_call.specs.CrewCalls.{somes};
 ghost use Rattle.desk_shared.specs.Calls.{Calls};
+ghost use Rattle.desk_shared.specs.Crews.{IsCall, CallsCrew};
 ghost use Rattle.desk_shared.specs.Shown.{IsViewOf, ShowsTo};
 
 use crate::called_shown::CalledShown;
+use crate::crew_called::CrewCalled;
 use crate::shown_book::ShownBook;
 use crate::shown_seats_missing::ShownSeatsMissing;
-use crate::{Receipt, SeatSpent};
-use board_window::{View, Wall};
+use crate::{Receipt, SeatSpent, TooFew};
+use board_window::{Showing, View, Wall};
 use call_history::Book;
-use desk_base::NoMemory;
-use desk_model::{Booked, DeskCore, LAST_CALLER, Opening, Stated};
+use crew_call::{Crew, what_an_outcome_says};
+use desk_base::{Minute, NoMemory, VacNo};
+use desk_model::{Booked, DeskCore, Entry, LAST_CALLER, Opening, Stated};
 use std::alloc::Global;
 use std::marker::Model;
 use std::sync::Wait;
@@ -113,6 +118,86 @@ impl<C: DeskCore> ShownDesk<C> {
                 outcome: Err(SeatSpent),
                 showing: None,
             },
+        }
+    }
+
+    // A call of a seat that has one left: its entry, and what is shown then.
+    fn called<R: Wait>(
+        &self,
+        rt: &R,
+        seat: Seat<ShownBook<Book<C>>>,
+        stated: Stated,
+    ) -> (Seat<ShownBook<Book<C>>>, Entry, Showing)
+        requires seat { IsSeatOf self.now seat }
+        requires left { seat.calls < self.now.start.quota }
+        ensures call { IsCall self.now.start.book.opening seat result.0 result.1 }
+        ensures stated { result.1.stated ≡ stated }
+        ensures seat { IsSeatOf self.now result.0 }
+        ensures shown { ShowsTo self.now result.2.note result.2.behind result.0.known }
+    {
+        let CalledShown {
+            seat,
+            outcome,
+            showing,
+        } = self.call(rt, seat, stated);
+        match (outcome, showing) {
+            (Ok(receipt), Some(showing)) => (seat, receipt.entry, showing),
+            _ => unreachable!(),
+        }
+    }
+
+    /// Calls two vacancies, which may be the same, as one outcome, at a minute of the years 2000 to 2099: the first, then the second; where that is
+    /// not offered, the first offer is withdrawn. So the seat makes up to three calls, between which others may make theirs: another may
+    /// accept, decline or withdraw the first offer before the second is made. Where it is withdrawn and made anew to the same person, that one is
+    /// withdrawn here. `TooFew` where the seat has fewer than 3 calls left; then none is made.
+    pub fn crew<R: Wait>(
+        &self,
+        rt: &R,
+        seat: Seat<ShownBook<Book<C>>>,
+        minute: Minute,
+        first: VacNo,
+        second: VacNo,
+    ) -> CrewCalled<C>
+        requires seat { IsSeatOf self.now seat }
+        requires minute { IsInYears minute }
+        ensures calls { IfOk result.outcome
+            (λ told. CallsCrew self.now.start.book.opening seat result.seat minute first second (somes result.entries) told) }
+        ensures enough { IfOk result.outcome (λ told. seat.calls + 3 ≤ self.now.start.quota) }
+        ensures few { IfErr result.outcome (λ few. (few.left < 3) × (seat.calls + few.left ≡ self.now.start.quota)) }
+        ensures same { IfErr result.outcome (λ few. (result.seat ≡ seat) × (somes result.entries ≡ [])) }
+        ensures seat { IsSeatOf self.now result.seat }
+        ensures shown { IfOk result.outcome (λ told. IfSome result.showing
+            (λ showing. ShowsTo self.now showing.note showing.behind result.seat.known)) }
+        ensures showing { IfNone result.showing (IfOk result.outcome (λ told. ⊥)) }
+        ensures no_showing { IfErr result.outcome (λ few. IfSome result.showing (λ showing. ⊥)) }
+    {
+        what_an_outcome_says();
+        let left = self.left(&seat);
+        if left < 3 {
+            return CrewCalled {
+                seat,
+                entries: [None, None, None],
+                outcome: Err(TooFew { left }),
+                showing: None,
+            };
+        }
+        let mut seat = seat;
+        let mut shown = None;
+        let mut crew = Crew::new(minute, first, second);
+        while let Some(stated) = crew.ask() {
+            let (after, entry, showing) = self.called(rt, seat, stated);
+            seat = after;
+            shown = Some(showing);
+            crew.hear(&entry);
+        }
+        let Some(outcome) = crew.outcome() else {
+            unreachable!()
+        };
+        CrewCalled {
+            seat,
+            entries: crew.entries(),
+            outcome: Ok(outcome),
+            showing: shown,
         }
     }
 
