@@ -1,4 +1,6 @@
 mod PutLemmas
 mod LineLemmas
 mod TakeLemmas
+mod CrewLemmas
 mod LookLemmas
+mod WordLemmas

@@ -1,18 +1,7 @@
--- A look's record, and the line that holds it.
-use Rattle.std.proofs.Common.{◌≡◌, ◌∙◌, ℕ, ◌<◌, ◌≤◌, Bool, true, false, not, List, [], ◌∷◌, length, get_or, map, codes, decimal, nat_eq, refl, sym, arith, Bor}
-use Rattle.std.specs.Cmp.Lexicographic.{pointwise}
-use Rattle.std.proofs.lemmas.Bool.Decides.{Decides-eqb}
-use Rattle.std.proofs.lemmas.Slice.Eq.{slice_eq-Decides}
+-- A look's record.
+use Rattle.std.proofs.Common.{◌≡◌, ℕ, ◌<◌, ◌≤◌, List, [], ◌∷◌, length, get_or, map, codes, decimal, refl, arith, Bor}
 use Rattle.desk_base.specs.Code.{IsCode}
 use Rattle.caller_lines.specs.Looks.{IsLookRecord}
-
-no_not : (b : Bool) → not b ≡ false → b ≡ true
-no_not true not_false = refl
-no_not false not_false = sym not_false
-
--- a text that doesn't compare as unlike a word is the word
-pub look-word : (text word : List ℕ) (unlike : Bool) → unlike ≡ not (pointwise nat_eq text word) → unlike ≡ false → word ≡ codes "look" → text ≡ codes "look"
-look-word text word unlike told like is = (slice_eq-Decides Decides-eqb text word _ refl).0 (no_not _ (sym told ∙ like)) ∙ is
 
 -- three fields are a look's, where each is
 pub look-record : (fields : List (Bor (List ℕ))) (d : Bor (List ℕ)) (board : List ℕ) (place : ℕ) → 3 ≤ length fields → length fields < 4

@@ -1,3 +1,4 @@
+pub mod CrewLines
 pub mod Given
 pub mod LineCalls
 pub mod Told
@@ -6,3 +7,4 @@ pub mod MemoryLine
 pub mod Hears
 pub mod Takes
 pub mod Looks
+pub mod Requests

@@ -1,15 +1,7 @@
 -- Lines that ask for a look at a board.
-use Rattle.std.specs.Prelude.{◌≡◌, ℕ, ◌≤◌, List, [], ◌∷◌, codes, decimal, ⊤}
-use Rattle.std.specs.declared.option.Option.{Option}
+use Rattle.std.specs.Prelude.{◌≡◌, ℕ, ◌≤◌, List, [], ◌∷◌, codes, decimal}
 use Rattle.desk_base.specs.Code.{IsCode}
 use Rattle.record_rows.specs.Rows.{records_of}
-use Rattle.caller_lines.specs.Given.{Given, GaveLine, GaveTooLong, GaveEnd, GaveFailed}
-use Rattle.caller_lines.specs.Hears.{ReadsLine}
-use Rattle.caller_lines.specs.LineCalls.{LineCall, Asked}
-use Rattle.caller_lines.specs.Told.{with_last}
-use Rattle.caller_lines.specs.declared.said.Said.TheVariants.{TooLong, End, LineFault, NoMemory}
-use Rattle.caller_lines.specs.declared.said_or_look.SaidOrLook.{SaidOrLook}
-use Rattle.caller_lines.specs.declared.said_or_look.SaidOrLook.TheVariants.{Look, Said}
 
 -- the fields of a look: who stands at this place of the board is asked
 abbrev pub look_fields : List ℕ → ℕ → List (List ℕ)
@@ -32,22 +24,3 @@ pub record IsLookLine (line board : List ℕ) (place : ℕ) : Type 0 where
 -- the line asks for no look
 abbrev pub IsNoLook : List ℕ → Type 0
 IsNoLook line = (board : List ℕ) (place : ℕ) → ¬ IsLookLine line board place
-
--- how a line of these bytes is said, where looks are heard; memory may be wanting for its reading
-abbrev pub ReadsLineOrLook : List ℕ → SaidOrLook → Type 0
-ReadsLineOrLook bytes (Look board place) = IsLookLine bytes board place
-ReadsLineOrLook bytes (Said NoMemory) = ⊤
-ReadsLineOrLook bytes (Said said) = IsNoLook bytes × ReadsLine bytes said
-
--- how what a line gave is said, where looks are heard
-abbrev pub ReadsOrLooks : Given → SaidOrLook → Type 0
-ReadsOrLooks (GaveLine bytes) said = ReadsLineOrLook bytes said
-ReadsOrLooks GaveTooLong said = said ≡ Said TooLong
-ReadsOrLooks GaveEnd said = said ≡ Said End
-ReadsOrLooks GaveFailed said = said ≡ Said LineFault
-
--- a line was asked once, and what it gave is what was said, where looks are heard
-pub record HearsOrLooks (before now : Option (List LineCall)) (said : SaidOrLook) : Type 0 where
-  pub gave : Given
-  pub once : now ≡ with_last before (Asked gave)
-  pub reads : ReadsOrLooks gave said

@@ -1,14 +1,19 @@
 //! One line of a caller heard.
-ghost use Rattle.std.specs.Prelude.{◌≡◌, ◌≢◌, ◌≤◌};
+ghost use Rattle.std.specs.Prelude.{◌≡◌, ◌≢◌, ◌≤◌, ℕ, List};
 ghost use Rattle.desk_io.specs.Faults.{Rose};
+ghost use Rattle.command_parser.specs.CommandLine.{IsCommandLine};
+ghost use Rattle.desk_model.specs.Statement.{StatedValue};
+ghost use Rattle.caller_lines.specs.CrewLines.{IsNoCrew};
 ghost use Rattle.caller_lines.specs.Given.{answer_of};
 ghost use Rattle.caller_lines.specs.LineCalls.{Asked};
 ghost use Rattle.caller_lines.specs.Told.{with_last};
 ghost use Rattle.caller_lines.specs.Hears.{Hears, ReadsAs, ReadsLine};
-ghost use Rattle.caller_lines.specs.Looks.{HearsOrLooks, ReadsOrLooks, ReadsLineOrLook};
+ghost use Rattle.caller_lines.specs.Looks.{IsNoLook};
+ghost use Rattle.caller_lines.specs.Requests.{HearsRequest, ReadsRequest, ReadsLineAsRequest};
 
+use crate::crew_line::read_crew;
 use crate::look_line::read_look;
-use crate::{CallerLine, Heard, LineBuf, Said, SaidOrLook};
+use crate::{CallerLine, Heard, LineBuf, Request, Said};
 use command_parser::{ReadFail, read_command};
 use desk_base::NoMemory;
 use std::alloc::Global;
@@ -25,17 +30,17 @@ pub fn hear(alloc: Global, line: &mut Box<dyn CallerLine + Send>) -> Said
     read_heard(alloc, heard, &bytes)
 }
 
-/// Asks the line once, and reads what it gives as a look at a board, or else as a command. Memory is wanted only where it gave
-/// a line.
-pub fn hear_or_look(alloc: Global, line: &mut Box<dyn CallerLine + Send>) -> SaidOrLook
-    ensures hears { HearsOrLooks (calls line.old) (calls line.new) result }
+/// Asks the line once, and reads what it gives as a look at a board or a crew call, or else as a command. Memory is wanted only where
+/// it gave a line.
+pub fn hear_request(alloc: Global, line: &mut Box<dyn CallerLine + Send>) -> Request
+    ensures hears { HearsRequest (calls line.old) (calls line.new) result }
     ensures later { faults line.old ≤ faults line.new }
-    ensures cause { result ≡ SaidOrLook.Said Said.LineFault → Rose (faults line.old) (faults line.new) }
-    ensures no_fault { result ≢ SaidOrLook.Said Said.LineFault → faults line.new ≡ faults line.old }
+    ensures cause { result ≡ Request.Said Said.LineFault → Rose (faults line.old) (faults line.new) }
+    ensures no_fault { result ≢ Request.Said Said.LineFault → faults line.new ≡ faults line.old }
 {
     let mut bytes = LineBuf::new();
     let heard = ask(line, &mut bytes);
-    read_heard_or_look(alloc, heard, &bytes)
+    read_heard_request(alloc, heard, &bytes)
 }
 
 // Asks the line for its next.
@@ -62,17 +67,17 @@ fn read_heard(alloc: Global, heard: Heard, bytes: &LineBuf) -> Said
     }
 }
 
-// What was said by an answer, with the bytes of a line, where looks are heard.
-fn read_heard_or_look(alloc: Global, heard: Heard, bytes: &LineBuf) -> SaidOrLook
-    ensures reads { ReadsOrLooks (answer_of heard bytes.now.items) result }
-    ensures fault { result ≡ SaidOrLook.Said Said.LineFault → heard ≡ Heard.Failed }
-    ensures no_fault { heard ≡ Heard.Failed → result ≡ SaidOrLook.Said Said.LineFault }
+// What was said by an answer, with the bytes of a line, where looks and crew calls are heard.
+fn read_heard_request(alloc: Global, heard: Heard, bytes: &LineBuf) -> Request
+    ensures reads { ReadsRequest (answer_of heard bytes.now.items) result }
+    ensures fault { result ≡ Request.Said Said.LineFault → heard ≡ Heard.Failed }
+    ensures no_fault { heard ≡ Heard.Failed → result ≡ Request.Said Said.LineFault }
 {
     match heard {
-        Heard::Line => read_line_or_look(alloc, bytes.as_slice()),
-        Heard::TooLong => SaidOrLook::Said(Said::TooLong),
-        Heard::End => SaidOrLook::Said(Said::End),
-        Heard::Failed => SaidOrLook::Said(Said::LineFault),
+        Heard::Line => read_line_or_request(alloc, bytes.as_slice()),
+        Heard::TooLong => Request::Said(Said::TooLong),
+        Heard::End => Request::Said(Said::End),
+        Heard::Failed => Request::Said(Said::LineFault),
     }
 }
 
@@ -87,16 +92,41 @@ fn read_line(alloc: Global, bytes: &[u8]) -> Said
     }
 }
 
-// The same, where looks are heard.
-fn read_line_or_look(alloc: Global, bytes: &[u8]) -> SaidOrLook
-    ensures reads { ReadsLineOrLook bytes.now result }
+// The same, where looks and crew calls are heard. Only what is no command can be a crew call.
+fn read_line_or_request(alloc: Global, bytes: &[u8]) -> Request
+    ensures reads { ReadsLineAsRequest bytes.now result }
 {
     match read_look(alloc, bytes) {
-        Ok(Some(look)) => SaidOrLook::Look {
+        Ok(Some(look)) => Request::Look {
             board: look.board,
             place: look.place,
         },
-        Ok(None) => SaidOrLook::Said(read_line(alloc, bytes)),
-        Err(NoMemory) => SaidOrLook::Said(Said::NoMemory),
+        Ok(None) => read_line_or_crew(alloc, bytes),
+        Err(NoMemory) => Request::Said(Said::NoMemory),
     }
 }
+
+// The same of a line that is no look.
+fn read_line_or_crew(alloc: Global, bytes: &[u8]) -> Request
+    requires { IsNoLook bytes.now }
+    ensures reads { ReadsLineAsRequest bytes.now result }
+{
+    a_crew_call_is_no_command();
+    match read_line(alloc, bytes) {
+        Said::Malformed(field) => match read_crew(alloc, bytes) {
+            Ok(Some(crew)) => Request::Crew {
+                minute: crew.minute,
+                first: crew.first,
+                second: crew.second,
+            },
+            Ok(None) => Request::Said(Said::Malformed(field)),
+            Err(NoMemory) => Request::Said(Said::NoMemory),
+        },
+        said => Request::Said(said),
+    }
+}
+
+// A line that asks for a crew call states no command. It does nothing: its clause is the law.
+fn a_crew_call_is_no_command()
+    ensures { (line : List ℕ) (s : StatedValue) → IsCommandLine line s → IsNoCrew line }
+{}

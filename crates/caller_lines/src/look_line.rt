@@ -4,9 +4,10 @@ ghost use Rattle.desk_base.specs.Parts.{parts_by};
 ghost use Rattle.record_rows.specs.Rows.{records_of, row_fields};
 ghost use Rattle.caller_lines.specs.Looks.{IsLookLine, IsNoLook, IsLookRecord};
 
+use crate::only_record::only_record;
 use command_parser::read_place;
 use desk_base::{Code, NoMemory};
-use record_rows::{Fields, Row, Rows, fill_with_line, is_plain};
+use record_rows::{Fields, Row, fill_with_line, is_plain};
 use std::alloc::Global;
 
 /// A look that a line asks for: who stands at this place of the board, from 1.
@@ -23,9 +24,11 @@ pub fn read_look(alloc: Global, line: &[u8]) -> Result<Option<LookLine>, NoMemor
     ensures none { IfOk result (λ found. IsNone found → IsNoLook line.now) }
 {
     if is_plain(line) {
-        Ok(read_plain(line))
-    } else {
-        read_only_record(alloc, line)
+        return Ok(read_plain(line));
+    }
+    match only_record(alloc, line)? {
+        Some(row) => Ok(read_row(&row)),
+        None => Ok(None),
     }
 }
 
@@ -42,23 +45,6 @@ fn read_plain(line: &[u8]) -> Option<LookLine>
     let mut fields = Fields::new();
     fill_with_line(&mut fields, line);
     look_of(fields.as_slice())
-}
-
-// Reads the line's first record, and sees that it has no second one.
-fn read_only_record(alloc: Global, line: &[u8]) -> Result<Option<LookLine>, NoMemory>
-    ensures look { IfOk result (λ found. IfSome found (λ look. IsLookLine line.now look.board look.place)) }
-    ensures none { IfOk result (λ found. IsNone found → IsNoLook line.now) }
-{
-    let mut rows = Rows::of(alloc, line);
-    let mut row = Row::new(alloc);
-    if !rows.next(&mut row)? {
-        return Ok(None);
-    }
-    let found = read_row(&row);
-    if rows.next(&mut row)? {
-        return Ok(None);
-    }
-    Ok(found)
 }
 
 // The look that a record asks for.

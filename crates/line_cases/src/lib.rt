@@ -8,6 +8,6 @@ mod file_tests;
 #[cfg(test)]
 mod hear_tests;
 #[cfg(test)]
-mod look_tests;
-#[cfg(test)]
 mod memory_tests;
+#[cfg(test)]
+mod request_tests;
