@@ -8,3 +8,4 @@ mod SightLemmas
 mod WatchLemmas
 mod WatchAnswerLemmas
 mod WatchLineLemmas
+mod PutLemmas

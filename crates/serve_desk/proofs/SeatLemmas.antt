@@ -1,5 +1,5 @@
 -- The calls of a seat, one after another.
-use Rattle.std.proofs.Common.{◌≡◌, ◌<◌, List, [], ◌∷◌, ◌++◌, length, refl, sym, ap, ◌∙◌, subst, append-nil, append_assoc, length-append, arith}
+use Rattle.std.proofs.Common.{◌≡◌, ℕ, ◌<◌, List, [], ◌∷◌, ◌++◌, length, refl, sym, ap, ◌∙◌, subst, append-nil, append_assoc, length-append, arith}
 use mathlib.Core.List.{IsPrefix}
 use Rattle.desk_model.specs.Entry.{EntryValue}
 use Rattle.desk_model.specs.History.{history_of}
@@ -8,7 +8,9 @@ use Rattle.desk_model.specs.Opening.{OpeningValue}
 use Rattle.desk_model.specs.Statement.{StatedValue}
 use Rattle.turn_gate.specs.Seats.{SeatValue}
 use Rattle.turn_gate.specs.Told.{own}
+use Rattle.crew_call.specs.declared.crew_outcome.CrewOutcome.{CrewOutcome}
 use Rattle.desk_shared.specs.Calls.{Calls}
+use Rattle.desk_shared.specs.Crews.{MakesCalls, CallsCrew}
 use Rattle.desk_shared.specs.declared.receipt.Receipt.{Receipt}
 use Rattle.serve_desk.specs.Seats.{Made}
 
@@ -33,6 +35,21 @@ Made-one o seat later s receipt call = record {
   legal = λ some. call.legal;
   none = λ is. absurd (omega arith);
 }
+
+-- those of a crew call
+pub Made-crew : (o : OpeningValue) (seat later : SeatValue) (t v w : ℕ) (es : List EntryValue) (told : CrewOutcome) → CallsCrew o seat later t v w es told → Made o seat later es
+Made-crew o seat later t v w es told crew = record {
+  number = crew.called.number;
+  calls = crew.called.calls;
+  own_calls = crew.called.own_calls;
+  begins = crew.called.begins;
+  legal = λ some. crew.legal;
+  none = λ is. none es crew.each is;
+}
+  where
+    none : (es : List EntryValue) → MakesCalls o seat es later → length es ≡ 0 → later ≡ seat
+    none [] made is = made
+    none (e ∷ es) made is = absurd (omega (arith, is))
 
 -- what begins a list that begins another begins that
 prefix-further : {A : Type 0} (xs ys zs : List A) → IsPrefix xs ys → IsPrefix ys zs → IsPrefix xs zs

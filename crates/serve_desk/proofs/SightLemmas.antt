@@ -10,8 +10,8 @@ use Rattle.desk_model.specs.Legal.{IsLegal}
 use Rattle.desk_model.specs.Opening.{OpeningValue}
 use Rattle.turn_gate.specs.Told.{own}
 use Rattle.serve_desk.specs.Sees.{EndsAt, AreSeen, no_act_yet, a_look, a_call_that_is_shown, a_call_that_is_not_shown, Sees}
-use Rattle.serve_desk.specs.WatchAnswers.{Sight, as_before, by_a_look, by_a_call, by_a_call_behind}
-use Rattle.serve_desk.specs.WatchFollows.{Act, Looked, Called}
+use Rattle.serve_desk.specs.WatchAnswers.{KnowsByCalls, Sight, by_calls, by_calls_behind, by_a_look}
+use Rattle.serve_desk.specs.WatchFollows.{Act, Looked, Called, shown, not_shown}
 
 pub prefix-self : {A : Type 0} (xs : List A) → IsPrefix xs xs
 prefix-self xs = ([], append-nil xs)
@@ -110,11 +110,17 @@ take-less : {A : Type 0} (n m : ℕ) (xs ys : List A) → n ≤ m → m ≤ leng
 take-less n m xs ys less here there same =
     sym (take-prefix n (take m xs) xs (take-begins m xs) (omega (arith, length-take-le m xs here))) ∙ ap (take n) same ∙ take-prefix n (take m ys) ys (take-begins m ys) (omega (arith, length-take-le m ys there))
 
+-- what is known after calls begins with what was known before
+pub calls-begin : (number : ℕ) (known es now : List EntryValue) → KnowsByCalls number known es now → IsPrefix known now
+calls-begin number known [] now knows = ([], append-nil known ∙ sym knows)
+calls-begin number known (e ∷ es) now knows =
+    prefix-trans known knows.0 now knows.1.0 (prefix-trans knows.0 (knows.0 ++ e ∷ []) now (e ∷ [], refl) (calls-begin number (knows.0 ++ e ∷ []) es now knows.1.1.1.1))
+
 module _ (o : OpeningValue) (made_with : ℕ) (begun : List EntryValue) (number : ℕ) (mine : List EntryValue) where
-  -- an answer more
-  pub SeenSoFar-more : (seen later known now : List EntryValue) (acts further : List Act) → SeenSoFar o made_with begun seen known number mine acts → Sight o number seen later known now further
-      → SeenSoFar o made_with begun later now number mine (acts ++ further)
-  SeenSoFar-more seen later known now acts _ so (as_before more is) =
+  -- no call
+  stays : (seen later known now : List EntryValue) (acts : List Act) → SeenSoFar o made_with begun seen known number mine acts → IsPrefix seen later → now ≡ known
+      → SeenSoFar o made_with begun later now number mine (acts ++ [])
+  stays seen later known now acts so more is =
       let long = prefix-length seen later more in
       let are = AreSeen-longer o seen later known known number mine made_with acts (own known number) so.before so.upto so.agreed more (prefix-self known) so.are in
       let at_known : SeenSoFar o made_with begun later known number mine acts = record {
@@ -131,6 +137,77 @@ module _ (o : OpeningValue) (made_with : ℕ) (begun : List EntryValue) (number 
       } in
       subst (λ (l : List Act). SeenSoFar o made_with begun later now number mine l) (sym (append-nil acts))
       (subst (λ (l : List EntryValue). SeenSoFar o made_with begun later l number mine acts) (sym is) at_known)
+
+  -- a call that is shown, and one that isn't
+  one-shown : (seen later known before now : List EntryValue) (acts : List Act) (e : EntryValue) → SeenSoFar o made_with begun seen known number mine acts → IsPrefix seen later → IsPrefix known before
+      → now ≡ before ++ e ∷ [] → own before number ≡ own known number → own now number ≡ own known number ++ e ∷ [] → IsPrefix now later
+      → SeenSoFar o made_with begun later now number mine (acts ++ Called e true ∷ [])
+  one-shown seen later known before now acts e so more front is had owns told =
+      let long = prefix-length seen later more in
+      let grows : IsPrefix known now = prefix-trans known before now front (e ∷ [], sym is) in
+      let far = prefix-length known now grows in
+      let are = AreSeen-longer o seen later known now number mine made_with acts (own known number) so.before so.upto so.agreed more grows so.are in
+      let called = a_call_that_is_shown acts (own known number) so.before so.upto so.agreed (length now) e are (last-ends before now number (own known number) e is owns had) in
+      record {
+        begins = prefix-trans begun seen later so.begins more;
+        before = so.before;
+        upto = length now;
+        agreed = so.agreed;
+        are = subst (λ (l : List EntryValue). AreSeen o later now number mine made_with (acts ++ Called e true ∷ []) l so.before (length now) so.agreed) (sym owns) called;
+        less = omega (arith, so.less);
+        seen_far = prefix-length now later told;
+        known_far = omega arith;
+        same = sym (take-prefix (length now) now later told (omega arith));
+        within = omega (arith, so.within, so.known_far);
+      }
+
+  one-behind : (seen later known now : List EntryValue) (acts : List Act) (e : EntryValue) → SeenSoFar o made_with begun seen known number mine acts → IsPrefix seen later → IsPrefix known now
+      → own now number ≡ own known number ++ e ∷ [] → SeenSoFar o made_with begun later now number mine (acts ++ Called e false ∷ [])
+  one-behind seen later known now acts e so more grows owns =
+      let long = prefix-length seen later more in
+      let far = prefix-length known now grows in
+      let are = AreSeen-longer o seen later known now number mine made_with acts (own known number) so.before so.upto so.agreed more grows so.are in
+      let called = a_call_that_is_not_shown acts (own known number) so.before so.upto so.agreed e are in
+      record {
+        begins = prefix-trans begun seen later so.begins more;
+        before = so.before;
+        upto = so.upto;
+        agreed = so.agreed;
+        are = subst (λ (l : List EntryValue). AreSeen o later now number mine made_with (acts ++ Called e false ∷ []) l so.before so.upto so.agreed) (sym owns) called;
+        less = omega (arith, so.less);
+        seen_far = omega (arith, so.seen_far);
+        known_far = omega (arith, so.known_far);
+        same = sym (take-prefix so.upto seen later more so.seen_far) ∙ so.same ∙ take-prefix so.upto known now grows so.known_far;
+        within = so.within;
+      }
+
+  -- calls one after another
+  calls-shown : (seen later known now : List EntryValue) (acts : List Act) (es : List EntryValue) → SeenSoFar o made_with begun seen known number mine acts → IsPrefix seen later
+      → KnowsByCalls number known es now → IsPrefix now later → SeenSoFar o made_with begun later now number mine (acts ++ shown es)
+  calls-shown seen later known now acts [] so more knows told = stays seen later known now acts so more knows
+  calls-shown seen later known now acts (e ∷ es) so more knows told =
+      let then : List EntryValue = knows.0 ++ e ∷ [] in
+      let rest = knows.1.1.1.1 in
+      let far : IsPrefix then later = prefix-trans then now later (calls-begin number then es now rest) told in
+      let one = one-shown seen later known knows.0 then acts e so more knows.1.0 refl knows.1.1.0 knows.1.1.1.0 far in
+      subst (λ (l : List Act). SeenSoFar o made_with begun later now number mine l) (append_assoc acts (Called e true ∷ []) (shown es))
+      (calls-shown later later then now (acts ++ Called e true ∷ []) es one (prefix-self later) rest told)
+
+  calls-behind : (seen later known now : List EntryValue) (acts : List Act) (es : List EntryValue) → SeenSoFar o made_with begun seen known number mine acts → IsPrefix seen later
+      → KnowsByCalls number known es now → SeenSoFar o made_with begun later now number mine (acts ++ not_shown es)
+  calls-behind seen later known now acts [] so more knows = stays seen later known now acts so more knows
+  calls-behind seen later known now acts (e ∷ es) so more knows =
+      let then : List EntryValue = knows.0 ++ e ∷ [] in
+      let grows : IsPrefix known then = prefix-trans known knows.0 then knows.1.0 (e ∷ [], refl) in
+      let one = one-behind seen later known then acts e so more grows knows.1.1.1.0 in
+      subst (λ (l : List Act). SeenSoFar o made_with begun later now number mine l) (append_assoc acts (Called e false ∷ []) (not_shown es))
+      (calls-behind later later then now (acts ++ Called e false ∷ []) es one (prefix-self later) knows.1.1.1.1)
+
+  -- an answer more
+  pub SeenSoFar-more : (seen later known now : List EntryValue) (acts further : List Act) → SeenSoFar o made_with begun seen known number mine acts → Sight o number seen later known now further
+      → SeenSoFar o made_with begun later now number mine (acts ++ further)
+  SeenSoFar-more seen later known now acts _ so (by_calls es more knows told) = calls-shown seen later known now acts es so more knows told
+  SeenSoFar-more seen later known now acts _ so (by_calls_behind es more knows) = calls-behind seen later known now acts es so more knows
   SeenSoFar-more seen later known now acts _ so (by_a_look board place n what more is all sees) =
       let long = prefix-length seen later more in
       let known_is : known ≡ now = sym is in
@@ -150,41 +227,6 @@ module _ (o : OpeningValue) (made_with : ℕ) (begun : List EntryValue) (number 
         within = omega arith;
       } in
       subst (λ (l : List EntryValue). SeenSoFar o made_with begun later l number mine (acts ++ Looked n board place what ∷ [])) known_is at_known
-  SeenSoFar-more seen later known now acts _ so (by_a_call e before more front is had owns told) =
-      let long = prefix-length seen later more in
-      let grows : IsPrefix known now = prefix-trans known before now front (e ∷ [], sym is) in
-      let far = prefix-length known now grows in
-      let are = AreSeen-longer o seen later known now number mine made_with acts (own known number) so.before so.upto so.agreed more grows so.are in
-      let called = a_call_that_is_shown acts (own known number) so.before so.upto so.agreed (length now) e are (last-ends before now number (own known number) e is owns had) in
-      record {
-        begins = prefix-trans begun seen later so.begins more;
-        before = so.before;
-        upto = length now;
-        agreed = so.agreed;
-        are = subst (λ (l : List EntryValue). AreSeen o later now number mine made_with (acts ++ Called e true ∷ []) l so.before (length now) so.agreed) (sym owns) called;
-        less = omega (arith, so.less);
-        seen_far = prefix-length now later told;
-        known_far = omega arith;
-        same = sym (take-prefix (length now) now later told (omega arith));
-        within = omega (arith, so.within, so.known_far);
-      }
-  SeenSoFar-more seen later known now acts _ so (by_a_call_behind e more grows owns) =
-      let long = prefix-length seen later more in
-      let far = prefix-length known now grows in
-      let are = AreSeen-longer o seen later known now number mine made_with acts (own known number) so.before so.upto so.agreed more grows so.are in
-      let called = a_call_that_is_not_shown acts (own known number) so.before so.upto so.agreed e are in
-      record {
-        begins = prefix-trans begun seen later so.begins more;
-        before = so.before;
-        upto = so.upto;
-        agreed = so.agreed;
-        are = subst (λ (l : List EntryValue). AreSeen o later now number mine made_with (acts ++ Called e false ∷ []) l so.before so.upto so.agreed) (sym owns) called;
-        less = omega (arith, so.less);
-        seen_far = omega (arith, so.seen_far);
-        known_far = omega (arith, so.known_far);
-        same = sym (take-prefix so.upto seen later more so.seen_far) ∙ so.same ∙ take-prefix so.upto known now grows so.known_far;
-        within = so.within;
-      }
 
   -- the end
   pub Sees-so : (seen known : List EntryValue) (acts : List Act) → IsLegal (history_of o seen) → SeenSoFar o made_with begun seen known number mine acts → Sees o made_with begun seen known number mine acts

@@ -1,5 +1,6 @@
 pub mod Texts
 pub mod Told
+pub mod Crews
 pub mod Follows
 pub mod Session
 pub mod Seats

@@ -7,8 +7,8 @@ use Rattle.board_window.specs.Walls.{FrontValue}
 use Rattle.board_window.specs.declared.spot.Spot.{Spot}
 use Rattle.caller_lines.specs.Given.{Given}
 use Rattle.caller_lines.specs.LineCalls.{LineCall, PutText}
-use Rattle.caller_lines.specs.Looks.{ReadsOrLooks}
-use Rattle.caller_lines.specs.declared.said_or_look.SaidOrLook.{SaidOrLook}
+use Rattle.caller_lines.specs.Requests.{ReadsRequest}
+use Rattle.caller_lines.specs.declared.request.Request.{Request}
 use Rattle.desk_model.specs.Entry.{EntryValue}
 use Rattle.desk_model.specs.History.{history_of}
 use Rattle.desk_model.specs.Opening.{OpeningValue}
@@ -19,7 +19,7 @@ use Rattle.serve_desk.specs.declared.why.Why.{Why}
 use Rattle.serve_desk.specs.Seats.{Made}
 use Rattle.serve_desk.specs.Session.{asked_then_put}
 use Rattle.serve_desk.specs.Told.{with_all, LineValue}
-use Rattle.serve_desk.specs.WatchFollows.{Act, Looked, Called, PutsTwo, FollowsWatched}
+use Rattle.serve_desk.specs.WatchFollows.{Act, Looked, PutsAll, FollowsWatched, shown, not_shown}
 
 -- the seat and the view are of this desk, and know what its book began with
 pub record IsCallerOf (desk : GateValue) (seat : SeatValue) (view : FrontValue) : Type 0 where
@@ -28,28 +28,33 @@ pub record IsCallerOf (desk : GateValue) (seat : SeatValue) (view : FrontValue) 
   pub looks : IsViewOf desk view
   pub saw : IsPrefix desk.start.book.entries view.entries
 
+-- what the caller knew and knows now, of whose calls in between, one after another, these are the entries: each is the last of what was
+-- known after it, and of theirs there were just those that they knew before it
+abbrev pub KnowsByCalls : ℕ → List EntryValue → List EntryValue → List EntryValue → Type 0
+KnowsByCalls number known [] now = now ≡ known
+KnowsByCalls number known (e ∷ es) now =
+    (before : List EntryValue) × (IsPrefix known before × ((own before number ≡ own known number)
+    × ((own (before ++ e ∷ []) number ≡ own known number ++ e ∷ []) × KnowsByCalls number (before ++ e ∷ []) es now)))
+
 -- what an answer makes of what a view has seen and of what the caller knows, by what it came to
 pub data Sight (o : OpeningValue) (number : ℕ) (seen later known now : List EntryValue) : List Act → Type 0 where
-  as_before : IsPrefix seen later → now ≡ known → Sight o number seen later known now []
+  by_calls : (es : List EntryValue) → IsPrefix seen later → KnowsByCalls number known es now → IsPrefix now later → Sight o number seen later known now (shown es)
+  by_calls_behind : (es : List EntryValue) → IsPrefix seen later → KnowsByCalls number known es now → Sight o number seen later known now (not_shown es)
   by_a_look : (board : List ℕ) (place n : ℕ) (what : Spot) → IsPrefix seen later → now ≡ known → n ≡ length later → what ≡ spot_of (history_of o later) board place
       → Sight o number seen later known now (Looked n board place what ∷ [])
-  by_a_call : (e : EntryValue) (before : List EntryValue) → IsPrefix seen later → IsPrefix known before → now ≡ before ++ e ∷ [] → own before number ≡ own known number
-      → own now number ≡ own known number ++ e ∷ [] → IsPrefix now later → Sight o number seen later known now (Called e true ∷ [])
-  by_a_call_behind : (e : EntryValue) → IsPrefix seen later → IsPrefix known now → own now number ≡ own known number ++ e ∷ []
-      → Sight o number seen later known now (Called e false ∷ [])
 
--- two texts were put on a line, one behind the other, where that tells what was put
-pub record PutsTwoOn (first second : List ℕ) (before now : Option (List LineCall)) (ends : Option Why) : Type 0 where
+-- texts were put on a line, one behind the other, where that tells what was put
+pub record PutsAllOn (all : List (List ℕ)) (before now : Option (List LineCall)) (ends : Option Why) : Type 0 where
   pub texts : List (List ℕ)
-  pub puts : PutsTwo first second texts ends
+  pub puts : PutsAll all texts ends
   pub told : now ≡ with_all before (map PutText texts)
 
 -- what was said of an answer of the line was replied to: whatever it gave that is said so, this follows
-pub record RepliesWatched (o : OpeningValue) (heard left : ℕ) (before now : Option (List LineCall)) (s : SaidOrLook) (seat after : SeatValue) (view later : FrontValue) (ends : Option Why) : Type 0 where
+pub record RepliesWatched (o : OpeningValue) (heard left : ℕ) (before now : Option (List LineCall)) (s : Request) (seat after : SeatValue) (view later : FrontValue) (ends : Option Why) : Type 0 where
   pub entries : List EntryValue
   pub texts : List (List ℕ)
   pub acts : List Act
-  pub follows : (gave : Given) → ReadsOrLooks gave s → FollowsWatched heard left gave entries texts acts ends
+  pub follows : (gave : Given) → ReadsRequest gave s → FollowsWatched heard left gave entries texts acts ends
   pub told : now ≡ with_all before (map PutText texts)
   pub made : Made o seat after entries
   pub sight : Sight o seat.number view.entries later.entries seat.known after.known acts

@@ -1,11 +1,11 @@
 //! A text put on a line.
-ghost use Rattle.std.specs.Prelude.{◌≡◌, ◌≢◌, ◌≤◌};
+ghost use Rattle.std.specs.Prelude.{◌≡◌, ◌≢◌, ◌≤◌, [], ◌∷◌};
 ghost use Rattle.std.specs.Bool.{OnTrue, OnFalse};
 ghost use Rattle.desk_io.specs.Faults.{Rose};
 ghost use Rattle.caller_lines.specs.LineCalls.{PutText};
 ghost use Rattle.caller_lines.specs.Told.{with_last};
 ghost use Rattle.serve_desk.specs.Answers.{PutsOn};
-ghost use Rattle.serve_desk.specs.WatchAnswers.{PutsTwoOn};
+ghost use Rattle.serve_desk.specs.WatchAnswers.{PutsAllOn};
 
 use crate::Why;
 use caller_lines::CallerLine;
@@ -29,7 +29,7 @@ pub fn put_on(line: &mut Box<dyn CallerLine + Send>, text: &[u8], then: Option<W
 /// Puts two texts on the line, one behind the other, behind which the session goes on. Where the line doesn't take one, that is a fault
 /// and ends the session.
 pub fn put_both(line: &mut Box<dyn CallerLine + Send>, first: &[u8], second: &[u8]) -> Option<Why>
-    ensures puts { PutsTwoOn first.now second.now (calls line.old) (calls line.new) result }
+    ensures puts { PutsAllOn (first.now ∷ second.now ∷ []) (calls line.old) (calls line.new) result }
     ensures later { faults line.old ≤ faults line.new }
     ensures cause { result ≡ Some Why.LineFault → Rose (faults line.old) (faults line.new) }
     ensures no_fault { result ≢ Some Why.LineFault → faults line.new ≡ faults line.old }

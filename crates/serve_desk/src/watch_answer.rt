@@ -1,5 +1,5 @@
-//! One answer of a line where looks at boards are heard, and what follows it.
-ghost use Rattle.std.specs.Prelude.{◌≡◌, ◌≢◌, ℕ, ◌-◌, ◌<◌, ◌≤◌, ◌+◌, IfNone, IfSome, None, Some, length};
+//! One answer of a line where looks at boards and crew calls are heard, and what follows it.
+ghost use Rattle.std.specs.Prelude.{◌≡◌, ◌≢◌, ℕ, ◌-◌, ◌<◌, ◌≤◌, ◌+◌, [], ◌∷◌, IfNone, IfSome, None, Some, length};
 ghost use mathlib.Core.List.{IsPrefix};
 ghost use Rattle.desk_io.specs.Faults.{Rose};
 ghost use Rattle.turn_gate.specs.Seats.{SeatValue};
@@ -7,7 +7,7 @@ ghost use Rattle.desk_model.specs.Journal.{entry_line};
 ghost use Rattle.serve_desk.specs.Looks.{behind};
 ghost use Rattle.serve_desk.specs.Told.{line_of};
 ghost use Rattle.serve_desk.specs.Answers.{PutsOn};
-ghost use Rattle.serve_desk.specs.WatchAnswers.{IsCallerOf, PutsTwoOn, RepliesWatched, AnswersWatched};
+ghost use Rattle.serve_desk.specs.WatchAnswers.{IsCallerOf, PutsAllOn, RepliesWatched, AnswersWatched};
 
 use crate::answered_watched::AnsweredWatched;
 use crate::entry_lines::EntryLines;
@@ -15,10 +15,11 @@ use crate::look_text::{write_behind, write_look};
 use crate::malformed::write_malformed;
 use crate::put::{put_both, put_on};
 use crate::texts::{NO_MEMORY, SPENT, TOO_LONG, TOO_MANY};
+use crate::watch_crew::crew;
 use crate::{LINE_LIMIT, Why};
 use board_window::{Showing, View};
 use call_history::Book;
-use caller_lines::{CallerLine, Said, SaidOrLook, hear_or_look};
+use caller_lines::{CallerLine, Request, Said, hear_request};
 use desk_base::Code;
 use desk_model::{DeskCore, Entry, Stated};
 use desk_shared::{CalledShown, SeatSpent, ShownBook, ShownDesk, a_desk_has_one_wall};
@@ -27,7 +28,7 @@ use std::sync::Wait;
 use turn_gate::{Seat, what_one_entry_more_makes_known};
 
 /// Asks the line once, which gave so many lines before, and does what follows: a look is answered from the view, without a turn and
-/// without an entry. What is shown after a call is learnt before its reply is put, and the reply to a line is put before the next is asked.
+/// without an entry, and a crew call by up to three. What is shown after a call is learnt before its reply is put, and the reply to a line is put before the next is asked.
 pub fn answer_watched<C: DeskCore, R: Wait>(
     rt: &R,
     alloc: Global,
@@ -49,12 +50,28 @@ pub fn answer_watched<C: DeskCore, R: Wait>(
     ensures cause { result.ends ≡ Some Why.LineFault → Rose (faults line.old) (faults line.new) }
     ensures no_fault { result.ends ≢ Some Why.LineFault → faults line.new ≡ faults line.old }
 {
-    match hear_or_look(alloc, line) {
-        SaidOrLook::Look { board, place } => AnsweredWatched {
+    match hear_request(alloc, line) {
+        Request::Look { board, place } => AnsweredWatched {
             seat,
             ends: look(view, heard, board, place, line),
         },
-        SaidOrLook::Said(said) => match said {
+        Request::Crew {
+            minute,
+            first,
+            second,
+        } => crew(
+            rt,
+            desk,
+            seat,
+            view,
+            heard,
+            minute,
+            first,
+            second,
+            entry_lines,
+            line,
+        ),
+        Request::Said(said) => match said {
             Said::End => AnsweredWatched {
                 seat,
                 ends: Some(Why::End),
@@ -79,7 +96,7 @@ fn look(
     requires { heard ≤ LINE_LIMIT }
     ensures replies { (left : ℕ) (seat : SeatValue) →
         RepliesWatched view.old.wall.opening heard left (calls line.old) (calls line.new)
-        (SaidOrLook.Look board place) seat seat view.old view.new result }
+        (Request.Look board place) seat seat view.old view.new result }
     ensures wall { view.new.wall ≡ view.old.wall }
     ensures begins { IsPrefix view.old.entries view.new.entries }
     ensures later { faults line.old ≤ faults line.new }
@@ -111,7 +128,7 @@ fn reply<C: DeskCore, R: Wait>(
     requires not_end { said ≢ Said.End }
     requires no_fault { said ≢ Said.LineFault }
     ensures replies { RepliesWatched desk.now.start.book.opening heard (desk.now.start.quota - seat.calls)
-        (calls line.old) (calls line.new) (SaidOrLook.Said said) seat result.seat view.old view.new result.ends }
+        (calls line.old) (calls line.new) (Request.Said said) seat result.seat view.old view.new result.ends }
     ensures caller { IsCallerOf desk.now result.seat view.new }
     ensures later { faults line.old ≤ faults line.new }
     ensures cause { result.ends ≡ Some Why.LineFault → Rose (faults line.old) (faults line.new) }
@@ -153,7 +170,7 @@ fn call<C: DeskCore, R: Wait>(
     requires caller { IsCallerOf desk.now seat view.old }
     ensures replies { (heard : ℕ) → heard < LINE_LIMIT
         → RepliesWatched desk.now.start.book.opening heard (desk.now.start.quota - seat.calls)
-        (calls line.old) (calls line.new) (SaidOrLook.Said (Said.Command stated)) seat result.seat view.old view.new result.ends }
+        (calls line.old) (calls line.new) (Request.Said (Said.Command stated)) seat result.seat view.old view.new result.ends }
     ensures caller { IsCallerOf desk.now result.seat view.new }
     ensures later { faults line.old ≤ faults line.new }
     ensures cause { result.ends ≡ Some Why.LineFault → Rose (faults line.old) (faults line.new) }
@@ -182,8 +199,8 @@ fn call<C: DeskCore, R: Wait>(
     }
 }
 
-// Learns what is shown, and answers how far that is behind.
-fn learn(view: &mut View, showing: Showing) -> u32
+/// Learns what is shown, and answers how far that is behind.
+pub fn learn(view: &mut View, showing: Showing) -> u32
     requires { showing.note.wall ≡ view.old.wall }
     ensures wall { view.new.wall ≡ view.old.wall }
     ensures begins { IsPrefix view.old.entries view.new.entries }
@@ -205,7 +222,7 @@ fn put_entry(
     ensures shown { count ≡ 0
         → PutsOn (entry_line entry.now) None (calls line.old) (calls line.new) result }
     ensures not_shown { 0 < count
-        → PutsTwoOn (entry_line entry.now) (behind count) (calls line.old) (calls line.new) result }
+        → PutsAllOn (entry_line entry.now ∷ behind count ∷ []) (calls line.old) (calls line.new) result }
     ensures later { faults line.old ≤ faults line.new }
     ensures cause { result ≡ Some Why.LineFault → Rose (faults line.old) (faults line.new) }
     ensures no_fault { result ≢ Some Why.LineFault → faults line.new ≡ faults line.old }

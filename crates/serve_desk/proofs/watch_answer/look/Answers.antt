@@ -1,9 +1,9 @@
 use Rattle.std.proofs.Common.{arith}
-use Rattle.serve_desk.proofs.WatchAnswerLemmas.{RepliesWatched-too_many_looks, RepliesWatched-no_look, RepliesWatched-look}
+use Rattle.serve_desk.proofs.WatchAnswerLemmas.{RepliesWatched-too_many_requests, RepliesWatched-no_look, RepliesWatched-look}
 use Rattle.serve_desk.proofs.watch_answer.look.Goals as goal
 
 pub returns-then-heard-eq-LINE_LIMIT-clause-replies : goal.returns-then-heard-eq-LINE_LIMIT-clause-replies
-returns-then-heard-eq-LINE_LIMIT-clause-replies g c left seat = RepliesWatched-too_many_looks _ _ left _ _ _ _ seat _ _ c.if-heard-eq-LINE_LIMIT.true c.put_on.ensures.puts
+returns-then-heard-eq-LINE_LIMIT-clause-replies g c left seat = RepliesWatched-too_many_requests _ _ left _ _ _ seat _ _ tt c.if-heard-eq-LINE_LIMIT.true c.put_on.ensures.puts
 
 pub returns-in-Some-clause-replies : goal.returns-in-Some-clause-replies
 returns-in-Some-clause-replies g c left seat =
