@@ -5,22 +5,17 @@ each entry. The run has to end well when they do, and its journal has to be lega
 entry. Each look has to tell who stands at its place on its board after so many entries as it says; it never says fewer than a look of
 the same caller did before, or than the caller was shown of its own entries. The program has to find the same boards itself, by
 `continue` and `at` behind some of the journal's beginnings. The last line is 'N passed, M failed'."""
-import os
-import random
 import subprocess
 import sys
 import tempfile
-import threading
-import time
+
+import piped
 
 LOOKERS, CALLERS = 40, 23
 LOOKS, AT_ONCE = 10_000, 50
 CALLS = 200
 BOARDS = ["P1", "X2"]
 PLACES = range(1, 50)
-
-# After so many seconds a run is taken for one that hangs.
-PATIENCE = 300
 
 FIRST = 201
 PERSONS = range(FIRST, FIRST + 2 * CALLERS)
@@ -79,30 +74,20 @@ class Boards:
         return there[place - 1] if place <= len(there) else f"no one {len(there)}"
 
 
-class Caller(threading.Thread):
-    """Who says lines and keeps each with its reply, and what came beside."""
+class Caller(piped.Caller):
+    """Who looks at boards, or calls and looks after each entry."""
 
-    def __init__(self, room, number):
-        super().__init__(daemon=True)
-        self.room, self.number = room, number
-        self.draw = random.Random(number)
-        self.got = []
-
-    def run(self):
-        with open(f"{self.room}/c{self.number}.in", "wb", buffering=0) as said, open(f"{self.room}/c{self.number}.out", "rb") as replies:
-            self.said, self.replies = said, replies
-            if self.number <= CALLERS:
-                self.call()
-            else:
-                self.look()
-            said.close()
-            self.got += [("", line.decode()) for line in replies.read().splitlines()]
+    def talk(self):
+        if self.number <= CALLERS:
+            self.call()
+        else:
+            self.look()
 
     def ask(self, lines):
         """Says lines at once, and keeps a reply of each."""
-        self.said.write("".join(line + "\n" for line in lines).encode())
+        self.say(*lines)
         for line in lines:
-            self.got.append((line, self.replies.readline().decode().removesuffix("\n")))
+            self.got.append((line, self.hear()))
 
     def a_look(self):
         return f"look,{self.draw.choice([*BOARDS, 'X9'] if self.draw.random() < 0.1 else BOARDS)},{self.draw.choice(PLACES)}"
@@ -126,46 +111,18 @@ class Caller(threading.Thread):
             else:
                 command = f"{word},{mine}"
             # where what is shown is behind, a line tells so before the look's
-            self.said.write(f"{MINUTE},{command}\n".encode())
-            reply = self.replies.readline().decode().removesuffix("\n")
+            self.say(f"{MINUTE},{command}")
+            reply = self.hear()
             self.got.append((command, reply))
             answer = reply.rpartition("|")[2].split(" ")
             offered = answer[1] if answer[0] == "offered" else None if command.startswith("decline") else offered
             look = self.a_look()
-            self.said.write(f"{look}\n".encode())
-            reply = self.replies.readline().decode().removesuffix("\n")
+            self.say(look)
+            reply = self.hear()
             if reply.startswith("behind "):
                 self.got.append(("behind", reply))
-                reply = self.replies.readline().decode().removesuffix("\n")
+                reply = self.hear()
             self.got.append((look, reply))
-
-
-class Checks:
-    def __init__(self):
-        self.passed = self.failed = 0
-
-    def is_so(self, what, came, wanted):
-        if came == wanted:
-            self.passed += 1
-        else:
-            self.failed += 1
-            print(f"windows: {what}: {came!r} is not {wanted!r}")
-
-
-def watched(program, room):
-    """The callers after their run, its journal's lines, its status and what it wrote of errors."""
-    callers = [Caller(room, number) for number in range(1, LOOKERS + CALLERS + 1)]
-    for caller in callers:
-        os.mkfifo(f"{room}/c{caller.number}.in")
-        os.mkfifo(f"{room}/c{caller.number}.out")
-        caller.start()
-    names = [f"{room}/c{caller.number}" for caller in callers]
-    done = subprocess.run([program, "watch", *names], input="".join(line + "\n" for line in OPENING).encode(), capture_output=True, timeout=PATIENCE, check=False)
-    # who still stands at a pipe that the program never opened is left there
-    end = time.monotonic() + 10
-    for caller in callers:
-        caller.join(max(0, end - time.monotonic()))
-    return callers, done.stdout.decode().splitlines(), done.returncode, done.stderr.decode()
 
 
 def boards_of(journal):
@@ -205,12 +162,12 @@ def first_wrong(caller, told, places):
 
 
 def main(program):
-    checks = Checks()
+    checks = piped.Checks("windows")
     with tempfile.TemporaryDirectory() as room:
-        callers, journal, status, errors = watched(program, room)
+        callers = [Caller(room, number) for number in range(1, LOOKERS + CALLERS + 1)]
+        journal, status, errors = piped.watched(program, callers, OPENING)
     checks.is_so("its status", (status, errors), (0, ""))
-    audit = subprocess.run([program, "audit"], input="".join(line + "\n" for line in journal).encode(), capture_output=True, timeout=PATIENCE, check=False)
-    checks.is_so("an audit of its journal", audit.stdout.decode(), f"legal {len(journal) - 1}\n")
+    checks.is_so("an audit of its journal", piped.audited(program, journal), f"legal {len(journal) - 1}\n")
     told = boards_of(journal)
     for caller in callers:
         own = [(place, line) for place, line in enumerate(journal[1:]) if line.startswith(f"{caller.number}|")]
@@ -225,11 +182,10 @@ def main(program):
     for count in range(len(OPENING) - 1, len(journal), max(1, len(journal) // 8)):
         asked = "".join(f"{MINUTE},at,{board},{place}\n" for board in BOARDS for place in PLACES)
         front = "".join(line + "\n" for line in journal[: count + 1])
-        found = subprocess.run([program, "continue"], input=f"{front}+\n{asked}".encode(), capture_output=True, timeout=PATIENCE, check=False)
+        found = subprocess.run([program, "continue"], input=f"{front}+\n{asked}".encode(), capture_output=True, timeout=piped.PATIENCE, check=False)
         answers = [line.rpartition("|")[2].removeprefix("seen ") for line in found.stdout.decode().splitlines()[count + 1 :]]
         checks.is_so(f"the boards after {count} entries", answers, [told[count][board, place] for board in BOARDS for place in PLACES])
-    print(f"{checks.passed} passed, {checks.failed} failed")
-    return 0 if checks.passed and not checks.failed else 1
+    return checks.end()
 
 
 if __name__ == "__main__":
