@@ -1,8 +1,8 @@
 #!/bin/sh
 # refused_memory.sh PROGRAM: runs the program on examples again and again, and refuses it each request for memory in turn, the words'
-# among them: a replay, an audit, the records of tours, what would be, a caller who is served, and one who looks. Each run must end with
+# among them: a replay, an audit, the records of tours, what would be, a caller who is served, one who looks, and one who calls a crew. Each run must end with
 # status 6 and `no memory`, and write nothing; or with status 0 and all that is written without a refusal; or, of the caller, with status 0
-# and the reply `no memory` to a line that was not taken, or to a look, or with `behind n` of what looks do not show yet. It stops where
+# and the reply `no memory` to a line that was not taken, to a look or to a crew call, or with `behind n` of what looks do not show yet. It stops where
 # 64 runs on end are as without a refusal. It needs a C compiler and a linker that loads before others what LD_PRELOAD names, so it is
 # no part of the gate.
 program=$(realpath "$1") || exit 2
@@ -81,3 +81,5 @@ cp "$examples/callers_of_a_day/east.in" "$work" || exit 2
 refuse "$examples/callers_of_a_day/stdout" "$examples/callers_of_a_day/east.out" "$examples/callers_of_a_day/stdin" serve "$work/east"
 cp "$examples/looks_at_a_board/screen.in" "$work/east.in" || exit 2
 refuse "$examples/looks_at_a_board/stdout" "$examples/looks_at_a_board/screen.out" "$examples/looks_at_a_board/stdin" watch "$work/east"
+cp "$examples/a_crew_of_one/caller.in" "$work/east.in" || exit 2
+refuse "$examples/a_crew_of_one/stdout" "$examples/a_crew_of_one/caller.out" "$examples/a_crew_of_one/stdin" watch "$work/east"
