@@ -1,5 +1,6 @@
 #!/bin/sh
-# promises.sh: compares the table in docs/PROVED.md with the sources. Every function, clause and definition that a row names is there.
+# promises.sh: compares the tables of promises, in docs/PROVED.md and in each crate's README.md, with the sources. Every function, clause and
+# definition that a row names is there, and each crate has its README.md.
 # A row names functions as `crate::function` or `crate::Type::function`, a trait as `crate::Trait`, each followed by a
 # colon and its clauses where these have names, and definitions as `crate.File.name`.
 # The last line is 'N passed, M failed': rows.
@@ -30,19 +31,19 @@ find crates -path '*/src/*.rt' ! -path '*/out/*' ! -name 'tests.rt' ! -path '*/t
 
 # And a line 'crate.File.name' for each definition.
 find crates -path '*/specs/*.antt' ! -path '*/out/*' | sort | xargs awk '
-    FNR == 1 { split(FILENAME, part, "/"); file = part[4]; sub(/\.antt$/, "", file); crate = part[2] }
+    FNR == 1 { count = split(FILENAME, part, "/"); file = part[count]; sub(/\.antt$/, "", file); crate = part[2] }
     /^(abbrev pub|unfoldable pub|pub record|pub data) / { print crate "." file "." $3 }
     /^pub [^ ]+ :/ { print crate "." file "." $2 }
 ' | sort -u > "$work/definitions"
 
-# The rows of the table of promises, each with what it names that is not there.
+# The rows of the tables of promises, each with what it names that is not there.
 awk -v functions="$work/functions" -v definitions="$work/definitions" '
     BEGIN {
         while ((getline line < functions) > 0) there[line] = 1
         while ((getline line < definitions) > 0) there[line] = 1
         FS = "|"
     }
-    function bad(what) { print "docs/PROVED.md:" FNR ": there is no " what; wrong = 1 }
+    function bad(what) { print FILENAME ":" FNR ": there is no " what; wrong = 1 }
     !/^\|/ || /^\|[- |]*$/ { next }
     /^\| Promise / { next }
     {
@@ -59,11 +60,17 @@ awk -v functions="$work/functions" -v definitions="$work/definitions" '
         if (wrong) failed++; else passed++
     }
     END { print passed + 0, failed + 0 }
-' docs/PROVED.md > "$work/promises"
+' docs/PROVED.md crates/*/README.md > "$work/promises"
 sed '$d' "$work/promises"
+
+for crate in crates/*/; do
+    [ -f "$crate/README.md" ] || echo "$crate has no README.md"
+done > "$work/without"
+cat "$work/without"
 
 tail -n 1 "$work/promises" | {
     read -r passed failed
+    failed=$((failed + $(wc -l < "$work/without")))
     echo "$passed passed, $failed failed"
     [ "$passed" != 0 ] && [ "$failed" = 0 ]
 }

@@ -4,11 +4,11 @@ use Rattle.std.proofs.lemmas.Bool.{false≢true}
 use Rattle.std.proofs.lemmas.Bool.Decides.{Decides-eqb}
 use Rattle.std.proofs.lemmas.Slice.Eq.{slice_eq-Decides}
 use Rattle.std.specs.Cmp.Lexicographic.{pointwise}
-use Rattle.desk_model.specs.Entry.{EntryValue}
-use Rattle.desk_model.specs.History.{History, with_entry}
-use Rattle.desk_model.specs.Fits.{Fits}
-use Rattle.desk_model.specs.Legal.{IsLegal, next}
-use Rattle.desk_model.specs.Journal.{entry_line, journal}
+use Rattle.desk_model.specs.statements.Entry.{EntryValue}
+use Rattle.desk_model.specs.histories.History.{History, with_entry}
+use Rattle.desk_model.specs.statements.Fits.{Fits}
+use Rattle.desk_model.specs.histories.Legal.{IsLegal, next}
+use Rattle.desk_model.specs.texts.Journal.{entry_line, journal}
 use Rattle.line_writer.specs.Line.{IsLine}
 use Rattle.line_writer.proofs.JournalLemmas.{journal-next}
 use Rattle.desk_text.specs.SpelledEntry.{IsEntryLine, statement_of}

@@ -3,12 +3,12 @@ use Rattle.std.proofs.Common.{◌≡◌, ◌≢◌, ◌∙◌, ℕ, ◌+◌, Lis
 use Rattle.std.specs.Prelude.{◌⊎◌}
 use Rattle.std.specs.List.{All}
 use Rattle.std.proofs.lemmas.List.Elements.{All-head, All-tail}
-use Rattle.desk_model.specs.Entry.{EntryValue}
-use Rattle.desk_model.specs.Fits.{Fits}
-use Rattle.desk_model.specs.History.{History, history_of, opened, with_entry, step_of, steps_from, steps}
-use Rattle.desk_model.specs.Legal.{IsLegal, IsNext, next}
-use Rattle.desk_model.specs.Journal.{opening_line, entry_line, entry_lines, journal}
-use Rattle.desk_model.specs.Opening.{IsOpening}
+use Rattle.desk_model.specs.statements.Entry.{EntryValue}
+use Rattle.desk_model.specs.statements.Fits.{Fits}
+use Rattle.desk_model.specs.histories.History.{History, history_of, opened, with_entry, step_of, steps_from, steps}
+use Rattle.desk_model.specs.histories.Legal.{IsLegal, IsNext, next}
+use Rattle.desk_model.specs.texts.Journal.{opening_line, entry_line, entry_lines, journal}
+use Rattle.desk_model.specs.statements.Opening.{IsOpening}
 use Rattle.line_writer.specs.Line.{IsLine}
 use Rattle.desk_text.proofs.LineLemmas.{entry_line-IsLine, opening_line-IsLine}
 use Rattle.desk_text.proofs.BeginningLemmas.{lines-two, entry_line-one, opening_line-one}

@@ -1,11 +1,11 @@
 -- What an audit finds in a text.
 use Rattle.std.specs.Prelude.{◌≡◌, ◌≢◌, ℕ, ◌+◌, List, [], ◌++◌, length}
-use Rattle.desk_model.specs.Opening.{OpeningValue, IsOpening}
-use Rattle.desk_model.specs.Entry.{EntryValue}
-use Rattle.desk_model.specs.Fits.{Fits}
-use Rattle.desk_model.specs.History.{History}
-use Rattle.desk_model.specs.Legal.{IsLegal, next}
-use Rattle.desk_model.specs.Journal.{opening_line, entry_line, journal}
+use Rattle.desk_model.specs.statements.Opening.{OpeningValue, IsOpening}
+use Rattle.desk_model.specs.statements.Entry.{EntryValue}
+use Rattle.desk_model.specs.statements.Fits.{Fits}
+use Rattle.desk_model.specs.histories.History.{History}
+use Rattle.desk_model.specs.histories.Legal.{IsLegal, next}
+use Rattle.desk_model.specs.texts.Journal.{opening_line, entry_line, journal}
 use Rattle.audit_desk.specs.declared.outcome.Outcome.{Outcome}
 use Rattle.audit_desk.specs.declared.verdict.Verdict.{Verdict}
 use Rattle.audit_desk.specs.declared.verdict.Verdict.TheVariants as verdict

@@ -1,6 +1,6 @@
 -- A desk that goes on behind a journal.
 use Rattle.std.specs.Prelude.{◌≡◌, ℕ, List, [], length}
-use Rattle.desk_model.specs.History.{History}
+use Rattle.desk_model.specs.histories.History.{History}
 use Rattle.audit_desk.specs.Found.{Begins}
 
 -- the text is the journal of a legal history with so many entries, for which the desk stands

@@ -1,7 +1,7 @@
 //! The lines behind the opening's, audited.
 ghost use Rattle.std.specs.Prelude.{◌≡◌, ◌≢◌, ◌≤◌, ◌<◌, ◌+◌, ◌^◌, ◌++◌, ℕ, [], length, IfOk, IfErr};
-ghost use Rattle.desk_model.specs.History.{History};
-ghost use Rattle.desk_model.specs.Journal.{journal};
+ghost use Rattle.desk_model.specs.histories.History.{History};
+ghost use Rattle.desk_model.specs.texts.Journal.{journal};
 ghost use Rattle.audit_desk.specs.Found.{Finds, outcome_of};
 ghost use Rattle.audit_desk.specs.Resumed.{Resumes};
 

@@ -6,8 +6,8 @@ ghost use Rattle.audit_desk.specs.Found.{Finds};
 ghost use Rattle.audit_desk.specs.Resumed.{Resumes};
 
 use crate::audit_entries::audit_entries;
-use crate::laws::an_audit_finds_one_verdict;
 use crate::lines::first_line;
+use crate::verdict::an_audit_finds_one_verdict;
 use crate::{Resumed, Verdict};
 use desk_model::DeskCore;
 use desk_text::{each_line_ends_once, read_opening};

@@ -3,7 +3,6 @@
 
 mod audit_entries;
 mod journal;
-mod laws;
 mod lines;
 mod outcome;
 mod resumed;
@@ -11,9 +10,8 @@ mod verdict;
 mod verdict_text;
 
 pub use journal::{BYTE_LIMIT, audit, resume, the_most_bytes_of_a_journal};
-pub use laws::an_audit_finds_one_verdict;
 pub use lines::first_line;
 pub use outcome::Outcome;
 pub use resumed::Resumed;
-pub use verdict::Verdict;
+pub use verdict::{Verdict, an_audit_finds_one_verdict};
 pub use verdict_text::write_verdict;

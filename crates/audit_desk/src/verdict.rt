@@ -1,4 +1,9 @@
+ghost use Rattle.std.specs.Prelude.{◌≡◌, ℕ, List};
+ghost use Rattle.audit_desk.specs.declared.verdict.Verdict.{Verdict as VerdictValue};
+ghost use Rattle.audit_desk.specs.Found.{Finds};
+
 use crate::Outcome;
+use desk_model::a_legal_history_fits;
 
 /// What an audit finds. Lines count from 1; the opening's is line 1.
 #[derive(Clone, Copy, Debug, PartialEq, Eq)]
@@ -20,4 +25,11 @@ pub enum Verdict {
     NoOpening,
     /// Memory was wanting.
     NoMemory,
+}
+
+/// Of a text an audit finds one verdict at most. It only names the law that it rests on: its clause is the law.
+pub fn an_audit_finds_one_verdict()
+    ensures { (text : List ℕ) (a b : VerdictValue) → Finds text a → Finds text b → a ≡ b }
+{
+    a_legal_history_fits();
 }

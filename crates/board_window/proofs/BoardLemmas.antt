@@ -10,12 +10,12 @@ use Rattle.desk_model.specs.declared.board_setup.BoardSetup.{BoardSetup}
 use Rattle.desk_model.specs.declared.command.Cmd.{Cmd}
 use Rattle.desk_model.specs.declared.command.Cmd.TheVariants as cmd
 use Rattle.desk_model.specs.declared.limits.TheConstants.{BOARD_LIMIT, MEMBER_LIMIT}
-use Rattle.desk_model.specs.Boards.{sends, order}
-use Rattle.desk_model.specs.Comes.{Comes, takes_off}
-use Rattle.desk_model.specs.Entry.{EntryValue}
-use Rattle.desk_model.specs.History.{History, with_entry, is_done, said}
-use Rattle.desk_model.specs.Register.{sets_up, sets_up_any, board_of, boards}
-use Rattle.desk_model.specs.RestsOn.{RestsOn}
+use Rattle.desk_model.specs.boards.Boards.{sends, order}
+use Rattle.desk_model.specs.laws.Comes.{Comes, takes_off}
+use Rattle.desk_model.specs.statements.Entry.{EntryValue}
+use Rattle.desk_model.specs.histories.History.{History, with_entry, is_done, said}
+use Rattle.desk_model.specs.histories.Register.{sets_up, sets_up_any, board_of, boards}
+use Rattle.desk_model.specs.laws.RestsOn.{RestsOn}
 use Rattle.board_window.specs.declared.shown_board.ShownBoard.{ShownBoard}
 use Rattle.board_window.specs.Becomes.{bottom_of, is_put, moved, becomes, set_up, boards_by, boards_after, declines_from}
 use Rattle.board_window.specs.Shows.{IsShown, AreBoards}

@@ -7,9 +7,9 @@ use Rattle.std.specs.List.{slice_get, find, cons_option, filter_map}
 use Rattle.desk_model.specs.declared.board_setup.BoardSetup.{BoardSetup}
 use Rattle.desk_model.specs.declared.command.Cmd.{Cmd}
 use Rattle.desk_model.specs.declared.command.Cmd.TheVariants as cmd
-use Rattle.desk_model.specs.Entry.{EntryValue}
-use Rattle.desk_model.specs.History.{History, said, first_of}
-use Rattle.desk_model.specs.Register.{sets_up, sets_up_any, board_of, boards}
+use Rattle.desk_model.specs.statements.Entry.{EntryValue}
+use Rattle.desk_model.specs.histories.History.{History, said, first_of}
+use Rattle.desk_model.specs.histories.Register.{sets_up, sets_up_any, board_of, boards}
 use Rattle.desk_model.proofs.SaidLemmas.{said-some}
 
 pub find-none : {X : Type 0} (test : X → Bool) (xs : List X) (j : ℕ) (x : X) → find test xs ≡ None → slice_get xs j ≡ Some x → test x ≡ false

@@ -11,12 +11,12 @@ use Rattle.desk_model.specs.declared.command.Cmd.{Cmd}
 use Rattle.desk_model.specs.declared.command.Cmd.TheVariants as cmd
 use Rattle.desk_model.specs.declared.limits.TheConstants.{MEMBER_LIMIT}
 use Rattle.desk_model.specs.declared.offer.Offer.{Offer}
-use Rattle.desk_model.specs.Boards.{puts, declined, released, sends, order}
-use Rattle.desk_model.specs.Comes.{Comes, takes_off, without, left_by, sent_last, order_by}
-use Rattle.desk_model.specs.Entry.{EntryValue}
-use Rattle.desk_model.specs.History.{History, with_entry, is_done}
-use Rattle.desk_model.specs.Offers.{open_offer}
-use Rattle.desk_model.specs.Register.{board_of}
+use Rattle.desk_model.specs.boards.Boards.{puts, declined, released, sends, order}
+use Rattle.desk_model.specs.laws.Comes.{Comes, takes_off, without, left_by, sent_last, order_by}
+use Rattle.desk_model.specs.statements.Entry.{EntryValue}
+use Rattle.desk_model.specs.histories.History.{History, with_entry, is_done}
+use Rattle.desk_model.specs.offers.Offers.{open_offer}
+use Rattle.desk_model.specs.histories.Register.{board_of}
 use Rattle.desk_model.proofs.OrderLemmas.{nat_eq-same}
 use Rattle.board_window.specs.Becomes.{declined_from, released_at, bottom_of, is_put, set_last, moved, declines_from}
 

@@ -9,13 +9,13 @@ use Rattle.desk_model.specs.declared.limits.TheConstants.{VACANCY_LIMIT}
 use Rattle.desk_model.specs.declared.offer.Offer.{Offer}
 use Rattle.desk_model.specs.declared.reply.Reply.{Reply}
 use Rattle.desk_model.specs.declared.reply.Reply.TheVariants as reply
-use Rattle.desk_model.specs.Comes.{Comes}
-use Rattle.desk_model.specs.Entry.{EntryValue}
-use Rattle.desk_model.specs.History.{History, with_entry, is_done, said}
-use Rattle.desk_model.specs.Job.{JobValue}
-use Rattle.desk_model.specs.Offers.{is_of, asks_for, offer_in, settles, open_offer}
-use Rattle.desk_model.specs.Register.{makes, makes_any, vacancy_of, vacancies}
-use Rattle.desk_model.specs.RestsOn.{RestsOn}
+use Rattle.desk_model.specs.laws.Comes.{Comes}
+use Rattle.desk_model.specs.statements.Entry.{EntryValue}
+use Rattle.desk_model.specs.histories.History.{History, with_entry, is_done, said}
+use Rattle.desk_model.specs.statements.Job.{JobValue}
+use Rattle.desk_model.specs.offers.Offers.{is_of, asks_for, offer_in, settles, open_offer}
+use Rattle.desk_model.specs.histories.Register.{makes, makes_any, vacancy_of, vacancies}
+use Rattle.desk_model.specs.laws.RestsOn.{RestsOn}
 use Rattle.desk_model.proofs.OrderLemmas.{same_number}
 use Rattle.desk_model.proofs.SaidLemmas.{or_none}
 use Rattle.board_window.specs.declared.offer_told.OfferTold.{OfferTold}

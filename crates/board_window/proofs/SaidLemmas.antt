@@ -1,8 +1,8 @@
 -- What an entry says whose command was done, and one whose wasn't.
 use Rattle.std.proofs.Common.{◌≡◌, true, false, cond, Option, None, ap, ◌∙◌}
 use Rattle.desk_model.specs.declared.command.Cmd.{Cmd}
-use Rattle.desk_model.specs.Entry.{EntryValue}
-use Rattle.desk_model.specs.History.{is_done, said}
+use Rattle.desk_model.specs.statements.Entry.{EntryValue}
+use Rattle.desk_model.specs.histories.History.{is_done, said}
 
 pub said-done : {X : Type 0} (f : Cmd → Option X) (e : EntryValue) (c : Cmd) → is_done e.reply ≡ true → e.stated.cmd ≡ c → said f e ≡ f c
 said-done f e c done of = ap (λ d. cond d (f e.stated.cmd) None) done ∙ ap f of

@@ -8,9 +8,9 @@ use Rattle.std.specs.Str.{bytes_eq}
 use Rattle.std.specs.Option.{option_map}
 use Rattle.std.specs.List.{slice_get, find, position_or_len}
 use Rattle.desk_model.specs.declared.board_setup.BoardSetup.{BoardSetup}
-use Rattle.desk_model.specs.Boards.{order}
-use Rattle.desk_model.specs.History.{History}
-use Rattle.desk_model.specs.Register.{board_of, boards}
+use Rattle.desk_model.specs.boards.Boards.{order}
+use Rattle.desk_model.specs.histories.History.{History}
+use Rattle.desk_model.specs.histories.Register.{board_of, boards}
 use Rattle.desk_model.proofs.OfferedLemmas.{find-passes}
 use Rattle.board_window.specs.declared.shown_board.ShownBoard.{ShownBoard}
 use Rattle.board_window.specs.declared.spot.Spot.TheVariants as spot

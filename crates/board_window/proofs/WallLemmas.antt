@@ -2,9 +2,9 @@
 use Rattle.std.proofs.Common.{◌≡◌, ℕ, zero, suc, ◌+◌, ◌<◌, List, [], ◌∷◌, ◌++◌, length, take, get_or, Option, None, Some, refl, ap, sym, ◌∙◌, subst}
 use Rattle.std.proofs.lemmas.List.{append-nil, append_assoc, take_more}
 use mathlib.Core.List.{IsPrefix}
-use Rattle.desk_model.specs.Entry.{EntryValue}
-use Rattle.desk_model.specs.History.{History, with_entry, said}
-use Rattle.desk_model.specs.Legal.{IsLegal, IsNext}
+use Rattle.desk_model.specs.statements.Entry.{EntryValue}
+use Rattle.desk_model.specs.histories.History.{History, with_entry, said}
+use Rattle.desk_model.specs.histories.Legal.{IsLegal, IsNext}
 use Rattle.board_window.specs.Becomes.{declines_from, boards_after}
 use Rattle.board_window.specs.Shelves.{IsNextChange, IsRight, after_all}
 use Rattle.board_window.specs.Shows.{AreBoards}

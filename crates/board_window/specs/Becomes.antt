@@ -8,10 +8,10 @@ use Rattle.duty_events.specs.declared.event.Event.TheVariants as event
 use Rattle.desk_model.specs.declared.limits.TheConstants.{BOARD_LIMIT, MEMBER_LIMIT}
 use Rattle.desk_model.specs.declared.command.Cmd.{Cmd}
 use Rattle.desk_model.specs.declared.command.Cmd.TheVariants as cmd
-use Rattle.desk_model.specs.Comes.{takes_off, without, left_by}
-use Rattle.desk_model.specs.Entry.{EntryValue}
-use Rattle.desk_model.specs.History.{History, is_done}
-use Rattle.desk_model.specs.Offers.{open_offer}
+use Rattle.desk_model.specs.laws.Comes.{takes_off, without, left_by}
+use Rattle.desk_model.specs.statements.Entry.{EntryValue}
+use Rattle.desk_model.specs.histories.History.{History, is_done}
+use Rattle.desk_model.specs.offers.Offers.{open_offer}
 use Rattle.board_window.specs.declared.shown_board.ShownBoard.{ShownBoard}
 
 -- ---- one board, by a command that was done; `from` is the board of the offer that it declines

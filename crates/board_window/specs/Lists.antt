@@ -1,7 +1,7 @@
 -- The rule of a wall's logbook, whose log is the wall's list, and what the step tells that adds an entry.
 use Rattle.std.specs.Prelude.{◌≡◌, ℕ, ◌==◌, true, List, [], ◌∷◌, ◌++◌, length, MatchBool}
 use Rattle.logbook.specs.Pages.{Cell, Step, View, Book, Named}
-use Rattle.desk_model.specs.Entry.{EntryValue}
+use Rattle.desk_model.specs.statements.Entry.{EntryValue}
 
 -- the first word is the length of the list. A logbook has two words, of which this one leaves the second at 0
 pub record IsKept (cells : List Cell) (log : List EntryValue) : Type 0 where

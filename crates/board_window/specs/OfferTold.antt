@@ -2,9 +2,9 @@
 use Rattle.std.specs.Prelude.{ℕ, Option, None, Some}
 use Rattle.std.specs.Option.{option_map, option_or, option_and_then}
 use Rattle.desk_model.specs.declared.offer.Offer.{Offer}
-use Rattle.desk_model.specs.Entry.{EntryValue}
-use Rattle.desk_model.specs.History.{said}
-use Rattle.desk_model.specs.Offers.{asks_for, offer_in, settles}
+use Rattle.desk_model.specs.statements.Entry.{EntryValue}
+use Rattle.desk_model.specs.histories.History.{said}
+use Rattle.desk_model.specs.offers.Offers.{asks_for, offer_in, settles}
 use Rattle.board_window.specs.declared.offer_told.OfferTold.{OfferTold}
 
 -- the vacancy has an open offer from this board

@@ -2,7 +2,7 @@
 use Rattle.std.specs.Prelude.{◌≡◌, ℕ, Option, Some, IfSome, List, fold}
 use mathlib.Core.Option.{some}
 use lib.ListN.{get_elem?}
-use Rattle.desk_model.specs.History.{said}
+use Rattle.desk_model.specs.histories.History.{said}
 use Rattle.board_window.specs.Becomes.{boards_after, declines_from}
 use Rattle.board_window.specs.Shows.{AreBoards}
 use Rattle.board_window.specs.Walls.{FrontValue, history_in, longer_by}

@@ -2,10 +2,10 @@
 use Rattle.std.specs.Prelude.{◌≡◌, ℕ, Option, None, Some, is_none, if◌then◌else◌, List, length}
 use Rattle.std.specs.List.{slice_get}
 use Rattle.std.specs.Option.{option_map}
-use Rattle.desk_model.specs.Boards.{order}
-use Rattle.desk_model.specs.History.{History}
-use Rattle.desk_model.specs.LookAnswer.{member_at}
-use Rattle.desk_model.specs.Register.{board_of, vacancy_of, boards, vacancies}
+use Rattle.desk_model.specs.boards.Boards.{order}
+use Rattle.desk_model.specs.histories.History.{History}
+use Rattle.desk_model.specs.answers.LookAnswer.{member_at}
+use Rattle.desk_model.specs.histories.Register.{board_of, vacancy_of, boards, vacancies}
 use Rattle.board_window.specs.Becomes.{offered_from}
 use Rattle.board_window.specs.declared.shown_board.ShownBoard.{ShownBoard}
 use Rattle.board_window.specs.declared.spot.Spot.{Spot}

@@ -1,9 +1,9 @@
 -- Which wall it is, and the beginnings of its list that notes and views stand for.
 use Rattle.std.specs.Prelude.{List, [], ◌∷◌, ◌++◌}
 use Rattle.logbook.specs.Pages.{Book}
-use Rattle.desk_model.specs.Entry.{EntryValue}
-use Rattle.desk_model.specs.History.{History, history_of}
-use Rattle.desk_model.specs.Opening.{OpeningValue}
+use Rattle.desk_model.specs.statements.Entry.{EntryValue}
+use Rattle.desk_model.specs.histories.History.{History, history_of}
+use Rattle.desk_model.specs.statements.Opening.{OpeningValue}
 use Rattle.board_window.specs.declared.wall_name.WallName.{WallName}
 
 -- the wall whose list is kept in this logbook, of a desk that was opened so

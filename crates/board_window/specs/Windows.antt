@@ -1,6 +1,6 @@
 -- What contracts see of a wall.
 use Rattle.std.specs.Prelude.{◌≡◌, Option, None, Some, List}
-use Rattle.desk_model.specs.Entry.{EntryValue}
+use Rattle.desk_model.specs.statements.Entry.{EntryValue}
 use Rattle.board_window.specs.Shelves.{IsNextChange}
 use Rattle.board_window.specs.Walls.{FrontValue}
 use Rattle.board_window.specs.declared.change.Change.{Change}

@@ -3,7 +3,7 @@ ghost use Rattle.std.specs.List.{All, find};
 ghost use Rattle.std.specs.Option.{option_copied};
 ghost use Rattle.std.specs.Str.{bytes_eq};
 ghost use Rattle.desk_model.specs.declared.limits.TheConstants.{BOARD_LIMIT};
-ghost use Rattle.desk_model.specs.History.{History};
+ghost use Rattle.desk_model.specs.histories.History.{History};
 ghost use Rattle.board_window.specs.Becomes.{becomes, set_up, boards_after};
 ghost use Rattle.board_window.specs.Shows.{AreBoards, spot_of};
 
@@ -62,7 +62,7 @@ fn follow_all(boards: &mut Vec<ShownBoard>, cmd: &Cmd, from: &Option<Code>)
 
 impl Boards {
     /// No boards, with memory for 64 of 500 persons each; `NoMemory` where there is none for them.
-    pub fn new(alloc: Global) -> Result<Boards, NoMemory>
+    pub(crate) fn new(alloc: Global) -> Result<Boards, NoMemory>
         ensures none { IfOk result (λ b. b ≡ []) }
     {
         let shown = Vec::with_capacity(alloc, BOARD_LIMIT)?;
@@ -89,7 +89,7 @@ impl Boards {
     }
 
     /// Follows an entry; `from` is the board of the offer that it declines. It takes no memory.
-    pub fn keep(&mut self, entry: &Entry, from: &Option<Code>)
+    pub(crate) fn keep(&mut self, entry: &Entry, from: &Option<Code>)
         ensures { self.new ≡ boards_after from.now entry.now self.old }
     {
         let Some(cmd) = entry.accepted() else {
@@ -107,7 +107,7 @@ impl Boards {
     }
 
     /// What stands at a place of a board, from 1.
-    pub fn look(&self, board: Code, place: u16) -> Spot
+    pub(crate) fn look(&self, board: Code, place: u16) -> Spot
         ensures { (h : History) → AreBoards self.now h → result ≡ spot_of h board place }
     {
         let Some(shown) = self.find(board) else {

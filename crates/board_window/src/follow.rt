@@ -1,7 +1,7 @@
 //! What a command that was done makes of a board.
 ghost use Rattle.std.specs.Prelude.{◌≡◌, Some, None, if◌then◌else◌};
 ghost use Rattle.std.specs.Str.{bytes_eq};
-ghost use Rattle.desk_model.specs.Comes.{takes_off};
+ghost use Rattle.desk_model.specs.laws.Comes.{takes_off};
 ghost use Rattle.board_window.specs.Becomes.{declined_from, released_at, bottom_of, is_put, becomes};
 
 use crate::shown_board::ShownBoard;

@@ -1,7 +1,7 @@
 ghost use Rattle.std.specs.Prelude.{◌≡◌, ◌+◌, ◌<◌, ◌^◌, nat_lt, if◌then◌else◌, [], length, MatchBool};
 ghost use mathlib.Core.List.{IsPrefix};
-ghost use Rattle.desk_model.specs.Opening.{IsOpening};
-ghost use Rattle.desk_model.specs.Legal.{IsLegal};
+ghost use Rattle.desk_model.specs.statements.Opening.{IsOpening};
+ghost use Rattle.desk_model.specs.histories.Legal.{IsLegal};
 ghost use Rattle.board_window.specs.Lists.{head_of};
 ghost use Rattle.board_window.specs.Walls.{history_in, longer_by};
 
@@ -20,8 +20,8 @@ pub(crate) struct Front {
 
 impl Model for Front {
     ghost use Rattle.std.specs.Prelude.{◌≡◌, length};
-    ghost use Rattle.desk_model.specs.History.{history_of};
-    ghost use Rattle.desk_model.specs.Legal.{IsLegal};
+    ghost use Rattle.desk_model.specs.histories.History.{history_of};
+    ghost use Rattle.desk_model.specs.histories.Legal.{IsLegal};
     ghost use Rattle.board_window.specs.Walls.{FrontValue, front_of, name_of};
 
     ghost Value = { FrontValue };
@@ -33,7 +33,7 @@ impl Model for Front {
 
 impl Front {
     /// The beginning of a new wall's list that has no entry, and the word that has its length.
-    pub fn open(opening: Opening) -> (Head, Front)
+    pub(crate) fn open(opening: Opening) -> (Head, Front)
         requires { IsOpening opening }
         ensures none { result.1.entries ≡ [] }
         ensures opening { result.1.wall.opening ≡ opening }
@@ -51,7 +51,7 @@ impl Front {
     }
 
     /// How many entries it has, and that they are a legal history.
-    pub fn count(&self) -> u32
+    pub(crate) fn count(&self) -> u32
         ensures count { result ≡ length self.now.entries }
         ensures legal { IsLegal (history_in self.now) }
     {
@@ -60,7 +60,7 @@ impl Front {
     }
 
     /// The same again.
-    pub fn again(&self) -> Front
+    pub(crate) fn again(&self) -> Front
         ensures { result ≡ self.now }
     {
         Front {
@@ -71,7 +71,7 @@ impl Front {
     }
 
     /// Becomes the longer of two beginnings of one wall's list, each of which begins it.
-    pub fn learn(&mut self, other: &Front)
+    pub(crate) fn learn(&mut self, other: &Front)
         requires { other.now.wall ≡ self.old.wall }
         ensures wall { self.new.wall ≡ self.old.wall }
         ensures longer { self.new.entries
@@ -88,7 +88,7 @@ impl Front {
     }
 
     /// Adds an entry to the list, where this is all of it, and says whether it did.
-    pub fn add(&mut self, head: &Head, entry: &Entry) -> bool
+    pub(crate) fn add(&mut self, head: &Head, entry: &Entry) -> bool
         requires head { head.now ≡ head_of self.old.wall.logbook.book }
         requires room { length self.old.entries + 1 < 2 ^ 32 }
         requires legal { IsLegal (history_in (longer_by self.old entry.now)) }

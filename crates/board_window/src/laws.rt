@@ -1,9 +1,9 @@
 //! What the boards that are shown rest on.
 ghost use Rattle.std.specs.Prelude.{List, []};
-ghost use Rattle.desk_model.specs.Opening.{OpeningValue};
-ghost use Rattle.desk_model.specs.Entry.{EntryValue};
-ghost use Rattle.desk_model.specs.History.{History, opened, with_entry, said};
-ghost use Rattle.desk_model.specs.Legal.{IsLegal, IsNext};
+ghost use Rattle.desk_model.specs.statements.Opening.{OpeningValue};
+ghost use Rattle.desk_model.specs.statements.Entry.{EntryValue};
+ghost use Rattle.desk_model.specs.histories.History.{History, opened, with_entry, said};
+ghost use Rattle.desk_model.specs.histories.Legal.{IsLegal, IsNext};
 ghost use Rattle.board_window.specs.declared.shown_board.ShownBoard.{ShownBoard as ShownBoardValue};
 ghost use Rattle.board_window.specs.Becomes.{declines_from, boards_after};
 ghost use Rattle.board_window.specs.Shows.{AreBoards};

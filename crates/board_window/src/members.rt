@@ -1,7 +1,7 @@
 ghost use Rattle.std.specs.Prelude.{◌≡◌, ◌≤◌, ◌++◌, nat_lt, IfOk, length, [], ◌∷◌, if◌then◌else◌};
 ghost use Rattle.std.specs.List.{slice_get};
 ghost use Rattle.desk_model.specs.declared.limits.TheConstants.{MEMBER_LIMIT};
-ghost use Rattle.desk_model.specs.Comes.{without};
+ghost use Rattle.desk_model.specs.laws.Comes.{without};
 ghost use Rattle.board_window.specs.Becomes.{set_last};
 
 use desk_base::{NoMemory, PersonNo};
@@ -28,7 +28,7 @@ impl Model for Members {
 
 impl Members {
     /// Nobody; `NoMemory` where there is none for 500.
-    pub fn new(alloc: Global) -> Result<Members, NoMemory>
+    pub(crate) fn new(alloc: Global) -> Result<Members, NoMemory>
         ensures { IfOk result (λ m. m ≡ []) }
     {
         Ok(Members {
@@ -37,7 +37,7 @@ impl Members {
     }
 
     /// How many there are.
-    pub fn count(&self) -> usize
+    pub(crate) fn count(&self) -> usize
         ensures count { result ≡ length self.now }
         ensures few { result ≤ MEMBER_LIMIT }
     {
@@ -45,14 +45,14 @@ impl Members {
     }
 
     /// Who is there at an index, from 0.
-    pub fn at(&self, index: usize) -> Option<PersonNo>
+    pub(crate) fn at(&self, index: usize) -> Option<PersonNo>
         ensures { result ≡ slice_get self.now index }
     {
         self.persons.get(index).copied()
     }
 
     /// Takes a person out.
-    pub fn take_out(&mut self, person: PersonNo)
+    pub(crate) fn take_out(&mut self, person: PersonNo)
         ensures { self.new ≡ without person self.old }
     {
         self.persons.retain(|other| person != *other);
@@ -68,7 +68,7 @@ impl Members {
     }
 
     /// Sets a person last, where they are put on the board or stand on it, and there is room.
-    pub fn set_last(&mut self, is_put: bool, person: PersonNo)
+    pub(crate) fn set_last(&mut self, is_put: bool, person: PersonNo)
         ensures { self.new ≡ set_last is_put person self.old }
     {
         if is_put || self.persons.contains(&person) {

@@ -1,6 +1,6 @@
 ghost use Rattle.std.specs.Prelude.{◌≡◌};
-ghost use Rattle.desk_model.specs.History.{said};
-ghost use Rattle.desk_model.specs.Offers.{settles};
+ghost use Rattle.desk_model.specs.histories.History.{said};
+ghost use Rattle.desk_model.specs.offers.Offers.{settles};
 ghost use Rattle.board_window.specs.OfferTold.{opened_by, told};
 
 use desk_base::{Code, VacNo};

@@ -1,10 +1,10 @@
 ghost use Rattle.std.specs.Prelude.{◌≡◌, ◌≤◌, ◌<◌, ◌+◌, ◌++◌, ◌∷◌, [], ℕ, IfOk, nat_eq, None, Some, if◌then◌else◌, length};
 ghost use Rattle.indexmap.specs.IndexMap.{get, keys, spare, index_map_len};
 ghost use Rattle.desk_model.specs.declared.limits.TheConstants.{VACANCY_LIMIT};
-ghost use Rattle.desk_model.specs.Opening.{OpeningValue};
-ghost use Rattle.desk_model.specs.History.{History, opened, with_entry, said};
-ghost use Rattle.desk_model.specs.Legal.{IsLegal, IsNext};
-ghost use Rattle.desk_model.specs.Register.{makes_any};
+ghost use Rattle.desk_model.specs.statements.Opening.{OpeningValue};
+ghost use Rattle.desk_model.specs.histories.History.{History, opened, with_entry, said};
+ghost use Rattle.desk_model.specs.histories.Legal.{IsLegal, IsNext};
+ghost use Rattle.desk_model.specs.histories.Register.{makes_any};
 ghost use Rattle.board_window.specs.Becomes.{declines_from};
 ghost use Rattle.board_window.specs.OfferTold.{told};
 ghost use Rattle.board_window.specs.OffersKept.{with_made, numbers_with, with_told};
@@ -38,7 +38,7 @@ fn made(entry: &Entry) -> Option<VacNo>
 
 impl Offers {
     /// No vacancies, with memory for 20,000; `NoMemory` where there is none for them.
-    pub fn new(alloc: Global) -> Result<Offers, NoMemory>
+    pub(crate) fn new(alloc: Global) -> Result<Offers, NoMemory>
         ensures { IfOk result (λ x. (o : OpeningValue) → AreOffers (get nat_eq x.boards) (keys x.boards) (opened o)) }
     {
         Ok(Offers {
@@ -47,7 +47,7 @@ impl Offers {
     }
 
     /// The board of the offer that an entry declines.
-    pub fn declined(&self, entry: &Entry) -> Option<Code>
+    pub(crate) fn declined(&self, entry: &Entry) -> Option<Code>
         ensures { (h : History) → IsLegal h → AreOffers (get nat_eq self.now.boards) (keys self.now.boards) h
             → result ≡ said (declines_from h) entry.now }
     {
@@ -98,7 +98,7 @@ impl Offers {
     }
 
     /// Follows an entry. It takes no memory.
-    pub fn keep(&mut self, entry: &Entry)
+    pub(crate) fn keep(&mut self, entry: &Entry)
         ensures { (h : History) → IsLegal h → IsNext h entry.now → AreOffers (get nat_eq self.old.boards) (keys self.old.boards) h
             → AreOffers (get nat_eq self.new.boards) (keys self.new.boards) (with_entry h entry.now) }
     {

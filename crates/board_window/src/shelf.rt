@@ -17,7 +17,7 @@ pub(crate) struct Shelf {
 
 impl Shelf {
     /// No boards, beside a list, with memory for 64; `NoMemory` where there is none for them.
-    pub fn new(alloc: Global, front: &Front) -> Result<Shelf, NoMemory>
+    pub(crate) fn new(alloc: Global, front: &Front) -> Result<Shelf, NoMemory>
         ensures boards { IfOk result (λ s. s.boards ≡ []) }
         ensures front { IfOk result (λ s. s.front ≡ front.now) }
     {
@@ -28,7 +28,7 @@ impl Shelf {
     }
 
     /// Follows a change. It takes no memory.
-    pub fn follow(&mut self, change: &Change)
+    pub(crate) fn follow(&mut self, change: &Change)
         ensures { self.new ≡ after self.old change.now }
     {
         self.boards.keep(&change.entry, &change.from);

@@ -1,6 +1,6 @@
 ghost use Rattle.std.specs.Prelude.{◌≡◌, ◌≤◌, Some, IfSome, IfNone, length};
 ghost use mathlib.Core.List.{IsPrefix};
-ghost use Rattle.desk_model.specs.Legal.{IsLegal};
+ghost use Rattle.desk_model.specs.histories.Legal.{IsLegal};
 ghost use Rattle.board_window.specs.Shows.{spot_of};
 ghost use Rattle.board_window.specs.Walls.{history_in};
 

@@ -1,8 +1,8 @@
 ghost use Rattle.std.specs.Prelude.{◌≡◌, ◌+◌, ◌<◌, ◌≤◌, ◌^◌, [], ◌∷◌, ◌++◌, IfOk, IfSome, IfNone, OnOk, MatchBool, None, Some, length, drop, vec_len};
 ghost use Rattle.std.specs.List.{All};
 ghost use mathlib.Core.List.{IsPrefix};
-ghost use Rattle.desk_model.specs.History.{history_of};
-ghost use Rattle.desk_model.specs.Legal.{IsLegal};
+ghost use Rattle.desk_model.specs.histories.History.{history_of};
+ghost use Rattle.desk_model.specs.histories.Legal.{IsLegal};
 ghost use Rattle.board_window.specs.Shelves.{IsNextChange, IsRight};
 ghost use Rattle.board_window.specs.Walls.{front_of, history_in, longer_by};
 ghost use Rattle.board_window.specs.Windows.{IsWaiting};

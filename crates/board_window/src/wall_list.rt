@@ -1,6 +1,6 @@
 ghost use Rattle.std.specs.Prelude.{◌≡◌, ◌+◌, ◌<◌, ◌^◌, [], length, IfOk, IfSome, IfNone};
-ghost use Rattle.desk_model.specs.Opening.{IsOpening};
-ghost use Rattle.desk_model.specs.Legal.{IsLegal};
+ghost use Rattle.desk_model.specs.statements.Opening.{IsOpening};
+ghost use Rattle.desk_model.specs.histories.Legal.{IsLegal};
 ghost use Rattle.board_window.specs.Shelves.{IsNextChange};
 ghost use Rattle.board_window.specs.Walls.{history_in, longer_by};
 
@@ -39,7 +39,7 @@ impl Model for WallList {
 
 impl WallList {
     /// The list of a new wall, without an entry; `NoMemory` where there is none for the offers.
-    pub fn new(alloc: Global, opening: Opening) -> Result<WallList, NoMemory>
+    pub(crate) fn new(alloc: Global, opening: Opening) -> Result<WallList, NoMemory>
         requires { IsOpening opening }
         ensures none { IfOk result (λ l. l.entries ≡ []) }
         ensures opening { IfOk result (λ l. l.wall.opening ≡ opening) }
@@ -54,14 +54,14 @@ impl WallList {
     }
 
     /// All of it, as a beginning.
-    pub fn front(&self) -> &Front
+    pub(crate) fn front(&self) -> &Front
         ensures { result.now ≡ self.now }
     {
         &self.front
     }
 
     /// Takes the next entry, and answers what it changes; `None` where it could not be taken.
-    pub fn give(&mut self, entry: &Entry) -> Option<Change>
+    pub(crate) fn give(&mut self, entry: &Entry) -> Option<Change>
         requires few { length self.old.entries + 1 < 2 ^ 32 }
         requires legal { IsLegal (history_in (longer_by self.old entry.now)) }
         ensures change { IfSome result (λ change. IsNextChange self.old change) }

@@ -4,11 +4,11 @@ use Rattle.std.specs.List.{slice_get}
 use Rattle.std.proofs.Math.Logic.{∥∥₁_elim}
 use Rattle.std.proofs.lemmas.List.{take_more}
 use Rattle.std.proofs.lemmas.Option.{slice_get_within, slice_get-get_or, same_Some}
-use Rattle.desk_model.specs.Entry.{EntryValue}
-use Rattle.desk_model.specs.History.{History, history_of, with_entry}
-use Rattle.desk_model.specs.Legal.{next, history_from}
-use Rattle.desk_model.specs.Opening.{OpeningValue}
-use Rattle.desk_model.specs.Statement.{StatedValue}
+use Rattle.desk_model.specs.statements.Entry.{EntryValue}
+use Rattle.desk_model.specs.histories.History.{History, history_of, with_entry}
+use Rattle.desk_model.specs.histories.Legal.{next, history_from}
+use Rattle.desk_model.specs.statements.Opening.{OpeningValue}
+use Rattle.desk_model.specs.statements.Statement.{StatedValue}
 
 -- it stands for one entry more
 pub stands-next : (Old New : History → Type 0) (h : History) (o : OpeningValue) (e : EntryValue) → ∥ Old h ∥₁ → ((i : History) → Old i → New (with_entry i e)) → h.opening ≡ o

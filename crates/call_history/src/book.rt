@@ -1,9 +1,9 @@
 ghost use Rattle.std.specs.Prelude.{◌≡◌, ◌↔◌, ℕ, ◌+◌, ◌<◌, ◌≤◌, ◌^◌, List, length, map, Some, IfOk, IsErr, vec_len, vec_capacity};
 ghost use Rattle.std.specs.List.{All, slice_get};
-ghost use Rattle.desk_model.specs.Statement.{StatedValue};
-ghost use Rattle.desk_model.specs.History.{History, history_of, opened, with_entry};
-ghost use Rattle.desk_model.specs.Legal.{IsLegal, next, history_from};
-ghost use Rattle.desk_model.specs.Mark.{no_wall};
+ghost use Rattle.desk_model.specs.statements.Statement.{StatedValue};
+ghost use Rattle.desk_model.specs.histories.History.{History, history_of, opened, with_entry};
+ghost use Rattle.desk_model.specs.histories.Legal.{IsLegal, next, history_from};
+ghost use Rattle.desk_model.specs.histories.Mark.{no_wall};
 
 use crate::Full;
 use desk_base::NoMemory;

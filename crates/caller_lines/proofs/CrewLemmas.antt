@@ -6,8 +6,8 @@ use Rattle.desk_base.specs.Minute.{IsInYears, minute_text}
 use Rattle.desk_base.specs.Number.{IsNumber}
 use Rattle.desk_model.specs.declared.command.Cmd.{Cmd}
 use Rattle.desk_model.specs.declared.command.Cmd.TheVariants as cmd
-use Rattle.desk_model.specs.Statement.{StatedValue}
-use Rattle.desk_model.specs.StatedTexts.{job_word, job_fields, command_fields}
+use Rattle.desk_model.specs.statements.Statement.{StatedValue}
+use Rattle.desk_model.specs.texts.StatedTexts.{job_word, job_fields, command_fields}
 use Rattle.command_parser.specs.CommandLine.{IsCommandLine}
 use Rattle.caller_lines.specs.CrewLines.{IsCrewLine, IsCrewRecord, IsNoCrew}
 

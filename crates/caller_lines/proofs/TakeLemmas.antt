@@ -10,62 +10,6 @@ use Rattle.caller_lines.specs.declared.heard.Heard.TheVariants as heard
 use Rattle.caller_lines.specs.Given.{answer_of}
 use Rattle.caller_lines.specs.Takes.{IsUnfed, TookLine, TookLonger, TookUnfed, EndsLine, HasLonger, TookSome, Takes, CutPart, GotPart, Gathering}
 
--- what is cut from what is held is taken from all that is left
-pub CutPart-got : (held rest before after feed : List ℕ) (count : ℕ) (r : Option (List ℕ))
-    → CutPart held rest before after feed count
-    → GotPart (option_append (Some held) r) (option_append (Some rest) r) before after feed count
-CutPart-got held rest before after feed count r p = record {
-  part = p.part;
-  taken = go r;
-  counted = p.counted;
-  unfed = p.unfed;
-  kept = p.kept;
-}
-  where
-    go : (r : Option (List ℕ)) → Consumes (option_append (Some held) r) (option_append (Some rest) r) (p.part ++ feed)
-    go None = tt
-    go (Some xs) = ap (λ t. t ++ xs) p.cut ∙ append_assoc p.part (feed ++ rest) xs
-        ∙ ap (λ t. p.part ++ t) (append_assoc feed rest xs) ∙ sym (append_assoc p.part feed (rest ++ xs))
-
--- what was read is held then
-pub Consumes-held : (a b : Option (List ℕ)) (bytes : List ℕ) → Consumes a b bytes
-    → Consumes (option_append (Some []) a) (option_append (Some bytes) b) []
-Consumes-held None b bytes h = tt
-Consumes-held (Some xs) None bytes h = absurd h
-Consumes-held (Some xs) (Some ys) bytes h = h
-
--- nothing is read, and a part is taken
-pub GotPart-behind : (a b c : Option (List ℕ)) (before after feed : List ℕ) (count : ℕ) → Consumes a b []
-    → GotPart b c before after feed count → GotPart a c before after feed count
-GotPart-behind a b c before after feed count read p = record {
-  part = p.part;
-  taken = Consumes-trans a b c [] (p.part ++ feed) read p.taken;
-  counted = p.counted;
-  unfed = p.unfed;
-  kept = p.kept;
-}
-
--- the end is where nothing is left behind nothing
-pub IsAtEnd-behind : (a b : Option (List ℕ)) → Consumes a b [] → IsAtEnd b → IsAtEnd a
-IsAtEnd-behind None b h e = tt
-IsAtEnd-behind (Some xs) None h e = absurd h
-IsAtEnd-behind (Some xs) (Some ys) h e = h ∙ e
-
--- nothing is taken where nothing was asked
-pub Consumes-none : (a : Option (List ℕ)) → Consumes a a []
-Consumes-none None = tt
-Consumes-none (Some xs) = refl
-
--- at first no part is there
-pub Gathering-none : (a : Option (List ℕ)) → Gathering a a [] 0
-Gathering-none a = record {
-  bytes = [];
-  taken = Consumes-none a;
-  counted = refl;
-  unfed = All-nil (λ byte. byte ≢ 10);
-  kept = λ _. refl;
-}
-
 -- a part more
 pub Gathering-more : (a b c : Option (List ℕ)) (before after : List ℕ) (len count : ℕ)
     → Gathering a b before len → GotPart b c before after [] count → Gathering a c after (len + count)
@@ -150,15 +94,6 @@ Gathering-unfed a b c before after len count g p many = record {
 -- then some bytes were taken, and no others
 pub TookUnfed-some : (a b : Option (List ℕ)) → TookUnfed a b → TookSome a b
 TookUnfed-some a b took = record { bytes = took.bytes ++ took.behind; taken = took.taken }
-
-pub Gathering-unended : (a b : Option (List ℕ)) (into : List ℕ) (len : ℕ) → Gathering a b into len → 16777216 < len → TookUnfed a b
-Gathering-unended a b into len g many = record {
-  bytes = g.bytes;
-  behind = [];
-  taken = subst (λ t. Consumes a b t) (sym (append-nil g.bytes)) g.taken;
-  unfed = g.unfed;
-  more = omega (arith, g.counted, many);
-}
 
 -- bytes without a line feed go no further than to the end of a line
 unfed-within : (xs more ys behind : List ℕ) → IsUnfed xs → EndsLine behind → xs ++ more ≡ ys ++ behind → length xs ≤ length ys

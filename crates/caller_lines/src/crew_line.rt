@@ -12,7 +12,7 @@ use std::alloc::Global;
 
 /// A crew call that a line asks for: these vacancies, at this minute.
 #[derive(Clone, Copy, Debug)]
-pub struct CrewLine {
+pub(crate) struct CrewLine {
     pub minute: Minute,
     pub first: VacNo,
     pub second: VacNo,
@@ -20,7 +20,7 @@ pub struct CrewLine {
 
 /// The crew call that a line asks for; `None` where it asks for none. The line has to be one record of a minute, `crew` and two
 /// vacancies' numbers, as `csv` reads it, with or without a line feed.
-pub fn read_crew(alloc: Global, line: &[u8]) -> Result<Option<CrewLine>, NoMemory>
+pub(crate) fn read_crew(alloc: Global, line: &[u8]) -> Result<Option<CrewLine>, NoMemory>
     ensures crew { IfOk result (λ found. IfSome found (λ crew. IsCrewLine line.now crew.minute crew.first crew.second)) }
     ensures none { IfOk result (λ found. IsNone found → IsNoCrew line.now) }
 {

@@ -2,7 +2,7 @@
 ghost use Rattle.std.specs.Prelude.{◌≡◌, ◌≢◌, ◌≤◌, ℕ, List};
 ghost use Rattle.desk_io.specs.Faults.{Rose};
 ghost use Rattle.command_parser.specs.CommandLine.{IsCommandLine};
-ghost use Rattle.desk_model.specs.Statement.{StatedValue};
+ghost use Rattle.desk_model.specs.statements.Statement.{StatedValue};
 ghost use Rattle.caller_lines.specs.CrewLines.{IsNoCrew};
 ghost use Rattle.caller_lines.specs.Given.{answer_of};
 ghost use Rattle.caller_lines.specs.LineCalls.{Asked};

@@ -12,14 +12,14 @@ use std::alloc::Global;
 
 /// A look that a line asks for: who stands at this place of the board, from 1.
 #[derive(Clone, Copy, Debug)]
-pub struct LookLine {
+pub(crate) struct LookLine {
     pub board: Code,
     pub place: u16,
 }
 
 /// The look that a line asks for; `None` where it asks for none. The line has to be one record of the fields `look`, a board's
 /// code and a place, 1 to 9,999, as `csv` reads it, with or without a line feed.
-pub fn read_look(alloc: Global, line: &[u8]) -> Result<Option<LookLine>, NoMemory>
+pub(crate) fn read_look(alloc: Global, line: &[u8]) -> Result<Option<LookLine>, NoMemory>
     ensures look { IfOk result (λ found. IfSome found (λ look. IsLookLine line.now look.board look.place)) }
     ensures none { IfOk result (λ found. IsNone found → IsNoLook line.now) }
 {

@@ -7,7 +7,7 @@ use record_rows::{Row, Rows};
 use std::alloc::Global;
 
 /// The line's record, as `csv` reads it; `None` where it has none, or more than one.
-pub fn only_record(alloc: Global, line: &[u8]) -> Result<Option<Row>, NoMemory>
+pub(crate) fn only_record(alloc: Global, line: &[u8]) -> Result<Option<Row>, NoMemory>
     ensures some { IfOk result (λ found. IfSome found (λ row. records_of line.now ≡ row_fields row ∷ [])) }
     ensures none { IfOk result (λ found. IsNone found → (fields : List (List ℕ)) → ¬ (records_of line.now ≡ fields ∷ [])) }
 {

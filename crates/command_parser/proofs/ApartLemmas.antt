@@ -22,11 +22,11 @@ use Rattle.qualifications.specs.Quals.{quals_text, numbers_below}
 use Rattle.qualifications.proofs.NumbersLemmas.{AreBelow, AreBelow-numbers_below, bits_with, bits_with-all, parts-quals_text, quals_text-dash}
 use Rattle.desk_model.specs.declared.command.Cmd.{Cmd}
 use Rattle.desk_model.specs.declared.command.Cmd.TheVariants as cmd
-use Rattle.desk_model.specs.Chain.{IsChain, chain_text}
-use Rattle.desk_model.specs.Job.{JobValue}
-use Rattle.desk_model.specs.Statement.{StatedValue, stated_of}
-use Rattle.desk_model.specs.Fits.{IsCommand, IsJob, IsStated}
-use Rattle.desk_model.specs.StatedTexts.{sort_text, kind_text, event_fields, job_fields, command_fields, stated_fields}
+use Rattle.desk_model.specs.statements.Chain.{IsChain, chain_text}
+use Rattle.desk_model.specs.statements.Job.{JobValue}
+use Rattle.desk_model.specs.statements.Statement.{StatedValue, stated_of}
+use Rattle.desk_model.specs.statements.Fits.{IsCommand, IsJob, IsStated}
+use Rattle.desk_model.specs.texts.StatedTexts.{sort_text, kind_text, event_fields, job_fields, command_fields, stated_fields}
 use Rattle.desk_model.proofs.ChainLemmas.{parts_by-chain_text}
 use Rattle.record_rows.proofs.MinuteLemmas.{minute_text-one}
 use Rattle.command_parser.specs.Spelled.{StatesCommand}

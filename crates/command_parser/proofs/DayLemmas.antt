@@ -9,11 +9,11 @@ use Rattle.std.proofs.lemmas.List.{map-append, length-map, get_or-map, get_or_ap
 use Rattle.std.proofs.Math.Seq.{get_or-append_seam}
 use Rattle.std.proofs.lemmas.List.Elements.{All-append, All-cons, All-nil, All-head, All-tail}
 use Rattle.std.specs.List.{All}
-use Rattle.desk_model.specs.Opening.{OpeningValue}
+use Rattle.desk_model.specs.statements.Opening.{OpeningValue}
 use Rattle.desk_model.specs.declared.command.Cmd.TheVariants as cmd
-use Rattle.desk_model.specs.Statement.{StatedValue, stated_of}
-use Rattle.desk_model.specs.Fits.{IsStated}
-use Rattle.desk_model.specs.StatedTexts.{stated_fields}
+use Rattle.desk_model.specs.statements.Statement.{StatedValue, stated_of}
+use Rattle.desk_model.specs.statements.Fits.{IsStated}
+use Rattle.desk_model.specs.texts.StatedTexts.{stated_fields}
 use Rattle.record_rows.specs.declared.rows.Rows.{Rows}
 use Rattle.record_rows.specs.Rows.{HasLeft, records_of}
 use Rattle.command_parser.specs.declared.wrong_place.WrongPlace.{WrongPlace}
@@ -28,30 +28,6 @@ use Rattle.command_parser.specs.DayFile.{StateCommands, HasWrong, IsOpened, IsDa
 use Rattle.command_parser.proofs.ApartLemmas.{stated_fields-one}
 use Rattle.command_parser.proofs.FormLemmas.{wrong-one}
 use Rattle.command_parser.proofs.OpeningLemmas.{opening_fields-one}
-
--- one more record states one more command
-pub StateCommands-more : (records : List (List (List ℕ))) (commands : List StatedValue) (fields : List (List ℕ)) (s : StatedValue)
-    → StateCommands records commands → StatesCommand fields s → StateCommands (records ++ fields ∷ []) (commands ++ s ∷ [])
-StateCommands-more records commands fields s states is = record {
-  valid = All-append IsStated commands (s ∷ []) states.valid (All-cons IsStated s [] is.valid (All-nil IsStated));
-  fields = rw (states.fields, is.fields_are) (sym (map-append stated_fields commands (s ∷ [])));
-}
-
--- one more record is the first wrong one where it states no command
-pub HasWrong-next : (first : ℕ) (records : List (List (List ℕ))) (commands : List StatedValue) (fields : List (List ℕ)) (record_no field : ℕ)
-    → StateCommands records commands → ((s : StatedValue) → ¬ StatesCommand fields s) → IsWrongAt fields field → record_no ≡ length records + first
-    → HasWrong first (records ++ fields ∷ []) record_no field
-HasWrong-next first records commands fields record_no field states none at number = record {
-  before = records;
-  bad = fields;
-  after = [];
-  parts = refl;
-  commands = commands;
-  states = states;
-  wrong = none;
-  record_is = number;
-  field_is = at;
-}
 
 -- and stays the first, whatever comes behind it
 pub HasWrong-more : (first : ℕ) (records : List (List (List ℕ))) (fields : List (List ℕ)) (record_no field : ℕ)

@@ -2,7 +2,7 @@
 use Rattle.std.proofs.Common.{◌≡◌, ◌∙◌, ℕ, List, [], ◌∷◌, length, get_or, refl, sym, ap, inl, inr}
 use Rattle.std.specs.Prelude.{IfOk, IfErr, Result, Ok, Err, ◌≢◌, ◌⊎◌}
 use Rattle.desk_model.specs.declared.stated.Stated.{Stated}
-use Rattle.desk_model.specs.Statement.{StatedValue}
+use Rattle.desk_model.specs.statements.Statement.{StatedValue}
 use Rattle.record_rows.specs.Rows.{records_of}
 use Rattle.command_parser.specs.declared.read_fail.ReadFail.{ReadFail}
 use Rattle.command_parser.specs.declared.read_fail.ReadFail.TheVariants as fail

@@ -2,7 +2,7 @@
 use Rattle.std.proofs.Common.{◌≡◌, ◌∙◌, ℕ, List, refl, ap, sym, arith, inl, inr}
 use Rattle.std.specs.Prelude.{IfOk, IfErr, Result, Ok, Err, ◌≢◌, ◌⊎◌}
 use Rattle.std.specs.Result.{IsOkUnless}
-use Rattle.desk_model.specs.Statement.{StatedValue}
+use Rattle.desk_model.specs.statements.Statement.{StatedValue}
 use Rattle.record_rows.specs.Rows.{records_of}
 use Rattle.command_parser.specs.declared.more_fault.MoreFault.{MoreFault}
 use Rattle.command_parser.specs.declared.more_fault.MoreFault.TheVariants as fault

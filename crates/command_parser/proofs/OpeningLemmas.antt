@@ -9,8 +9,8 @@ use Rattle.desk_base.specs.Month.{month_text}
 use Rattle.desk_base.specs.Window.{window_of}
 use Rattle.desk_model.specs.declared.edition.Edition.{Edition}
 use Rattle.desk_model.specs.declared.edition.Edition.TheVariants as edition
-use Rattle.desk_model.specs.Journal.{opening_line}
-use Rattle.desk_model.specs.Opening.{OpeningValue, IsOpening, opening_of, edition_fields, opening_fields}
+use Rattle.desk_model.specs.texts.Journal.{opening_line}
+use Rattle.desk_model.specs.statements.Opening.{OpeningValue, IsOpening, opening_of, edition_fields, opening_fields}
 use Rattle.command_parser.specs.OpeningRecord.{SpellsOpening}
 use Rattle.record_rows.proofs.MinuteLemmas.{minute_text-one}
 use Rattle.command_parser.proofs.ApartLemmas.{month_text-one}

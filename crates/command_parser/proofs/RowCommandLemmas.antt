@@ -10,10 +10,10 @@ use Rattle.duty_events.specs.declared.event.Event.{Event}
 use Rattle.duty_events.specs.declared.event.Event.TheVariants as event
 use Rattle.desk_model.specs.declared.command.Cmd.{Cmd}
 use Rattle.desk_model.specs.declared.command.Cmd.TheVariants as cmd
-use Rattle.desk_model.specs.Job.{job_of}
-use Rattle.desk_model.specs.Statement.{stated_of}
-use Rattle.desk_model.specs.Fits.{IsEvent}
-use Rattle.desk_model.specs.StatedTexts.{job_word, event_fields}
+use Rattle.desk_model.specs.statements.Job.{job_of}
+use Rattle.desk_model.specs.statements.Statement.{stated_of}
+use Rattle.desk_model.specs.statements.Fits.{IsEvent}
+use Rattle.desk_model.specs.texts.StatedTexts.{job_word, event_fields}
 use Rattle.command_parser.specs.declared.form.Form.{Form}
 use Rattle.command_parser.specs.declared.form.Form.TheVariants as form
 use Rattle.command_parser.specs.declared.word.Word.{Word}

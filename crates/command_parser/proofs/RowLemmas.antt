@@ -7,10 +7,10 @@ use Rattle.duty_events.specs.declared.event.Event.{Event}
 use Rattle.duty_events.specs.declared.event.Event.TheVariants as event
 use Rattle.desk_model.specs.declared.command.Cmd.{Cmd}
 use Rattle.desk_model.specs.declared.command.Cmd.TheVariants as cmd
-use Rattle.desk_model.specs.Job.{JobValue}
-use Rattle.desk_model.specs.Statement.{StatedValue}
-use Rattle.desk_model.specs.Fits.{IsEvent, IsJob, IsCommand}
-use Rattle.desk_model.specs.StatedTexts.{event_fields, job_word, job_fields, command_fields}
+use Rattle.desk_model.specs.statements.Job.{JobValue}
+use Rattle.desk_model.specs.statements.Statement.{StatedValue}
+use Rattle.desk_model.specs.statements.Fits.{IsEvent, IsJob, IsCommand}
+use Rattle.desk_model.specs.texts.StatedTexts.{event_fields, job_word, job_fields, command_fields}
 use Rattle.command_parser.specs.declared.form.Form.{Form}
 use Rattle.command_parser.specs.declared.form.Form.TheVariants as form
 use Rattle.command_parser.specs.declared.word.Word.{Word}

@@ -13,10 +13,10 @@ use Rattle.qualifications.specs.Craft.{craft_text}
 use Rattle.qualifications.specs.Quals.{quals_text}
 use Rattle.desk_model.specs.declared.command.Cmd.{Cmd}
 use Rattle.desk_model.specs.declared.command.Cmd.TheVariants as cmd
-use Rattle.desk_model.specs.Chain.{chain_text}
-use Rattle.desk_model.specs.Job.{JobValue, job_of}
-use Rattle.desk_model.specs.Fits.{IsJob}
-use Rattle.desk_model.specs.StatedTexts.{command_fields, job_word, job_fields}
+use Rattle.desk_model.specs.statements.Chain.{chain_text}
+use Rattle.desk_model.specs.statements.Job.{JobValue, job_of}
+use Rattle.desk_model.specs.statements.Fits.{IsJob}
+use Rattle.desk_model.specs.texts.StatedTexts.{command_fields, job_word, job_fields}
 use Rattle.command_parser.specs.declared.word.Word.{Word}
 use Rattle.command_parser.specs.declared.word.Word.TheVariants as word
 use Rattle.command_parser.specs.Word.{word_text}

@@ -1,7 +1,7 @@
 -- A caller's line.
 use Rattle.std.specs.Prelude.{◌≡◌, ◌≢◌, ◌⊎◌, ℕ, List, [], ◌∷◌, length}
 use Rattle.record_rows.specs.Rows.{records_of}
-use Rattle.desk_model.specs.Statement.{StatedValue}
+use Rattle.desk_model.specs.statements.Statement.{StatedValue}
 use Rattle.command_parser.specs.declared.read_fail.ReadFail.{ReadFail}
 use Rattle.command_parser.specs.declared.read_fail.ReadFail.TheVariants as fail
 use Rattle.command_parser.specs.Spelled.{StatesCommand}

@@ -1,6 +1,6 @@
 -- What was read of records, one after another.
 use Rattle.std.specs.Prelude.{ℕ, Option, None, Some, List}
-use Rattle.desk_model.specs.Statement.{StatedValue}
+use Rattle.desk_model.specs.statements.Statement.{StatedValue}
 use Rattle.command_parser.specs.declared.wrong_place.WrongPlace.{WrongPlace}
 use Rattle.command_parser.specs.DayFile.{StateCommands, HasWrong}
 

@@ -2,10 +2,10 @@
 use Rattle.std.specs.Prelude.{◌≡◌, ℕ, ◌<◌, ◌≤◌, ◌+◌, List, ◌∷◌, ◌++◌, length, map}
 use Rattle.std.specs.List.{All}
 use Rattle.record_rows.specs.Rows.{records_of}
-use Rattle.desk_model.specs.Opening.{OpeningValue}
-use Rattle.desk_model.specs.Statement.{StatedValue}
-use Rattle.desk_model.specs.Fits.{IsStated}
-use Rattle.desk_model.specs.StatedTexts.{stated_fields}
+use Rattle.desk_model.specs.statements.Opening.{OpeningValue}
+use Rattle.desk_model.specs.statements.Statement.{StatedValue}
+use Rattle.desk_model.specs.statements.Fits.{IsStated}
+use Rattle.desk_model.specs.texts.StatedTexts.{stated_fields}
 use Rattle.command_parser.specs.OpeningRecord.{StatesOpening}
 use Rattle.command_parser.specs.Spelled.{StatesCommand}
 use Rattle.command_parser.specs.RecordForms.{IsWrongAt}

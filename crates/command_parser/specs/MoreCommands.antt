@@ -1,7 +1,7 @@
 -- Commands that a journal goes on with.
 use Rattle.std.specs.Prelude.{ℕ, ◌<◌, ◌≤◌, List, length}
 use Rattle.record_rows.specs.Rows.{records_of}
-use Rattle.desk_model.specs.Statement.{StatedValue}
+use Rattle.desk_model.specs.statements.Statement.{StatedValue}
 use Rattle.command_parser.specs.DayFile.{StateCommands, HasWrong}
 use Rattle.command_parser.specs.declared.more_fault.MoreFault.{MoreFault}
 use Rattle.command_parser.specs.declared.more_fault.MoreFault.TheVariants as fault

@@ -4,8 +4,8 @@ use Rattle.desk_base.specs.Month.{month_text}
 use Rattle.desk_base.specs.Minute.{minute_text}
 use Rattle.desk_base.specs.Window.{WindowValue, IsWindow}
 use Rattle.desk_model.specs.declared.edition.Edition.{Edition}
-use Rattle.desk_model.specs.Journal.{opening_line}
-use Rattle.desk_model.specs.Opening.{OpeningValue, IsOpening, opening_fields}
+use Rattle.desk_model.specs.texts.Journal.{opening_line}
+use Rattle.desk_model.specs.statements.Opening.{OpeningValue, IsOpening, opening_fields}
 
 -- the fields are this opening's
 pub record StatesOpening (fields : List (List ℕ)) (o : OpeningValue) : Type 0 where

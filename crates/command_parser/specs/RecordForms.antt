@@ -9,8 +9,8 @@ use Rattle.duty_events.specs.declared.kind.Kind.{Kind}
 use Rattle.qualifications.specs.declared.craft.Craft.{Craft}
 use Rattle.qualifications.specs.Craft.{craft_text}
 use Rattle.qualifications.specs.Quals.{quals_text}
-use Rattle.desk_model.specs.Chain.{IsChain, chain_text}
-use Rattle.desk_model.specs.StatedTexts.{sort_text, kind_text}
+use Rattle.desk_model.specs.statements.Chain.{IsChain, chain_text}
+use Rattle.desk_model.specs.texts.StatedTexts.{sort_text, kind_text}
 use Rattle.command_parser.specs.declared.form.Form.{Form}
 use Rattle.command_parser.specs.declared.form.Form.TheVariants as form
 use Rattle.command_parser.specs.declared.word.Word.TheVariants as word

@@ -2,9 +2,9 @@
 use Rattle.std.specs.Prelude.{◌≡◌, ℕ, List, ◌∷◌}
 use Rattle.desk_model.specs.declared.command.Cmd.{Cmd}
 use Rattle.duty_events.specs.declared.event.Event.{Event}
-use Rattle.desk_model.specs.Statement.{StatedValue}
-use Rattle.desk_model.specs.Fits.{IsEvent, IsCommand, IsStated}
-use Rattle.desk_model.specs.StatedTexts.{event_fields, command_fields, stated_fields}
+use Rattle.desk_model.specs.statements.Statement.{StatedValue}
+use Rattle.desk_model.specs.statements.Fits.{IsEvent, IsCommand, IsStated}
+use Rattle.desk_model.specs.texts.StatedTexts.{event_fields, command_fields, stated_fields}
 use Rattle.command_parser.specs.declared.word.Word.{Word}
 use Rattle.command_parser.specs.Word.{word_text}
 

@@ -2,7 +2,7 @@
 ghost use Rattle.std.specs.Prelude.{◌≡◌, ◌≢◌, ◌⊎◌, [], ◌∷◌, IfOk, IfErr, IsErrOf};
 ghost use Rattle.desk_base.specs.Parts.{parts_by};
 ghost use Rattle.record_rows.specs.Rows.{records_of};
-ghost use Rattle.desk_model.specs.Statement.{StatedValue};
+ghost use Rattle.desk_model.specs.statements.Statement.{StatedValue};
 ghost use Rattle.command_parser.specs.CommandLine.{IsCommandLine, HasFail};
 ghost use Rattle.command_parser.specs.declared.read_fail.ReadFail.{ReadFail as Fail};
 

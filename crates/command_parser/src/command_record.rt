@@ -1,7 +1,7 @@
-//! Commands, read from the fields of a record.
-ghost use Rattle.std.specs.Prelude.{◌≡◌, ◌∷◌, IfSome, IfOk, IfErr, map};
+//! Commands, read from the fields of a record, and the law that a record states one.
+ghost use Rattle.std.specs.Prelude.{◌≡◌, ◌∷◌, IfSome, IfOk, IfErr, map, ℕ, List};
 ghost use Rattle.desk_model.specs.declared.command.Cmd.{Cmd as CmdValue};
-ghost use Rattle.desk_model.specs.Statement.{StatedValue};
+ghost use Rattle.desk_model.specs.statements.Statement.{StatedValue};
 ghost use Rattle.command_parser.specs.Spelled.{SpellsCommand, StatesCommand};
 ghost use Rattle.command_parser.specs.RecordForms.{IsWrongAt};
 
@@ -109,3 +109,9 @@ fn read_cmd(fields: &[&[u8]]) -> Option<Cmd>
         Word::Vac => read_vac_state(about),
     }
 }
+
+/// A record states one command at most, and one minute for it. It does nothing: its clause is the law.
+pub fn a_record_states_one_command()
+    ensures { (fields : List (List ℕ)) (s t : StatedValue) → StatesCommand fields s
+        → StatesCommand fields t → s ≡ t }
+{}

@@ -12,7 +12,7 @@ use std::alloc::Global;
 
 /// What records state, up to the first that states no command.
 #[derive(Drop)]
-pub struct DayCommands {
+pub(crate) struct DayCommands {
     /// The commands, in their order.
     pub commands: Vec<Stated>,
     /// Where that record is wrong, if there is one.
@@ -39,7 +39,7 @@ impl DayCommands {
 
 /// Reads the records that are left, the first of which has this number, with room for so many commands at first. It is `None`
 /// where there are more than `most`.
-pub fn read_commands<'a>(
+pub(crate) fn read_commands<'a>(
     alloc: Global,
     room: usize,
     first: u32,

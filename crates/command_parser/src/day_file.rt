@@ -1,8 +1,8 @@
 //! Day files.
 ghost use Rattle.std.specs.Prelude.{◌≡◌, ◌≢◌, ◌⊎◌, ℕ, List, IfOk, IfErr, IsErrOf};
 ghost use Rattle.std.specs.Result.{IsOkUnless};
-ghost use Rattle.desk_model.specs.Opening.{OpeningValue};
-ghost use Rattle.desk_model.specs.Statement.{StatedValue};
+ghost use Rattle.desk_model.specs.statements.Opening.{OpeningValue};
+ghost use Rattle.desk_model.specs.statements.Statement.{StatedValue};
 ghost use Rattle.command_parser.specs.DayFile.{IsDayFile, HasFault};
 ghost use Rattle.command_parser.specs.declared.day_fault.DayFault.{DayFault as Fault};
 

@@ -4,7 +4,7 @@ ghost use Rattle.command_parser.specs.declared.event_word.EventWord.{EventWord a
 
 /// The word of an event, which says what kind of event it is.
 #[derive(Clone, Copy, Debug, PartialEq, Eq)]
-pub enum EventWord {
+pub(crate) enum EventWord {
     Ride,
     Duty,
     Interim,
@@ -17,7 +17,7 @@ pub enum EventWord {
 
 impl EventWord {
     /// The word that a field spells; `None` where it is the word of no event.
-    pub fn read(text: &[u8]) -> Option<EventWord>
+    pub(crate) fn read(text: &[u8]) -> Option<EventWord>
         ensures some { IfSome result (λ word. text.now ≡ event_word_text word) }
         ensures only { (word : EventWordValue) → text.now ≡ event_word_text word
             → result ≡ Some word }

@@ -1,7 +1,7 @@
 //! Single fields of a record, read.
 ghost use Rattle.std.specs.Prelude.{◌≡◌, ◌<◌, ◌≤◌, ◌^◌, ℕ, Bool, decimal, IfSome};
 ghost use Rattle.desk_base.specs.Number.{IsNumber};
-ghost use Rattle.desk_model.specs.StatedTexts.{sort_text};
+ghost use Rattle.desk_model.specs.texts.StatedTexts.{sort_text};
 
 use desk_base::{PersonNo, VacNo, read_decimal};
 
@@ -47,7 +47,7 @@ pub fn read_place(text: &[u8]) -> Option<u16>
 }
 
 /// Whether a board is an extra board, which a field spells as `extra` or `pool`.
-pub fn read_extra(text: &[u8]) -> Option<bool>
+pub(crate) fn read_extra(text: &[u8]) -> Option<bool>
     ensures some { IfSome result (λ extra. text.now ≡ sort_text extra) }
     ensures only { (extra : Bool) → text.now ≡ sort_text extra → result ≡ Some extra }
 {

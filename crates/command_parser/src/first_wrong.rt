@@ -5,7 +5,7 @@ use crate::form::Form;
 use crate::record_forms::record_rows;
 
 /// The place, from 1, of a wrong record's first field that is missing, one too many or none that may stand there.
-pub fn wrong_field(fields: &[&[u8]]) -> u8
+pub(crate) fn wrong_field(fields: &[&[u8]]) -> u8
     ensures { IsWrongAt (map (λ field. field.now) fields.now) result }
 {
     let mut most = 0;

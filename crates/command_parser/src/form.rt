@@ -12,7 +12,7 @@ use qualifications::{Craft, Quals};
 
 /// What a field of a record may be.
 #[derive(Clone, Copy)]
-pub enum Form {
+pub(crate) enum Form {
     /// A minute of the years 2000 to 2099, as `2024-03-04 06:30`.
     Minute,
     /// This word of a command.
@@ -47,7 +47,7 @@ pub enum Form {
 
 impl Form {
     /// Whether a field has the form behind the field before it.
-    pub fn allows(self, before: &[u8], field: &[u8]) -> bool
+    pub(crate) fn allows(self, before: &[u8], field: &[u8]) -> bool
         ensures { (result ≡ true) ↔ HasForm self before.now field.now }
     {
         match self {

@@ -1,7 +1,7 @@
 //! Commands that a journal goes on with.
 ghost use Rattle.std.specs.Prelude.{◌≡◌, ◌≢◌, ◌⊎◌, ℕ, List, IfOk, IfErr, IsErrOf};
 ghost use Rattle.std.specs.Result.{IsOkUnless};
-ghost use Rattle.desk_model.specs.Statement.{StatedValue};
+ghost use Rattle.desk_model.specs.statements.Statement.{StatedValue};
 ghost use Rattle.command_parser.specs.MoreCommands.{AreCommands, HasMoreFault};
 ghost use Rattle.command_parser.specs.declared.more_fault.MoreFault.{MoreFault as Fault};
 

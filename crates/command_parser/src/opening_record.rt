@@ -2,7 +2,7 @@
 ghost use Rattle.std.specs.Prelude.{◌≡◌, ◌<◌, ◌^◌, ℕ, decimal, map, IfSome};
 ghost use Rattle.desk_base.specs.Window.{WindowValue};
 ghost use Rattle.desk_model.specs.declared.edition.Edition.{Edition as EditionValue};
-ghost use Rattle.desk_model.specs.Opening.{OpeningValue, edition_fields};
+ghost use Rattle.desk_model.specs.statements.Opening.{OpeningValue, edition_fields};
 ghost use Rattle.command_parser.specs.OpeningRecord.{StatesOpening, SpellsOpening, SpellsWindow};
 
 use desk_base::{Minute, Month, Window, read_decimal};

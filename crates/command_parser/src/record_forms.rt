@@ -6,7 +6,7 @@ use crate::form::Form;
 use crate::word::Word;
 
 /// The forms of the fields of each record that states a command.
-pub fn record_rows() -> &'static [&'static [Form]]
+pub(crate) fn record_rows() -> &'static [&'static [Form]]
     ensures { map (λ row. row.now) result.now ≡ record_forms }
 {
     &RECORD_FORMS

@@ -1,8 +1,8 @@
 //! What the records of a text state.
 ghost use Rattle.std.specs.Prelude.{◌≡◌, ◌⊎◌, ℕ, IfOk, IfErr, IfSome};
 ghost use Rattle.record_rows.specs.Rows.{row_fields};
-ghost use Rattle.desk_model.specs.Opening.{OpeningValue};
-ghost use Rattle.desk_model.specs.Statement.{StatedValue};
+ghost use Rattle.desk_model.specs.statements.Opening.{OpeningValue};
+ghost use Rattle.desk_model.specs.statements.Statement.{StatedValue};
 ghost use Rattle.command_parser.specs.OpeningRecord.{StatesOpening};
 ghost use Rattle.command_parser.specs.RecordForms.{IsWrongAt};
 ghost use Rattle.command_parser.specs.Spelled.{StatesCommand};
@@ -14,7 +14,7 @@ use record_rows::{Fields, LastMinute, Row};
 
 /// The command that a record states, and the minute at which it was stated. Where it states none it is the place, from 1,
 /// of its first wrong field.
-pub fn read_row(last: &mut LastMinute, row: &Row) -> Result<Stated, u8>
+pub(crate) fn read_row(last: &mut LastMinute, row: &Row) -> Result<Stated, u8>
     ensures some { IfOk result (StatesCommand (row_fields row.now)) }
     ensures only { (s : StatedValue) → StatesCommand (row_fields row.now) s → result ≡ Ok s }
     ensures wrong { IfErr result (IsWrongAt (row_fields row.now)) }
@@ -25,7 +25,7 @@ pub fn read_row(last: &mut LastMinute, row: &Row) -> Result<Stated, u8>
 }
 
 /// The opening that a record states; `None` where it states none.
-pub fn read_opening_row(row: &Row) -> Option<Opening>
+pub(crate) fn read_opening_row(row: &Row) -> Option<Opening>
     ensures some { IfSome result (StatesOpening (row_fields row.now)) }
     ensures only { (opening : OpeningValue) → StatesOpening (row_fields row.now) opening
         → result ≡ Some opening }

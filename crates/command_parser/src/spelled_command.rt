@@ -2,7 +2,7 @@
 ghost use Rattle.std.specs.Prelude.{◌≡◌, ◌∷◌, IfSome, map};
 ghost use Rattle.desk_model.specs.declared.command.Cmd.{Cmd as CmdValue};
 ghost use Rattle.command_parser.specs.declared.word.Word.TheVariants as word;
-ghost use Rattle.desk_model.specs.StatedTexts.{job_word};
+ghost use Rattle.desk_model.specs.texts.StatedTexts.{job_word};
 ghost use Rattle.command_parser.specs.Spelled.{Spells, SpellsCommand};
 
 use crate::field::{read_count, read_extra, read_place, read_vac};
@@ -11,7 +11,7 @@ use desk_model::{Chain, Cmd, Job};
 use qualifications::{Craft, Quals};
 
 /// Board, sort and place.
-pub fn read_board(about: &[&[u8]]) -> Option<Cmd>
+pub(crate) fn read_board(about: &[&[u8]]) -> Option<Cmd>
     ensures some { IfSome result (Spells word.Board (map (λ field. field.now) about.now)) }
     ensures only { (cmd : CmdValue) → Spells word.Board (map (λ field. field.now) about.now) cmd
         → result ≡ Some cmd }
@@ -27,7 +27,7 @@ pub fn read_board(about: &[&[u8]]) -> Option<Cmd>
 }
 
 /// Vacancy, craft, qualifications, place, report, duty, limbo and chain, of a relief vacancy or of another.
-pub fn read_vacancy(about: &[&[u8]], relief: bool) -> Option<Cmd>
+pub(crate) fn read_vacancy(about: &[&[u8]], relief: bool) -> Option<Cmd>
     ensures some { IfSome result (SpellsCommand
         (job_word relief ∷ map (λ field. field.now) about.now)) }
     ensures only { (cmd : CmdValue)
@@ -52,7 +52,7 @@ pub fn read_vacancy(about: &[&[u8]], relief: bool) -> Option<Cmd>
 }
 
 /// Vacancy.
-pub fn read_next(about: &[&[u8]]) -> Option<Cmd>
+pub(crate) fn read_next(about: &[&[u8]]) -> Option<Cmd>
     ensures some { IfSome result (Spells word.Next (map (λ field. field.now) about.now)) }
     ensures only { (cmd : CmdValue) → Spells word.Next (map (λ field. field.now) about.now) cmd
         → result ≡ Some cmd }
@@ -66,7 +66,7 @@ pub fn read_next(about: &[&[u8]]) -> Option<Cmd>
 }
 
 /// Vacancy.
-pub fn read_annul(about: &[&[u8]]) -> Option<Cmd>
+pub(crate) fn read_annul(about: &[&[u8]]) -> Option<Cmd>
     ensures some { IfSome result (Spells word.Annul (map (λ field. field.now) about.now)) }
     ensures only { (cmd : CmdValue) → Spells word.Annul (map (λ field. field.now) about.now) cmd
         → result ≡ Some cmd }
@@ -80,7 +80,7 @@ pub fn read_annul(about: &[&[u8]]) -> Option<Cmd>
 }
 
 /// Board and place.
-pub fn read_at(about: &[&[u8]]) -> Option<Cmd>
+pub(crate) fn read_at(about: &[&[u8]]) -> Option<Cmd>
     ensures some { IfSome result (Spells word.At (map (λ field. field.now) about.now)) }
     ensures only { (cmd : CmdValue) → Spells word.At (map (λ field. field.now) about.now) cmd
         → result ≡ Some cmd }
@@ -95,7 +95,7 @@ pub fn read_at(about: &[&[u8]]) -> Option<Cmd>
 }
 
 /// Vacancy.
-pub fn read_vac_state(about: &[&[u8]]) -> Option<Cmd>
+pub(crate) fn read_vac_state(about: &[&[u8]]) -> Option<Cmd>
     ensures some { IfSome result (Spells word.Vac (map (λ field. field.now) about.now)) }
     ensures only { (cmd : CmdValue) → Spells word.Vac (map (λ field. field.now) about.now) cmd
         → result ≡ Some cmd }

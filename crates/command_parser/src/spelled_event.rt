@@ -2,7 +2,7 @@
 ghost use Rattle.std.specs.Prelude.{◌≡◌, ◌≢◌, ◌∷◌, [], codes, IfSome, map};
 ghost use Rattle.duty_events.specs.declared.event.Event.{Event as EventValue};
 ghost use Rattle.duty_events.specs.declared.kind.Kind.{Kind as KindValue};
-ghost use Rattle.desk_model.specs.StatedTexts.{kind_text};
+ghost use Rattle.desk_model.specs.texts.StatedTexts.{kind_text};
 ghost use Rattle.command_parser.specs.Spelled.{SpellsEvent};
 
 use desk_base::{Code, Minute, Span};
@@ -10,7 +10,7 @@ use duty_events::{Event, Kind};
 
 /// The event that fields spell; `None` where they spell none: its word, its minute, the kind and the place of an interim,
 /// the place of a final release, or the end and the place of other service.
-pub fn read_event(fields: &[&[u8]]) -> Option<Event>
+pub(crate) fn read_event(fields: &[&[u8]]) -> Option<Event>
     ensures some { IfSome result (SpellsEvent (map (λ field. field.now) fields.now)) }
     ensures only { (event : EventValue) → SpellsEvent (map (λ field. field.now) fields.now) event
         → result ≡ Some event }

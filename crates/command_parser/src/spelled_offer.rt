@@ -8,7 +8,7 @@ use crate::field::{read_person, read_vac};
 use desk_model::Cmd;
 
 /// Vacancy and person.
-pub fn read_offer(about: &[&[u8]]) -> Option<Cmd>
+pub(crate) fn read_offer(about: &[&[u8]]) -> Option<Cmd>
     ensures some { IfSome result (Spells word.Offer (map (λ field. field.now) about.now)) }
     ensures only { (cmd : CmdValue) → Spells word.Offer (map (λ field. field.now) about.now) cmd
         → result ≡ Some cmd }
@@ -23,7 +23,7 @@ pub fn read_offer(about: &[&[u8]]) -> Option<Cmd>
 }
 
 /// Vacancy and person.
-pub fn read_accept(about: &[&[u8]]) -> Option<Cmd>
+pub(crate) fn read_accept(about: &[&[u8]]) -> Option<Cmd>
     ensures some { IfSome result (Spells word.Accept (map (λ field. field.now) about.now)) }
     ensures only { (cmd : CmdValue) → Spells word.Accept (map (λ field. field.now) about.now) cmd
         → result ≡ Some cmd }
@@ -38,7 +38,7 @@ pub fn read_accept(about: &[&[u8]]) -> Option<Cmd>
 }
 
 /// Vacancy and person.
-pub fn read_decline(about: &[&[u8]]) -> Option<Cmd>
+pub(crate) fn read_decline(about: &[&[u8]]) -> Option<Cmd>
     ensures some { IfSome result (Spells word.Decline (map (λ field. field.now) about.now)) }
     ensures only { (cmd : CmdValue) → Spells word.Decline (map (λ field. field.now) about.now) cmd
         → result ≡ Some cmd }
@@ -53,7 +53,7 @@ pub fn read_decline(about: &[&[u8]]) -> Option<Cmd>
 }
 
 /// Vacancy and person.
-pub fn read_no_answer(about: &[&[u8]]) -> Option<Cmd>
+pub(crate) fn read_no_answer(about: &[&[u8]]) -> Option<Cmd>
     ensures some { IfSome result (Spells word.NoAnswer (map (λ field. field.now) about.now)) }
     ensures only { (cmd : CmdValue) → Spells word.NoAnswer (map (λ field. field.now) about.now) cmd
         → result ≡ Some cmd }
@@ -68,7 +68,7 @@ pub fn read_no_answer(about: &[&[u8]]) -> Option<Cmd>
 }
 
 /// Vacancy and person.
-pub fn read_withdraw(about: &[&[u8]]) -> Option<Cmd>
+pub(crate) fn read_withdraw(about: &[&[u8]]) -> Option<Cmd>
     ensures some { IfSome result (Spells word.Withdraw (map (λ field. field.now) about.now)) }
     ensures only { (cmd : CmdValue) → Spells word.Withdraw (map (λ field. field.now) about.now) cmd
         → result ≡ Some cmd }
@@ -83,7 +83,7 @@ pub fn read_withdraw(about: &[&[u8]]) -> Option<Cmd>
 }
 
 /// Vacancy and person.
-pub fn read_explain(about: &[&[u8]]) -> Option<Cmd>
+pub(crate) fn read_explain(about: &[&[u8]]) -> Option<Cmd>
     ensures some { IfSome result (Spells word.Explain (map (λ field. field.now) about.now)) }
     ensures only { (cmd : CmdValue) → Spells word.Explain (map (λ field. field.now) about.now) cmd
         → result ≡ Some cmd }

@@ -11,7 +11,7 @@ use desk_model::Cmd;
 use qualifications::{Craft, Quals};
 
 /// Person, craft, home and qualifications.
-pub fn read_enrol(about: &[&[u8]]) -> Option<Cmd>
+pub(crate) fn read_enrol(about: &[&[u8]]) -> Option<Cmd>
     ensures some { IfSome result (Spells word.Enrol (map (λ field. field.now) about.now)) }
     ensures only { (cmd : CmdValue) → Spells word.Enrol (map (λ field. field.now) about.now) cmd
         → result ≡ Some cmd }
@@ -28,7 +28,7 @@ pub fn read_enrol(about: &[&[u8]]) -> Option<Cmd>
 }
 
 /// Person and board.
-pub fn read_list(about: &[&[u8]]) -> Option<Cmd>
+pub(crate) fn read_list(about: &[&[u8]]) -> Option<Cmd>
     ensures some { IfSome result (Spells word.List (map (λ field. field.now) about.now)) }
     ensures only { (cmd : CmdValue) → Spells word.List (map (λ field. field.now) about.now) cmd
         → result ≡ Some cmd }
@@ -43,7 +43,7 @@ pub fn read_list(about: &[&[u8]]) -> Option<Cmd>
 }
 
 /// Person and board.
-pub fn read_unlist(about: &[&[u8]]) -> Option<Cmd>
+pub(crate) fn read_unlist(about: &[&[u8]]) -> Option<Cmd>
     ensures some { IfSome result (Spells word.Unlist (map (λ field. field.now) about.now)) }
     ensures only { (cmd : CmdValue) → Spells word.Unlist (map (λ field. field.now) about.now) cmd
         → result ≡ Some cmd }
@@ -58,7 +58,7 @@ pub fn read_unlist(about: &[&[u8]]) -> Option<Cmd>
 }
 
 /// Person.
-pub fn read_off(about: &[&[u8]]) -> Option<Cmd>
+pub(crate) fn read_off(about: &[&[u8]]) -> Option<Cmd>
     ensures some { IfSome result (Spells word.Off (map (λ field. field.now) about.now)) }
     ensures only { (cmd : CmdValue) → Spells word.Off (map (λ field. field.now) about.now) cmd
         → result ≡ Some cmd }
@@ -72,7 +72,7 @@ pub fn read_off(about: &[&[u8]]) -> Option<Cmd>
 }
 
 /// Person.
-pub fn read_on(about: &[&[u8]]) -> Option<Cmd>
+pub(crate) fn read_on(about: &[&[u8]]) -> Option<Cmd>
     ensures some { IfSome result (Spells word.On (map (λ field. field.now) about.now)) }
     ensures only { (cmd : CmdValue) → Spells word.On (map (λ field. field.now) about.now) cmd
         → result ≡ Some cmd }
@@ -86,7 +86,7 @@ pub fn read_on(about: &[&[u8]]) -> Option<Cmd>
 }
 
 /// Person and qualifications.
-pub fn read_qualify(about: &[&[u8]]) -> Option<Cmd>
+pub(crate) fn read_qualify(about: &[&[u8]]) -> Option<Cmd>
     ensures some { IfSome result (Spells word.Qualify (map (λ field. field.now) about.now)) }
     ensures only { (cmd : CmdValue) → Spells word.Qualify (map (λ field. field.now) about.now) cmd
         → result ≡ Some cmd }
@@ -101,7 +101,7 @@ pub fn read_qualify(about: &[&[u8]]) -> Option<Cmd>
 }
 
 /// Person, and an event before the person was listed.
-pub fn read_past(about: &[&[u8]]) -> Option<Cmd>
+pub(crate) fn read_past(about: &[&[u8]]) -> Option<Cmd>
     ensures some { IfSome result (Spells word.Past (map (λ field. field.now) about.now)) }
     ensures only { (cmd : CmdValue) → Spells word.Past (map (λ field. field.now) about.now) cmd
         → result ≡ Some cmd }
@@ -116,7 +116,7 @@ pub fn read_past(about: &[&[u8]]) -> Option<Cmd>
 }
 
 /// Person, and an event.
-pub fn read_happened(about: &[&[u8]]) -> Option<Cmd>
+pub(crate) fn read_happened(about: &[&[u8]]) -> Option<Cmd>
     ensures some { IfSome result (Spells word.Event (map (λ field. field.now) about.now)) }
     ensures only { (cmd : CmdValue) → Spells word.Event (map (λ field. field.now) about.now) cmd
         → result ≡ Some cmd }
@@ -131,7 +131,7 @@ pub fn read_happened(about: &[&[u8]]) -> Option<Cmd>
 }
 
 /// Person.
-pub fn read_drop(about: &[&[u8]]) -> Option<Cmd>
+pub(crate) fn read_drop(about: &[&[u8]]) -> Option<Cmd>
     ensures some { IfSome result (Spells word.Drop (map (λ field. field.now) about.now)) }
     ensures only { (cmd : CmdValue) → Spells word.Drop (map (λ field. field.now) about.now) cmd
         → result ≡ Some cmd }
@@ -145,7 +145,7 @@ pub fn read_drop(about: &[&[u8]]) -> Option<Cmd>
 }
 
 /// Person and month.
-pub fn read_hours(about: &[&[u8]]) -> Option<Cmd>
+pub(crate) fn read_hours(about: &[&[u8]]) -> Option<Cmd>
     ensures some { IfSome result (Spells word.Hours (map (λ field. field.now) about.now)) }
     ensures only { (cmd : CmdValue) → Spells word.Hours (map (λ field. field.now) about.now) cmd
         → result ≡ Some cmd }

@@ -1,6 +1,6 @@
 //! The laws of the table of records.
 ghost use Rattle.std.specs.Prelude.{◌≡◌, ◌≤◌, ◌+◌, ◌++◌, ℕ, List, length, take};
-ghost use Rattle.desk_model.specs.Statement.{StatedValue};
+ghost use Rattle.desk_model.specs.statements.Statement.{StatedValue};
 ghost use Rattle.command_parser.specs.Spelled.{StatesCommand, StatesSome};
 ghost use Rattle.command_parser.specs.RecordForms.{HasRow, IsWrongAt};
 

@@ -4,7 +4,7 @@ ghost use Rattle.command_parser.specs.declared.word.Word.{Word as WordValue};
 
 /// The word of a command's record, which says what kind of command it is.
 #[derive(Clone, Copy, Debug, PartialEq, Eq)]
-pub enum Word {
+pub(crate) enum Word {
     Enrol,
     Board,
     List,
@@ -32,7 +32,7 @@ pub enum Word {
 
 impl Word {
     /// The word that a field spells; `None` where it is the word of no command.
-    pub fn read(text: &[u8]) -> Option<Word>
+    pub(crate) fn read(text: &[u8]) -> Option<Word>
         ensures some { IfSome result (λ word. text.now ≡ word_text word) }
         ensures only { (word : WordValue) → text.now ≡ word_text word → result ≡ Some word }
     {

@@ -10,7 +10,7 @@ use Rattle.desk_base.specs.Day.{day_of}
 use Rattle.duty_events.specs.declared.event.Event.{Event}
 use Rattle.duty_events.specs.declared.tour.Tour.{Tour}
 use Rattle.duty_events.specs.EndedTours.{last_tour, end_of}
-use Rattle.stretches.proofs.StretchLemmas.{has_stretch-decides}
+use Rattle.duty_events.proofs.StretchLemmas.{has_stretch-decides}
 use Rattle.consecutive_days.specs.Days.{is_off_at_home, was_off_at_home, is_away, is_day_after, is_seventh_from_away, days_ok, IsAway, IsDayAfter, IsSeventhFromAway, DaysOk}
 use Rattle.consecutive_days.specs.Run.{run_days, run_from, starts_on, last_start, need}
 use Rattle.consecutive_days.specs.Steps.{last_day}

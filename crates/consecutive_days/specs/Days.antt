@@ -9,7 +9,7 @@ use Rattle.duty_events.specs.declared.tour.Tour.{Tour}
 use Rattle.duty_events.specs.EndedTours.{last_tour, end_of}
 use Rattle.duty_events.specs.MinuteKind.{kind_of, is_off_duty}
 use Rattle.duty_events.specs.Places.{place_of}
-use Rattle.stretches.specs.Stretch.{Stretch, has_stretch}
+use Rattle.duty_events.specs.Stretch.{Stretch, has_stretch}
 use Rattle.consecutive_days.specs.Run.{run_days, last_start, need}
 
 -- the person is off and at home in the minute

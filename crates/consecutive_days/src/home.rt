@@ -2,12 +2,13 @@ ghost use Rattle.std.specs.Prelude.{◌≡◌, ℕ, ◌<◌, ◌&&◌, nat_le};
 ghost use Rattle.std.specs.Str.{bytes_eq};
 ghost use Rattle.duty_events.specs.MinuteKind.{is_off_duty};
 ghost use Rattle.duty_events.specs.Lists.{IsLawful};
-ghost use Rattle.stretches.specs.Stretch.{has_stretch};
+ghost use Rattle.duty_events.specs.Stretch.{has_stretch};
 ghost use Rattle.consecutive_days.specs.Days.{is_off_at_home};
 
 use desk_base::{Code, Minute};
-use duty_events::{Event, MinuteKind, Stage, kind_behind, kind_until, place_behind, place_until};
-use stretches::Gauge;
+use duty_events::{
+    Event, Gauge, MinuteKind, Stage, kind_behind, kind_until, place_behind, place_until,
+};
 
 /// How many minutes the longest stretch has in which the person is off and at home, from one minute on and before
 /// another.

@@ -10,13 +10,13 @@ use Rattle.desk_model.specs.declared.command.Cmd.TheVariants as cmd
 use Rattle.desk_model.specs.declared.reply.Reply.{Reply}
 use Rattle.desk_model.specs.declared.reply.Reply.TheVariants as reply
 use Rattle.desk_model.specs.declared.offer.Offer.{Offer}
-use Rattle.desk_model.specs.Opening.{OpeningValue}
-use Rattle.desk_model.specs.Entry.{EntryValue}
-use Rattle.desk_model.specs.History.{History, history_of, with_entry, step_of, steps, is_done, said}
-use Rattle.desk_model.specs.Offers.{is_of, offer_in, settles, open_offer, is_to}
-use Rattle.desk_model.specs.RestsOn.{RestsOn}
-use Rattle.desk_model.specs.SettleAnswer.{decline_answer}
-use Rattle.desk_model.specs.Legal.{is_within, moment, answer_to, IsNext, IsLegal}
+use Rattle.desk_model.specs.statements.Opening.{OpeningValue}
+use Rattle.desk_model.specs.statements.Entry.{EntryValue}
+use Rattle.desk_model.specs.histories.History.{History, history_of, with_entry, step_of, steps, is_done, said}
+use Rattle.desk_model.specs.offers.Offers.{is_of, offer_in, settles, open_offer, is_to}
+use Rattle.desk_model.specs.laws.RestsOn.{RestsOn}
+use Rattle.desk_model.specs.answers.SettleAnswer.{decline_answer}
+use Rattle.desk_model.specs.histories.Legal.{is_within, moment, answer_to, IsNext, IsLegal}
 use Rattle.desk_model.proofs.SaidLemmas.{steps-snoc}
 use Rattle.desk_model.proofs.LegalLemmas.{IsRight}
 use Rattle.desk_model.proofs.OrderLemmas.{same_number, nat_eq-same}

@@ -9,12 +9,12 @@ use Rattle.desk_model.specs.declared.command.Cmd.TheVariants as cmd
 use Rattle.desk_model.specs.declared.reply.Reply.{Reply}
 use Rattle.desk_model.specs.declared.reply.Reply.TheVariants as reply
 use Rattle.desk_model.specs.declared.offer.Offer.{Offer}
-use Rattle.desk_model.specs.Opening.{OpeningValue}
-use Rattle.desk_model.specs.Statement.{StatedValue, stated_of}
-use Rattle.desk_model.specs.Entry.{EntryValue}
-use Rattle.desk_model.specs.History.{History, history_of, with_entry}
-use Rattle.desk_model.specs.Offers.{asks_for, offer_in, offer_said, open_offer, is_to}
-use Rattle.desk_model.specs.Legal.{is_within, moment, answer_to, IsNext, IsLegal}
+use Rattle.desk_model.specs.statements.Opening.{OpeningValue}
+use Rattle.desk_model.specs.statements.Statement.{StatedValue, stated_of}
+use Rattle.desk_model.specs.statements.Entry.{EntryValue}
+use Rattle.desk_model.specs.histories.History.{History, history_of, with_entry}
+use Rattle.desk_model.specs.offers.Offers.{asks_for, offer_in, offer_said, open_offer, is_to}
+use Rattle.desk_model.specs.histories.Legal.{is_within, moment, answer_to, IsNext, IsLegal}
 use Rattle.desk_model.proofs.OrderLemmas.{nat_eq-same}
 use Rattle.desk_model.proofs.OpensLemmas.{offer-comes}
 use Rattle.crew_call.specs.declared.crew_outcome.CrewOutcome.{CrewOutcome}

@@ -2,9 +2,9 @@
 use Rattle.std.specs.Prelude.{◌≡◌, ℕ, Option, None, Some, List, [], ◌∷◌, ⊤, if◌then◌else◌}
 use Rattle.std.specs.Option.{option_map}
 use Rattle.desk_model.specs.declared.command.Cmd.TheVariants as cmd
-use Rattle.desk_model.specs.Statement.{StatedValue, stated_of}
-use Rattle.desk_model.specs.Entry.{EntryValue}
-use Rattle.desk_model.specs.History.{is_done}
+use Rattle.desk_model.specs.statements.Statement.{StatedValue, stated_of}
+use Rattle.desk_model.specs.statements.Entry.{EntryValue}
+use Rattle.desk_model.specs.histories.History.{is_done}
 use Rattle.crew_call.specs.declared.crew_outcome.CrewOutcome.{CrewOutcome}
 use Rattle.crew_call.specs.declared.crew_outcome.CrewOutcome.TheVariants as outcome
 use Rattle.crew_call.specs.declared.heard.Heard.{Heard}

@@ -4,8 +4,8 @@ use Rattle.std.specs.List.{filter_map}
 use Rattle.desk_model.specs.declared.command.Cmd.TheVariants as cmd
 use Rattle.desk_model.specs.declared.reply.Reply.{Reply}
 use Rattle.desk_model.specs.declared.reply.Reply.TheVariants as reply
-use Rattle.desk_model.specs.Statement.{StatedValue, stated_of}
-use Rattle.desk_model.specs.Entry.{EntryValue}
+use Rattle.desk_model.specs.statements.Statement.{StatedValue, stated_of}
+use Rattle.desk_model.specs.statements.Entry.{EntryValue}
 use Rattle.crew_call.specs.declared.crew_outcome.CrewOutcome.{CrewOutcome}
 use Rattle.crew_call.specs.declared.crew_outcome.CrewOutcome.TheVariants as outcome
 

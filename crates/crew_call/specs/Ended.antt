@@ -4,11 +4,11 @@ use Rattle.std.specs.List.{All}
 use Rattle.desk_model.specs.declared.command.Cmd.{Cmd}
 use Rattle.desk_model.specs.declared.command.Cmd.TheVariants as cmd
 use Rattle.desk_model.specs.declared.reply.Reply.TheVariants as reply
-use Rattle.desk_model.specs.Opening.{OpeningValue}
-use Rattle.desk_model.specs.Entry.{EntryValue}
-use Rattle.desk_model.specs.History.{history_of}
-use Rattle.desk_model.specs.Offers.{open_offer, is_to}
-use Rattle.desk_model.specs.Legal.{IsLegal, is_within}
+use Rattle.desk_model.specs.statements.Opening.{OpeningValue}
+use Rattle.desk_model.specs.statements.Entry.{EntryValue}
+use Rattle.desk_model.specs.histories.History.{history_of}
+use Rattle.desk_model.specs.offers.Offers.{open_offer, is_to}
+use Rattle.desk_model.specs.histories.Legal.{IsLegal, is_within}
 
 -- the commands that end an offer of this vacancy to this person
 pub data Ends (v p : ℕ) : Cmd → Type 0 where

@@ -1,11 +1,11 @@
 -- What the outcome of a crew call says of the history that its entries stand in.
 use Rattle.std.specs.Prelude.{◌≡◌, ℕ, ⊤, None, Some, List, [], ◌∷◌, ◌++◌}
 use Rattle.std.specs.List.{All}
-use Rattle.desk_model.specs.Opening.{OpeningValue}
-use Rattle.desk_model.specs.Entry.{EntryValue}
-use Rattle.desk_model.specs.History.{history_of}
-use Rattle.desk_model.specs.Offers.{asks_for, open_offer}
-use Rattle.desk_model.specs.Legal.{IsLegal}
+use Rattle.desk_model.specs.statements.Opening.{OpeningValue}
+use Rattle.desk_model.specs.statements.Entry.{EntryValue}
+use Rattle.desk_model.specs.histories.History.{history_of}
+use Rattle.desk_model.specs.offers.Offers.{asks_for, open_offer}
+use Rattle.desk_model.specs.histories.Legal.{IsLegal}
 use Rattle.crew_call.specs.declared.crew_outcome.CrewOutcome.{CrewOutcome}
 use Rattle.crew_call.specs.declared.crew_outcome.CrewOutcome.TheVariants as outcome
 use Rattle.crew_call.specs.CrewCalls.{CrewCall, person_offered}

@@ -7,12 +7,12 @@ use Rattle.desk_io.specs.declared.status.Status.{Status}
 use Rattle.desk_io.specs.declared.status.Status.TheVariants.{Fine, WriteFault, TooLong, NoMemory}
 use Rattle.desk_io.specs.Giving.{AddsFront}
 use Rattle.desk_io.specs.Input.{TookAll}
-use Rattle.desk_model.specs.Statement.{StatedValue}
-use Rattle.desk_model.specs.StatedTexts.{stated_fields}
-use Rattle.desk_model.specs.Fits.{IsStated}
-use Rattle.desk_model.specs.History.{History, with_entry}
-use Rattle.desk_model.specs.Journal.{journal}
-use Rattle.desk_model.specs.Legal.{next, history_from, MayState, IsLegal}
+use Rattle.desk_model.specs.statements.Statement.{StatedValue}
+use Rattle.desk_model.specs.texts.StatedTexts.{stated_fields}
+use Rattle.desk_model.specs.statements.Fits.{IsStated}
+use Rattle.desk_model.specs.histories.History.{History, with_entry}
+use Rattle.desk_model.specs.texts.Journal.{journal}
+use Rattle.desk_model.specs.histories.Legal.{next, history_from, MayState, IsLegal}
 use Rattle.command_parser.specs.MoreCommands.{AreCommands, HasMoreFault}
 use Rattle.command_parser.specs.declared.more_fault.MoreFault.{MoreFault}
 use Rattle.command_parser.specs.declared.more_fault.MoreFault.TheVariants as fault
@@ -36,10 +36,6 @@ use Rattle.day_replay.proofs.JournalLemmas.{AddsFront-journal}
 pub AddsFront-goes_on : (a b : Option (List ℕ)) (h : History) (commands : List StatedValue) (text : List ℕ) → text ≡ journal h → AddsFront a b text → AddsFront a b (journal (goes_on h commands))
 AddsFront-goes_on a b h commands text is front =
     AddsFront-journal a b h commands 0 (subst (λ g. AddsFront a b (journal g)) (sym (goes_on-none h)) (subst (AddsFront a b) is front))
-
--- there are no more commands than there is room for
-pub AreCommands-few : (bytes : List ℕ) (room : ℕ) (commands : List StatedValue) → AreCommands bytes room commands → length commands ≤ room
-AreCommands-few bytes room commands are = omega (arith, are.few, ap length are.states.fields, length-map commands stated_fields)
 
 -- ---- the history that goes on is legal, by the law of what a legal history grows by
 
@@ -118,15 +114,6 @@ fault-at one text more count cause behind audited has =
     subst (λ m. HasMoreFault m (room_behind count) cause) (sym behind)
     (subst (λ n. HasMoreFault (more_of text) (room_behind n) cause) (one-count one (journal_of text) has.count count has.audited audited) has.has)
 
--- where the journal has too many lines
-pub EndsByTheText-long : (text : List ℕ) → HasTooManyLines (journal_of text) → EndsByTheText TooLong (λ P. P text)
-EndsByTheText-long text many = record {
-  too_long = λ long read memory. refl;
-  verdict = λ found is. absurd (omega (arith, many, is.few));
-  unreadable = λ record_no field has. absurd (omega (arith, many, has.audited.few));
-  goes_on = λ h commands is. absurd (omega (arith, many, is.few));
-}
-
 -- where it is legal
 pub EndsByTheText-legal : OneVerdict → (result : Status) (text more : List ℕ) (count : ℕ) → more ≡ more_of text → IsAudited (journal_of text) (verdict.Legal count)
     → EndsByTheCommands result more (room_behind count) → EndsByTheText result (λ P. P text)
@@ -173,17 +160,6 @@ EndsByTheText-found one result text found few finds other only =
     }
 
 -- ---- the same of what was taken from a source
-
-pub Continues-TookAll : (before after : Option (List ℕ)) (bytes seen : List ℕ) (Writes : List ℕ → Type 0) → TookAll before after bytes → length bytes ≤ BYTE_LIMIT → seen ≡ bytes
-    → Continues (λ P. P seen) Writes → Continues (WasRead BYTE_LIMIT before after) Writes
-Continues-TookAll before after bytes seen Writes took within same goes = record {
-  history = goes.history;
-  commands = goes.commands;
-  read = WasRead-TookAll BYTE_LIMIT before after bytes (λ text. IsContinued text goes.history goes.commands) took within
-      (subst (λ text. IsContinued text goes.history goes.commands) same goes.read);
-  legal = goes.legal;
-  written = goes.written;
-}
 
 pub FindsVerdict-TookAll : (before after : Option (List ℕ)) (bytes seen : List ℕ) (status : Status) (Writes : List ℕ → Type 0) → TookAll before after bytes → length bytes ≤ BYTE_LIMIT → seen ≡ bytes
     → FindsVerdict (λ P. P seen) status Writes → FindsVerdict (WasRead BYTE_LIMIT before after) status Writes

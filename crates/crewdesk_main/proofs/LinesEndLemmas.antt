@@ -4,7 +4,7 @@ use Rattle.std.specs.Prelude.{◌⊎◌}
 use Rattle.desk_io.specs.Input.{TookMore}
 use Rattle.desk_io.specs.declared.status.Status.{Status}
 use Rattle.desk_io.specs.declared.status.Status.TheVariants.{Fine, Usage, ReadFault, WriteFault, TooLong, NoMemory, AuditWrong, NoOpening, Unreadable}
-use Rattle.desk_model.specs.History.{History}
+use Rattle.desk_model.specs.histories.History.{History}
 use Rattle.audit_desk.specs.declared.journal.TheConstants.{BYTE_LIMIT}
 use Rattle.audit_desk.specs.Found.{HasNoOpening}
 use Rattle.day_replay.specs.Ends.{WasRead, TellsMore, EndsAs}

@@ -1,10 +1,10 @@
 -- A text is read in one way, as it stands.
 use Rattle.std.proofs.Common.{◌≡◌, ◌≢◌, ◌∙◌, ℕ, List, [], ◌++◌, sym, ap, append_assoc, inl, inr}
 use Rattle.std.specs.Prelude.{◌⊎◌}
-use Rattle.desk_model.specs.Entry.{EntryValue}
-use Rattle.desk_model.specs.Fits.{Fits}
-use Rattle.desk_model.specs.History.{History}
-use Rattle.desk_model.specs.Journal.{opening_line, entry_line, entry_lines}
+use Rattle.desk_model.specs.statements.Entry.{EntryValue}
+use Rattle.desk_model.specs.statements.Fits.{Fits}
+use Rattle.desk_model.specs.histories.History.{History}
+use Rattle.desk_model.specs.texts.Journal.{opening_line, entry_line, entry_lines}
 use Rattle.desk_text.proofs.LineLemmas.{entry_line-IsLine}
 use Rattle.audit_desk.specs.Found.{HasNoOpening, line_behind}
 use Rattle.audit_desk.proofs.OneLemmas.{GoesOn, some-line, journals-two}

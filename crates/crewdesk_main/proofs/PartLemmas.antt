@@ -8,10 +8,6 @@ pub record Passed (text : List ℕ) (place : ℕ) (begins : Bool) : Type 0 where
   pub journal : take place text ++ before_plus begins (drop place text) ≡ journal_of text
   pub more : behind_plus begins (drop place text) ≡ more_of text
 
--- none were passed yet
-pub Passed-none : (text : List ℕ) → Passed text 0 true
-Passed-none text = record { journal = refl; more = refl }
-
 before_plus-past : (begins : Bool) (b : ℕ) (later : List ℕ) → (begins && is_plus (b ∷ later)) ≡ false → before_plus begins (b ∷ later) ≡ b ∷ before_plus (b == 10) later
 unfolding before_plus
 before_plus-past begins b later not = rw not refl

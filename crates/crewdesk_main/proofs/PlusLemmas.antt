@@ -7,14 +7,14 @@ use Rattle.std.proofs.lemmas.Bool.Decides.{nat_tests}
 use Rattle.std.proofs.lemmas.List.Elements.{All-head, All-tail}
 use Rattle.desk_base.specs.Minute.{minute_text}
 use Rattle.desk_base.specs.Month.{month_text}
-use Rattle.desk_model.specs.Opening.{OpeningValue, IsOpening, edition_fields}
-use Rattle.desk_model.specs.Entry.{EntryValue}
-use Rattle.desk_model.specs.Fits.{Fits}
-use Rattle.desk_model.specs.History.{History}
-use Rattle.desk_model.specs.StatedTexts.{stated_fields}
-use Rattle.desk_model.specs.ReplyTexts.{reply_text}
-use Rattle.desk_model.specs.Legal.{IsLegal}
-use Rattle.desk_model.specs.Journal.{opening_line, entry_line, entry_lines, journal}
+use Rattle.desk_model.specs.statements.Opening.{OpeningValue, IsOpening, edition_fields}
+use Rattle.desk_model.specs.statements.Entry.{EntryValue}
+use Rattle.desk_model.specs.statements.Fits.{Fits}
+use Rattle.desk_model.specs.histories.History.{History}
+use Rattle.desk_model.specs.texts.StatedTexts.{stated_fields}
+use Rattle.desk_model.specs.texts.ReplyTexts.{reply_text}
+use Rattle.desk_model.specs.histories.Legal.{IsLegal}
+use Rattle.desk_model.specs.texts.Journal.{opening_line, entry_line, entry_lines, journal}
 use Rattle.line_writer.specs.Line.{IsLine}
 use Rattle.crewdesk_main.specs.Parts.{before_plus, behind_plus, journal_of, more_of}
 

@@ -3,11 +3,11 @@ use Rattle.std.proofs.Common.{◌≡◌, ◌≢◌, ◌∙◌, ◌+◌, ◌==◌
 use Rattle.std.specs.Prelude.{◌⊎◌}
 use Rattle.std.proofs.lemmas.Bool.Decides.{nat_tests}
 use Rattle.std.proofs.lemmas.List.Elements.{All-append, All-cons, All-nil}
-use Rattle.desk_model.specs.Entry.{EntryValue}
-use Rattle.desk_model.specs.Fits.{Fits}
-use Rattle.desk_model.specs.Opening.{OpeningValue, IsOpening}
-use Rattle.desk_model.specs.History.{History, opened, with_entry}
-use Rattle.desk_model.specs.Journal.{opening_line, entry_line, journal}
+use Rattle.desk_model.specs.statements.Entry.{EntryValue}
+use Rattle.desk_model.specs.statements.Fits.{Fits}
+use Rattle.desk_model.specs.statements.Opening.{OpeningValue, IsOpening}
+use Rattle.desk_model.specs.histories.History.{History, opened, with_entry}
+use Rattle.desk_model.specs.texts.Journal.{opening_line, entry_line, journal}
 use Rattle.line_writer.specs.Line.{IsLine}
 use Rattle.desk_text.specs.SpelledEntry.{IsEntryLine}
 use Rattle.duty_record.specs.declared.duty_records.DutyRecords.{DutyRecords}

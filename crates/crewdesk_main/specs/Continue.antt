@@ -6,10 +6,10 @@ use Rattle.desk_io.specs.declared.status.Status.TheVariants.{Fine, ReadFault, Wr
 use Rattle.desk_io.specs.Faults.{Rose}
 use Rattle.desk_io.specs.Giving.{AddsFront}
 use Rattle.desk_io.specs.Input.{TookMore, TookFront}
-use Rattle.desk_model.specs.Statement.{StatedValue}
-use Rattle.desk_model.specs.History.{History}
-use Rattle.desk_model.specs.Legal.{IsLegal}
-use Rattle.desk_model.specs.Journal.{journal}
+use Rattle.desk_model.specs.statements.Statement.{StatedValue}
+use Rattle.desk_model.specs.histories.History.{History}
+use Rattle.desk_model.specs.histories.Legal.{IsLegal}
+use Rattle.desk_model.specs.texts.Journal.{journal}
 use Rattle.line_writer.specs.Line.{wrong_line}
 use Rattle.command_parser.specs.MoreCommands.{AreCommands, HasMoreFault}
 use Rattle.command_parser.specs.declared.more_fault.MoreFault.{MoreFault}

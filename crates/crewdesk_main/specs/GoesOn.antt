@@ -2,9 +2,9 @@
 use Rattle.std.specs.Prelude.{◌≡◌, ◌≢◌, ℕ, List}
 use Rattle.desk_io.specs.declared.status.Status.{Status}
 use Rattle.desk_io.specs.declared.status.Status.TheVariants.{Fine, WriteFault, TooLong, Unreadable}
-use Rattle.desk_model.specs.Statement.{StatedValue}
-use Rattle.desk_model.specs.History.{History}
-use Rattle.desk_model.specs.Journal.{journal}
+use Rattle.desk_model.specs.statements.Statement.{StatedValue}
+use Rattle.desk_model.specs.histories.History.{History}
+use Rattle.desk_model.specs.texts.Journal.{journal}
 use Rattle.line_writer.specs.Line.{wrong_line}
 use Rattle.command_parser.specs.MoreCommands.{AreCommands, HasMoreFault}
 use Rattle.command_parser.specs.declared.more_fault.MoreFault.TheVariants as fault

@@ -2,9 +2,8 @@ ghost use Rattle.std.specs.Prelude.{◌≡◌, IfSome};
 ghost use Rattle.crewdesk_main.specs.Words.{form_of, numbered_form, forecast_form, gen_form, record_form, when_form, number_in, HasNumbers};
 
 use crate::limits::MOST_SUPPOSED;
-use crate::read_number::read_number;
 use crate::tour_form::TourForm;
-use crate::words::is_alone;
+use crate::words::{is_alone, read_number};
 use day_gen::{SET_UP, most_commands};
 use day_replay::DayForm;
 use desk_base::{PersonNo, VacNo};

@@ -3,7 +3,7 @@ ghost use Rattle.std.specs.Prelude.{◌≡◌, ◌≢◌, ◌⊎◌, ◌≤◌, 
 ghost use Rattle.std.specs.Io.KnownBytes.{Appends, Keeps};
 ghost use Rattle.desk_io.specs.Faults.{Rose};
 ghost use Rattle.desk_io.specs.Giving.{AddsFront};
-ghost use Rattle.desk_model.specs.History.{opened};
+ghost use Rattle.desk_model.specs.histories.History.{opened};
 ghost use Rattle.line_writer.specs.Tally.{Counts, tally_text};
 ghost use Rattle.day_gen.specs.Day.{day_opening, generated_day};
 ghost use Rattle.day_gen.specs.Generator.{generator_of, most_commands};

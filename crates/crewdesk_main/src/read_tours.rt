@@ -1,9 +1,10 @@
 //! The tours of a journal, read as it stands.
-ghost use Rattle.std.specs.Prelude.{◌≡◌, ◌≢◌, ◌≤◌, ◌<◌, ◌+◌, ◌^◌, ◌++◌, length, IfOk, IfErr};
-ghost use Rattle.desk_model.specs.Opening.{OpeningValue, IsOpening};
-ghost use Rattle.desk_model.specs.History.{opened};
-ghost use Rattle.desk_model.specs.Journal.{journal};
-ghost use Rattle.crewdesk_main.specs.Records.{KeepsJournal, IsUnread};
+ghost use Rattle.std.specs.Prelude.{◌≡◌, ◌≢◌, ◌≤◌, ◌<◌, ◌+◌, ◌^◌, ◌++◌, length, IfOk, IfErr, ℕ, List, []};
+ghost use Rattle.desk_model.specs.statements.Opening.{OpeningValue, IsOpening};
+ghost use Rattle.desk_model.specs.histories.History.{opened, History};
+ghost use Rattle.desk_model.specs.texts.Journal.{journal};
+ghost use Rattle.crewdesk_main.specs.Records.{KeepsJournal, IsUnread, StartsWith, HasNoEntry};
+ghost use Rattle.audit_desk.specs.Found.{HasNoOpening};
 
 use audit_desk::{BYTE_LIMIT, Verdict, first_line};
 use desk_text::{each_line_ends_once, read_next_entry, read_opening};
@@ -55,3 +56,12 @@ fn read_entries(alloc: Global, text: &[u8]) -> Result<DutyRecords, Verdict>
     }
     Ok(records)
 }
+
+/// A text is the journal of one history at most, legal or not, or one line of it is the first that is no entry's, or its first is no
+/// opening's; and never two of these. It does nothing: its clauses are the law.
+pub fn a_text_is_read_in_one_way()
+    ensures history { (text : List ℕ) (h i : History) → StartsWith text h [] → StartsWith text i [] → h ≡ i }
+    ensures line { (text : List ℕ) (l m : ℕ) → HasNoEntry text l → HasNoEntry text m → l ≡ m }
+    ensures no_line { (text : List ℕ) (h : History) (l : ℕ) → StartsWith text h [] → ¬ HasNoEntry text l }
+    ensures opening { (text rest : List ℕ) (h : History) → StartsWith text h rest → ¬ HasNoOpening text }
+{}

@@ -7,7 +7,7 @@ ghost use Rattle.desk_io.specs.Input.{TookMore, TookFront};
 ghost use Rattle.command_parser.specs.DayFile.{HasTooMany, HasNoOpening};
 ghost use Rattle.day_replay.specs.Ends.{WasRead, WritesOrFails, writes};
 ghost use Rattle.day_replay.specs.Replay.{FindsWrong, EndsByTheDay};
-ghost use Rattle.day_replay.specs.declared.limits.TheConstants.{BYTE_LIMIT};
+ghost use Rattle.day_replay.specs.declared.day_input.TheConstants.{BYTE_LIMIT};
 ghost use Rattle.serve_desk.specs.Serve.{IsNoNumberOfLines};
 ghost use Rattle.crewdesk_main.specs.Callers.{ServesNames};
 

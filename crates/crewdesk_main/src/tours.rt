@@ -4,7 +4,7 @@ ghost use Rattle.std.specs.Io.KnownBytes.{Appends, Keeps as Stays};
 ghost use Rattle.desk_io.specs.Faults.{Rose};
 ghost use Rattle.desk_io.specs.Giving.{AddsFront};
 ghost use Rattle.desk_io.specs.Input.{TookMore, TookFront};
-ghost use Rattle.desk_model.specs.History.{History};
+ghost use Rattle.desk_model.specs.histories.History.{History};
 ghost use Rattle.audit_desk.specs.Found.{HasNoOpening};
 ghost use Rattle.duty_record.specs.Kept.{Keeps};
 ghost use Rattle.day_replay.specs.Ends.{WasRead, WritesOrFails, writes};

@@ -1,9 +1,10 @@
 //! The words that the program is given.
 ghost use Rattle.std.specs.Prelude.{◌≡◌, drop, IfOk};
 ghost use Rattle.std.specs.Vec.Iter.{into_iter_items};
-ghost use Rattle.crewdesk_main.specs.Words.{is_alone};
+ghost use Rattle.crewdesk_main.specs.Words.{is_alone, number_in};
 
 use desk_base::NoMemory;
+use itoa::Buffer;
 use std::alloc::Global;
 use std::env::Args;
 
@@ -27,5 +28,17 @@ pub fn is_alone(words: &[String], form: &str) -> bool
     match words {
         [word] => word.as_str() == form,
         _ => false,
+    }
+}
+
+/// The number that a word spells in decimal, without a sign or a leading zero, 0 to 2^64 - 1; `None` for any other word.
+pub fn read_number(word: &str) -> Option<u64>
+    ensures { result ≡ number_in word.now }
+{
+    let number = word.parse::<u64>().ok()?;
+    if Buffer::new().format(number) == word {
+        Some(number)
+    } else {
+        None
     }
 }

@@ -5,8 +5,8 @@ use Rattle.std.proofs.lemmas.List.Elements.{All-nil, All-push}
 use Rattle.std.proofs.lemmas.Option.{slice_get_within}
 use Rattle.desk_model.specs.declared.command.Cmd.{Cmd}
 use Rattle.desk_model.specs.declared.edition.Edition.{Edition}
-use Rattle.desk_model.specs.History.{with_entry}
-use Rattle.desk_model.specs.Legal.{next, moment, answer}
+use Rattle.desk_model.specs.histories.History.{with_entry}
+use Rattle.desk_model.specs.histories.Legal.{next, moment, answer}
 use Rattle.day_gen.specs.declared.due.Due.{Due}
 use Rattle.day_gen.specs.declared.due.Due.TheVariants as due
 use Rattle.day_gen.specs.SetUp.{set_up}

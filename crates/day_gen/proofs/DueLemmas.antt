@@ -10,10 +10,10 @@ use Rattle.desk_model.specs.declared.command.Cmd.TheVariants as cmd
 use Rattle.desk_model.specs.declared.offer.Offer.{Offer}
 use Rattle.desk_model.specs.declared.reply.Reply.{Reply}
 use Rattle.desk_model.specs.declared.reply.Reply.TheVariants as reply
-use Rattle.desk_model.specs.Entry.{EntryValue}
-use Rattle.desk_model.specs.Fits.{IsCommand, FitsReply, Fits}
-use Rattle.desk_model.specs.History.{History}
-use Rattle.desk_model.specs.Offers.{asks_for, offer_in}
+use Rattle.desk_model.specs.statements.Entry.{EntryValue}
+use Rattle.desk_model.specs.statements.Fits.{IsCommand, FitsReply, Fits}
+use Rattle.desk_model.specs.histories.History.{History}
+use Rattle.desk_model.specs.offers.Offers.{asks_for, offer_in}
 use Rattle.desk_model.proofs.FoundLemmas.{last_of-says}
 use Rattle.day_gen.specs.declared.due.Due.{Due}
 use Rattle.day_gen.specs.declared.due.Due.TheVariants as due

@@ -5,10 +5,10 @@ use Rattle.std.proofs.lemmas.Bool.{ne_eqb, eq-eqb}
 use Rattle.desk_model.specs.declared.command.Cmd.{Cmd}
 use Rattle.desk_model.specs.declared.command.Cmd.TheVariants as cmd
 use Rattle.desk_model.specs.declared.edition.Edition.{Edition}
-use Rattle.desk_model.specs.Job.{JobValue}
-use Rattle.desk_model.specs.Entry.{EntryValue}
-use Rattle.desk_model.specs.History.{History, with_entry, is_done, said}
-use Rattle.desk_model.specs.Register.{makes, vacancy_of}
+use Rattle.desk_model.specs.statements.Job.{JobValue}
+use Rattle.desk_model.specs.statements.Entry.{EntryValue}
+use Rattle.desk_model.specs.histories.History.{History, with_entry, is_done, said}
+use Rattle.desk_model.specs.histories.Register.{makes, vacancy_of}
 use Rattle.desk_model.proofs.SaidLemmas.{last_of-snoc, first_of-snoc}
 use Rattle.day_gen.specs.declared.course.Course.{Course}
 use Rattle.day_gen.specs.Draws.{moved, drawn}

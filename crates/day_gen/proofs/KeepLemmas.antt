@@ -3,11 +3,11 @@ use Rattle.std.proofs.Common.{◌≡◌, ℕ, suc, ◌+◌, ◌*◌, ◌≤◌, 
 use Rattle.std.specs.Prelude.{⊤}
 use Rattle.desk_model.specs.declared.command.Cmd.{Cmd}
 use Rattle.desk_model.specs.declared.edition.Edition.{Edition}
-use Rattle.desk_model.specs.Job.{JobValue}
-use Rattle.desk_model.specs.Entry.{EntryValue}
-use Rattle.desk_model.specs.History.{History, with_entry, is_done, said}
-use Rattle.desk_model.specs.Offers.{asks_for, offer_in}
-use Rattle.desk_model.specs.Register.{makes, vacancy_of}
+use Rattle.desk_model.specs.statements.Job.{JobValue}
+use Rattle.desk_model.specs.statements.Entry.{EntryValue}
+use Rattle.desk_model.specs.histories.History.{History, with_entry, is_done, said}
+use Rattle.desk_model.specs.offers.Offers.{asks_for, offer_in}
+use Rattle.desk_model.specs.histories.Register.{makes, vacancy_of}
 use Rattle.desk_model.proofs.SaidLemmas.{last_of-snoc, first_of-silent, last_of-silent}
 use Rattle.day_gen.specs.declared.due.Due.{Due}
 use Rattle.day_gen.specs.declared.due.Due.TheVariants as due

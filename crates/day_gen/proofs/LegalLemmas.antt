@@ -2,9 +2,9 @@
 use Rattle.std.proofs.Common.{ℕ, zero, suc, ◌≤◌, ◌<◌, length, arith}
 use Rattle.std.specs.List.{All}
 use Rattle.desk_model.specs.declared.edition.Edition.{Edition}
-use Rattle.desk_model.specs.Fits.{IsStated, Fits}
-use Rattle.desk_model.specs.History.{History}
-use Rattle.desk_model.specs.Legal.{next, MayState, IsLegal}
+use Rattle.desk_model.specs.statements.Fits.{IsStated, Fits}
+use Rattle.desk_model.specs.histories.History.{History}
+use Rattle.desk_model.specs.histories.Legal.{next, MayState, IsLegal}
 use Rattle.desk_model.proofs.LegalLemmas.{legal-opened, legal-with, IsNext-next}
 use Rattle.day_gen.specs.Turn.{stated_by}
 use Rattle.day_gen.specs.Due.{job_due}

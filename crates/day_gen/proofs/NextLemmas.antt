@@ -5,12 +5,12 @@ use Rattle.std.specs.List.{slice_get}
 use Rattle.desk_model.specs.declared.command.Cmd.{Cmd}
 use Rattle.desk_model.specs.declared.edition.Edition.{Edition}
 use Rattle.desk_model.specs.declared.edition.Edition.TheVariants as edition
-use Rattle.desk_model.specs.Job.{JobValue}
-use Rattle.desk_model.specs.Statement.{stated_of}
-use Rattle.desk_model.specs.Entry.{EntryValue}
-use Rattle.desk_model.specs.History.{History}
-use Rattle.desk_model.specs.Legal.{next}
-use Rattle.desk_model.specs.Register.{vacancy_of}
+use Rattle.desk_model.specs.statements.Job.{JobValue}
+use Rattle.desk_model.specs.statements.Statement.{stated_of}
+use Rattle.desk_model.specs.statements.Entry.{EntryValue}
+use Rattle.desk_model.specs.histories.History.{History}
+use Rattle.desk_model.specs.histories.Legal.{next}
+use Rattle.desk_model.specs.histories.Register.{vacancy_of}
 use Rattle.desk_model.proofs.SaidLemmas.{last_of-snoc}
 use Rattle.day_gen.specs.declared.course.Course.{Course}
 use Rattle.day_gen.specs.declared.due.Due.{Due}

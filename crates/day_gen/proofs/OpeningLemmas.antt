@@ -7,8 +7,8 @@ use Rattle.desk_base.proofs.MonthLemmas.{first_day_mono, first_day-2000, first_d
 use Rattle.qualifications.specs.declared.craft.Craft.{Craft}
 use Rattle.qualifications.specs.declared.craft.Craft.TheVariants as craft
 use Rattle.desk_model.specs.declared.edition.Edition.{Edition}
-use Rattle.desk_model.specs.Chain.{IsChain}
-use Rattle.desk_model.specs.Opening.{IsOpening}
+use Rattle.desk_model.specs.statements.Chain.{IsChain}
+use Rattle.desk_model.specs.statements.Opening.{IsOpening}
 use Rattle.day_gen.specs.SetUp.{HOME, pool_of, extra_of}
 use Rattle.day_gen.specs.Rules.{chain_of}
 use Rattle.day_gen.specs.Day.{start, day_opening}

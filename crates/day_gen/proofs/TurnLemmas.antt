@@ -6,10 +6,10 @@ use Rattle.desk_model.specs.declared.command.Cmd.TheVariants as cmd
 use Rattle.desk_model.specs.declared.edition.Edition.{Edition}
 use Rattle.desk_model.specs.declared.offer.Offer.{Offer}
 use Rattle.desk_model.specs.declared.reply.Reply.{Reply}
-use Rattle.desk_model.specs.Entry.{EntryValue, entry_of}
-use Rattle.desk_model.specs.History.{History, with_entry, is_done, said}
-use Rattle.desk_model.specs.Offers.{asks_for, offer_in}
-use Rattle.desk_model.specs.Register.{makes, vacancy_of}
+use Rattle.desk_model.specs.statements.Entry.{EntryValue, entry_of}
+use Rattle.desk_model.specs.histories.History.{History, with_entry, is_done, said}
+use Rattle.desk_model.specs.offers.Offers.{asks_for, offer_in}
+use Rattle.desk_model.specs.histories.Register.{makes, vacancy_of}
 use Rattle.desk_model.proofs.SaidLemmas.{last_of-snoc}
 use Rattle.day_gen.specs.declared.course.Course.{Course}
 use Rattle.day_gen.specs.declared.due.Due.TheVariants as due

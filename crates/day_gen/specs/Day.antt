@@ -4,11 +4,11 @@ use Rattle.desk_base.specs.Month.{first_minute}
 use Rattle.desk_base.specs.Window.{window_of}
 use Rattle.desk_model.specs.declared.command.Cmd.{Cmd}
 use Rattle.desk_model.specs.declared.edition.Edition.{Edition}
-use Rattle.desk_model.specs.Opening.{OpeningValue, opening_of}
-use Rattle.desk_model.specs.Job.{JobValue}
-use Rattle.desk_model.specs.Statement.{StatedValue}
-use Rattle.desk_model.specs.History.{History, opened, with_entry}
-use Rattle.desk_model.specs.Legal.{next}
+use Rattle.desk_model.specs.statements.Opening.{OpeningValue, opening_of}
+use Rattle.desk_model.specs.statements.Job.{JobValue}
+use Rattle.desk_model.specs.statements.Statement.{StatedValue}
+use Rattle.desk_model.specs.histories.History.{History, opened, with_entry}
+use Rattle.desk_model.specs.histories.Legal.{next}
 use Rattle.day_gen.specs.declared.numbers.TheConstants.{FIRST_MONTH, MONTHS, ANSWER}
 use Rattle.day_gen.specs.declared.course.Course.{Course}
 use Rattle.day_gen.specs.declared.due.Due.{Due}

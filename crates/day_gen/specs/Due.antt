@@ -5,11 +5,11 @@ use Rattle.duty_events.specs.declared.event.Event.TheVariants as event
 use Rattle.desk_model.specs.declared.command.Cmd.{Cmd}
 use Rattle.desk_model.specs.declared.command.Cmd.TheVariants as cmd
 use Rattle.desk_model.specs.declared.offer.Offer.{Offer}
-use Rattle.desk_model.specs.Entry.{EntryValue}
-use Rattle.desk_model.specs.History.{History, is_done, said, last_of}
-use Rattle.desk_model.specs.Job.{JobValue}
-use Rattle.desk_model.specs.Offers.{asks_for, offer_in}
-use Rattle.desk_model.specs.Register.{vacancy_of}
+use Rattle.desk_model.specs.statements.Entry.{EntryValue}
+use Rattle.desk_model.specs.histories.History.{History, is_done, said, last_of}
+use Rattle.desk_model.specs.statements.Job.{JobValue}
+use Rattle.desk_model.specs.offers.Offers.{asks_for, offer_in}
+use Rattle.desk_model.specs.histories.Register.{vacancy_of}
 use Rattle.day_gen.specs.declared.due.Due.{Due}
 use Rattle.day_gen.specs.declared.due.Due.TheVariants as due
 

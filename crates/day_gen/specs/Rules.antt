@@ -8,7 +8,7 @@ use Rattle.desk_model.specs.declared.command.Cmd.{Cmd}
 use Rattle.desk_model.specs.declared.command.Cmd.TheVariants as cmd
 use Rattle.desk_model.specs.declared.edition.Edition.{Edition}
 use Rattle.desk_model.specs.declared.edition.Edition.TheVariants as edition
-use Rattle.desk_model.specs.Job.{JobValue, job_of}
+use Rattle.desk_model.specs.statements.Job.{JobValue, job_of}
 use Rattle.day_gen.specs.declared.numbers.TheConstants.{PERSONS}
 use Rattle.day_gen.specs.declared.course.Course.{Course}
 use Rattle.day_gen.specs.declared.due.Due.{Due}

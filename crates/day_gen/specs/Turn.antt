@@ -1,6 +1,6 @@
 -- A generator's turns.
 use Rattle.desk_model.specs.declared.command.Cmd.{Cmd}
-use Rattle.desk_model.specs.Statement.{StatedValue, stated_of}
+use Rattle.desk_model.specs.statements.Statement.{StatedValue, stated_of}
 use Rattle.day_gen.specs.declared.course.Course.{Course}
 
 -- how far the generator has come by then, and the command that it gives

@@ -1,8 +1,7 @@
 ghost use Rattle.std.specs.Prelude.{◌≡◌, ◌≤◌, ◌<◌, IfSome, IfNone};
 ghost use Rattle.std.specs.Option.{option_copied, option_or};
-ghost use Rattle.day_gen.specs.Due.{last_entry};
+ghost use Rattle.day_gen.specs.Due.{last_entry, plans};
 ghost use Rattle.day_gen.specs.Day.{day_opening, generated_day, day_statement};
-ghost use Rattle.day_gen.specs.Due.{plans};
 ghost use Rattle.day_gen.specs.Generator.{generator_of, most_commands, one_more};
 
 use crate::codes::Codes;

@@ -1,6 +1,6 @@
 ghost use Rattle.std.specs.Prelude.{◌≡◌, ℕ};
 ghost use Rattle.std.specs.Option.{option_copied};
-ghost use Rattle.desk_model.specs.Offers.{asks_for, offer_in};
+ghost use Rattle.desk_model.specs.offers.Offers.{asks_for, offer_in};
 ghost use Rattle.day_gen.specs.Due.{due_after_done, due_after_offer, due_after, due_by};
 
 use desk_base::{PersonNo, VacNo};

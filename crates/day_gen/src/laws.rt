@@ -2,10 +2,10 @@
 ghost use Rattle.std.specs.Prelude.{◌≡◌, ◌≤◌, ◌<◌, ◌+◌, ℕ, Some, length};
 ghost use Rattle.std.specs.List.{All};
 ghost use Rattle.desk_model.specs.declared.edition.Edition.{Edition as EditionValue};
-ghost use Rattle.desk_model.specs.Job.{JobValue};
-ghost use Rattle.desk_model.specs.Fits.{IsStated};
-ghost use Rattle.desk_model.specs.History.{opened, with_entry};
-ghost use Rattle.desk_model.specs.Legal.{next, IsLegal};
+ghost use Rattle.desk_model.specs.statements.Job.{JobValue};
+ghost use Rattle.desk_model.specs.statements.Fits.{IsStated};
+ghost use Rattle.desk_model.specs.histories.History.{opened, with_entry};
+ghost use Rattle.desk_model.specs.histories.Legal.{next, IsLegal};
 ghost use Rattle.day_gen.specs.declared.numbers.TheConstants.{COMMANDS};
 ghost use Rattle.day_gen.specs.Due.{last_entry, due_by, job_due, planned_last};
 ghost use Rattle.day_gen.specs.Day.{day_opening, generated_day, day_statement};

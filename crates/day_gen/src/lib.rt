@@ -8,7 +8,6 @@ mod due;
 mod laws;
 mod numbers;
 mod plan;
-mod rules;
 mod set_up;
 
 pub use day_gen::DayGen;

@@ -3,13 +3,13 @@ use Rattle.std.proofs.Common.{◌≡◌, ℕ, ◌-◌, min, Option, List, ◌++�
 use Rattle.std.proofs.Math.Seq.{take-append_seam, drop-append_seam}
 use Rattle.std.proofs.lemmas.List.{length-map, take_all}
 use Rattle.desk_io.specs.Giving.{AddsFront}
-use Rattle.desk_model.specs.Opening.{OpeningValue}
-use Rattle.desk_model.specs.Statement.{StatedValue}
-use Rattle.desk_model.specs.Entry.{EntryValue}
-use Rattle.desk_model.specs.History.{History, history_of, opened}
-use Rattle.desk_model.specs.Legal.{given, history_from}
+use Rattle.desk_model.specs.statements.Opening.{OpeningValue}
+use Rattle.desk_model.specs.statements.Statement.{StatedValue}
+use Rattle.desk_model.specs.statements.Entry.{EntryValue}
+use Rattle.desk_model.specs.histories.History.{History, history_of, opened}
+use Rattle.desk_model.specs.histories.Legal.{given, history_from}
 use Rattle.desk_model.proofs.LegalLemmas.{legal-opened}
-use Rattle.desk_model.specs.Journal.{entry_lines, journal}
+use Rattle.desk_model.specs.texts.Journal.{entry_lines, journal}
 use Rattle.forecast.specs.Supposed.{by_nobody, IsSupposed, OnlyThese}
 use Rattle.earliest_minute.specs.declared.earliest.Earliest.{Earliest}
 use Rattle.earliest_minute.specs.When.{when_of}

@@ -7,12 +7,12 @@ use Rattle.std.proofs.lemmas.Grind.{flat_map-append}
 use Rattle.std.proofs.Math.Seq.{take-append-add}
 use Rattle.desk_io.specs.Giving.{AddsFront}
 use Rattle.line_writer.proofs.JournalLemmas.{journal-next}
-use Rattle.desk_model.specs.Entry.{EntryValue}
-use Rattle.desk_model.specs.Opening.{OpeningValue}
-use Rattle.desk_model.specs.Statement.{StatedValue}
-use Rattle.desk_model.specs.History.{History, history_of, with_entry}
-use Rattle.desk_model.specs.Legal.{next, history_from}
-use Rattle.desk_model.specs.Journal.{opening_line, entry_line, entry_lines, journal}
+use Rattle.desk_model.specs.statements.Entry.{EntryValue}
+use Rattle.desk_model.specs.statements.Opening.{OpeningValue}
+use Rattle.desk_model.specs.statements.Statement.{StatedValue}
+use Rattle.desk_model.specs.histories.History.{History, history_of, with_entry}
+use Rattle.desk_model.specs.histories.Legal.{next, history_from}
+use Rattle.desk_model.specs.texts.Journal.{opening_line, entry_line, entry_lines, journal}
 use Rattle.day_replay.specs.Gathered.{Gathers}
 use Rattle.day_replay.specs.Replay.{by_the_day_file, goes_on}
 use Rattle.day_replay.proofs.HistoryLemmas.{goes_on-behind}

@@ -3,14 +3,14 @@ use Rattle.std.proofs.Common.{◌≡◌, ◌⊎◌, inl, inr, ℕ, ◌<◌, ◌�
 use Rattle.desk_io.specs.Input.{TookAll}
 use Rattle.desk_io.specs.declared.status.Status.{Status}
 use Rattle.desk_io.specs.declared.status.Status.TheVariants.{Fine, WriteFault, NoMemory}
-use Rattle.desk_model.specs.Opening.{OpeningValue, IsOpening}
-use Rattle.desk_model.specs.Statement.{StatedValue}
-use Rattle.desk_model.specs.History.{History}
+use Rattle.desk_model.specs.statements.Opening.{OpeningValue, IsOpening}
+use Rattle.desk_model.specs.statements.Statement.{StatedValue}
+use Rattle.desk_model.specs.histories.History.{History}
 use Rattle.std.proofs.lemmas.List.{length-map}
-use Rattle.desk_model.specs.StatedTexts.{stated_fields}
+use Rattle.desk_model.specs.texts.StatedTexts.{stated_fields}
 use Rattle.command_parser.specs.declared.limits.TheConstants.{RECORD_LIMIT}
 use Rattle.line_writer.specs.Line.{wrong_line}
-use Rattle.day_replay.specs.declared.limits.TheConstants.{BYTE_LIMIT}
+use Rattle.day_replay.specs.declared.day_input.TheConstants.{BYTE_LIMIT}
 use Rattle.command_parser.specs.declared.day_fault.DayFault.{DayFault}
 use Rattle.command_parser.specs.declared.day_fault.DayFault.TheVariants as fault
 use Rattle.command_parser.specs.DayFile.{IsDayFile, IsSomeDayFile, HasUnreadable, IsUnreadable, HasFault}

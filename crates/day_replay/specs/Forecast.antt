@@ -1,11 +1,11 @@
 -- What would be, in lines of text.
 use Rattle.std.specs.Prelude.{◌≡◌, ℕ, ◌-◌, min, List, [], ◌∷◌, ◌++◌, length, take, drop, codes}
 use Rattle.desk_base.specs.Minute.{minute_text}
-use Rattle.desk_model.specs.BarTexts.{late_text, bar_text}
-use Rattle.desk_model.specs.Opening.{OpeningValue}
-use Rattle.desk_model.specs.Entry.{EntryValue}
-use Rattle.desk_model.specs.History.{History, history_of}
-use Rattle.desk_model.specs.Journal.{entry_lines, journal}
+use Rattle.desk_model.specs.texts.BarTexts.{late_text, bar_text}
+use Rattle.desk_model.specs.statements.Opening.{OpeningValue}
+use Rattle.desk_model.specs.statements.Entry.{EntryValue}
+use Rattle.desk_model.specs.histories.History.{History, history_of}
+use Rattle.desk_model.specs.texts.Journal.{entry_lines, journal}
 use Rattle.line_writer.specs.Tally.{count_line}
 use Rattle.earliest_minute.specs.declared.earliest.Earliest.{Earliest}
 use Rattle.earliest_minute.specs.declared.earliest.Earliest.TheVariants as earliest

@@ -6,17 +6,17 @@ use Rattle.std.specs.Io.KnownBytes.{Appends}
 use Rattle.desk_io.specs.Faults.{Rose}
 use Rattle.desk_io.specs.Giving.{AddsFront}
 use Rattle.desk_io.specs.Input.{TookMore, TookFront}
-use Rattle.desk_model.specs.Opening.{OpeningValue, IsOpening}
-use Rattle.desk_model.specs.Statement.{StatedValue}
-use Rattle.desk_model.specs.History.{History, opened}
-use Rattle.desk_model.specs.Legal.{IsLegal, given, history_from}
-use Rattle.desk_model.specs.Journal.{journal}
+use Rattle.desk_model.specs.statements.Opening.{OpeningValue, IsOpening}
+use Rattle.desk_model.specs.statements.Statement.{StatedValue}
+use Rattle.desk_model.specs.histories.History.{History, opened}
+use Rattle.desk_model.specs.histories.Legal.{IsLegal, given, history_from}
+use Rattle.desk_model.specs.texts.Journal.{journal}
 use Rattle.line_writer.specs.Line.{wrong_line}
 use Rattle.line_writer.specs.Tally.{tally_text}
 use Rattle.command_parser.specs.DayFile.{IsDayFile, IsSomeDayFile, HasTooMany, HasNoOpening, HasUnreadable, IsUnreadable}
 use Rattle.day_replay.specs.declared.day_form.DayForm.{DayForm}
 use Rattle.day_replay.specs.declared.day_form.DayForm.TheVariants as form
-use Rattle.day_replay.specs.declared.limits.TheConstants.{BYTE_LIMIT}
+use Rattle.day_replay.specs.declared.day_input.TheConstants.{BYTE_LIMIT}
 use Rattle.day_replay.specs.Forecast.{forecast_text, when_text}
 use Rattle.day_replay.specs.Ends.{WasRead, WritesOrFails, Tells, TellsMore, EndsAs}
 

@@ -4,15 +4,14 @@ ghost use Rattle.std.specs.Bool.{OnTrue, OnFalse};
 ghost use Rattle.std.specs.Io.KnownBytes.{Appends};
 ghost use Rattle.desk_io.specs.Faults.{Rose};
 ghost use Rattle.desk_io.specs.Giving.{AddsFront};
-ghost use Rattle.desk_model.specs.Opening.{OpeningValue};
-ghost use Rattle.desk_model.specs.History.{opened};
+ghost use Rattle.desk_model.specs.statements.Opening.{OpeningValue};
+ghost use Rattle.desk_model.specs.histories.History.{opened};
 ghost use Rattle.day_replay.specs.Forecast.{IsParted, forecast_lines};
 ghost use Rattle.day_replay.specs.Replay.{day_history};
 
 use crate::gather;
 use crate::journal::gather_history;
-use crate::lines::gather_lines;
-use crate::supposed_line::write_supposed;
+use crate::lines::{gather_lines, write_supposed};
 use desk_base::NoMemory;
 use desk_io::{Sink, put_all};
 use desk_model::{DeskCore, Entry, Opening, Stated};

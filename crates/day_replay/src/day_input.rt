@@ -1,17 +1,17 @@
+//! A day file, taken from a source.
 ghost use Rattle.std.specs.Prelude.{◌≡◌, ◌≢◌, ◌<◌, ◌≤◌, ◌⊎◌, vec_len, IfOk, IfErr, IsErrOf};
 ghost use Rattle.std.specs.List.{All};
 ghost use Rattle.std.specs.Io.KnownBytes.{Keeps};
 ghost use Rattle.desk_io.specs.Faults.{Rose};
 ghost use Rattle.desk_io.specs.Input.{TookMore, TookFront};
-ghost use Rattle.desk_model.specs.Fits.{IsStated};
-ghost use Rattle.desk_model.specs.Opening.{IsOpening};
+ghost use Rattle.desk_model.specs.statements.Fits.{IsStated};
+ghost use Rattle.desk_model.specs.statements.Opening.{IsOpening};
 ghost use Rattle.line_writer.specs.Line.{wrong_line};
 ghost use Rattle.command_parser.specs.DayFile.{IsDayFile, HasTooMany, HasNoOpening};
 ghost use Rattle.command_parser.specs.declared.limits.TheConstants.{RECORD_LIMIT};
 ghost use Rattle.day_replay.specs.Ends.{WasRead, WritesOrFails};
 ghost use Rattle.day_replay.specs.Replay.{FindsWrong, EndsByTheDay, IsNoDay, taking_status};
 
-use crate::BYTE_LIMIT;
 use command_parser::{DayFault, DayFile, read_day};
 use desk_io::{Sink, Source, Status, put_all, take_all};
 use line_writer::write_wrong;
@@ -83,3 +83,11 @@ pub fn tell_wrong<K: Sink>(record_no: u32, field: u8, sink: &mut K) -> Status
     let _whole = put_all(sink, write_wrong(record_no, field).as_slice());
     Status::Unreadable
 }
+
+/// How many bytes a day file may have.
+pub const BYTE_LIMIT: usize = 16_777_216;
+
+/// How many bytes a day file may have. It does nothing: its clause is the law.
+pub fn the_most_bytes_of_a_day_file()
+    ensures { BYTE_LIMIT ≡ 16_777_216 }
+{}

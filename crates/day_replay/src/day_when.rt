@@ -1,6 +1,6 @@
 //! From when on nothing bars somebody from a vacancy, after a day.
 ghost use Rattle.std.specs.Prelude.{◌≡◌, ◌≤◌, length};
-ghost use Rattle.desk_model.specs.History.{History};
+ghost use Rattle.desk_model.specs.histories.History.{History};
 ghost use Rattle.earliest_minute.specs.When.{when_of};
 ghost use Rattle.day_replay.specs.Replay.{goes_on};
 

@@ -4,8 +4,8 @@ ghost use Rattle.std.specs.Bool.{OnTrue, OnFalse};
 ghost use Rattle.std.specs.Io.KnownBytes.{Appends};
 ghost use Rattle.desk_io.specs.Faults.{Rose};
 ghost use Rattle.desk_io.specs.Giving.{AddsFront};
-ghost use Rattle.desk_model.specs.History.{History, history_of, opened};
-ghost use Rattle.desk_model.specs.Journal.{journal};
+ghost use Rattle.desk_model.specs.histories.History.{History, history_of, opened};
+ghost use Rattle.desk_model.specs.texts.Journal.{journal};
 ghost use Rattle.day_replay.specs.Gathered.{Gathers};
 ghost use Rattle.day_replay.specs.Replay.{day_history, goes_on};
 

@@ -8,14 +8,11 @@ mod day_tally;
 mod day_when;
 mod earliest_line;
 mod journal;
-mod limits;
 mod lines;
 mod replay;
-mod supposed_line;
 
 pub use day_form::DayForm;
-pub use day_input::{take_day, tell_wrong};
+pub use day_input::{BYTE_LIMIT, take_day, tell_wrong, the_most_bytes_of_a_day_file};
 pub use journal::{write_entries, write_history, write_journal};
-pub use limits::{BYTE_LIMIT, the_most_bytes_of_a_day_file};
 pub use lines::gather;
 pub use replay::replay_day;

@@ -3,12 +3,13 @@ ghost use Rattle.std.specs.Prelude.{◌≡◌, ◌≤◌, ◌++◌, length, vec_
 ghost use Rattle.std.specs.Bool.{OnTrue, OnFalse};
 ghost use Rattle.desk_io.specs.Faults.{Rose};
 ghost use Rattle.desk_io.specs.Giving.{AddsFront};
-ghost use Rattle.desk_model.specs.Journal.{entry_lines};
+ghost use Rattle.desk_model.specs.texts.Journal.{entry_lines};
 ghost use Rattle.day_replay.specs.Gathered.{Gathers};
+ghost use Rattle.day_replay.specs.Forecast.{supposed_line};
 
 use desk_io::{Sink, put_all};
 use desk_model::Entry;
-use line_writer::{LineText, fill_with_entry};
+use line_writer::{LineText, fill_with_entry, put_count};
 use record_rows::LastMinute;
 
 /// Adds a line to those that wait in the buffer. Where it doesn't fit, these are put into the sink first: it says
@@ -59,4 +60,13 @@ pub(crate) fn gather_lines<K: Sink>(buffer: &mut Vec<u8>, entries: &[Entry], sin
         }
     }
     true
+}
+
+/// The line that says of how many entries behind it the commands are only supposed.
+pub(crate) fn write_supposed(count: usize) -> LineText
+    ensures { result.items ≡ supposed_line count }
+{
+    let mut line = LineText::new();
+    put_count(&mut line, b"supposed", count as u64);
+    line
 }

@@ -3,10 +3,8 @@
 
 mod bar;
 mod facts;
-mod laws;
 mod table;
 
 pub use bar::{Bar, name};
 pub use facts::Facts;
-pub use laws::the_law_comes_last;
-pub use table::{busy_bar, first_bar};
+pub use table::{busy_bar, first_bar, the_law_comes_last};

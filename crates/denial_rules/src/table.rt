@@ -1,7 +1,8 @@
 ghost use Rattle.std.specs.Prelude.{◌≡◌, ◌↔◌, IsNone, Some};
 ghost use Rattle.denial_rules.specs.declared.facts.Facts.{Facts};
 ghost use Rattle.denial_rules.specs.declared.bar.Bar.{Bar};
-ghost use Rattle.denial_rules.specs.Table.{first_bar, busy_bar, IsFree};
+ghost use Rattle.denial_rules.specs.Table.{first_bar, busy_bar, IsFree, without_law};
+ghost use Rattle.std.specs.Option.{option_or};
 
 use crate::{Bar, Facts};
 use desk_base::VacNo;
@@ -59,3 +60,8 @@ pub fn busy_bar(
         None
     }
 }
+
+/// The law's bar is told where no other holds, so that it need not be looked for before. It does nothing: its clause is the law.
+pub fn the_law_comes_last()
+    ensures { (facts : Facts) → first_bar facts ≡ option_or (first_bar (without_law facts)) facts.law }
+{}

@@ -5,8 +5,8 @@ use Rattle.std.specs.List.{find}
 use Rattle.std.proofs.lemmas.List.{at_drop_more}
 use Rattle.std.proofs.lemmas.List.Folds.{find-append}
 use Rattle.desk_model.specs.declared.link.Link.{Link}
-use Rattle.desk_model.specs.History.{History}
-use Rattle.desk_model.specs.Boards.{order, links, chain}
+use Rattle.desk_model.specs.histories.History.{History}
+use Rattle.desk_model.specs.boards.Boards.{order, links, chain}
 
 length-links : (b : List ℕ) (position : ℕ) (ps : List ℕ) → length (links b position ps) ≡ length ps
 length-links b position [] = refl

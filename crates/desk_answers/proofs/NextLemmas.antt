@@ -1,10 +1,10 @@
 -- The entry that the rules give, by its parts.
 use Rattle.std.proofs.Common.{◌≡◌, ℕ, ap, ◌∙◌}
 use Rattle.desk_model.specs.declared.reply.Reply.{Reply}
-use Rattle.desk_model.specs.Statement.{StatedValue}
-use Rattle.desk_model.specs.Entry.{EntryValue, entry_of}
-use Rattle.desk_model.specs.History.{History}
-use Rattle.desk_model.specs.Legal.{moment, answer, next}
+use Rattle.desk_model.specs.statements.Statement.{StatedValue}
+use Rattle.desk_model.specs.statements.Entry.{EntryValue, entry_of}
+use Rattle.desk_model.specs.histories.History.{History}
+use Rattle.desk_model.specs.histories.Legal.{moment, answer, next}
 
 -- an entry of the moment and the answer is the next one
 pub next-is : (h : History) (caller : ℕ) (s : StatedValue) (m : ℕ) (reply : Reply) (e : EntryValue)

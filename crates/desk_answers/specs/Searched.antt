@@ -2,9 +2,9 @@
 use Rattle.std.specs.Prelude.{ℕ, Option, None, Some}
 use Rattle.desk_model.specs.declared.command.Cmd.{Cmd}
 use Rattle.desk_model.specs.declared.command.Cmd.TheVariants as cmd
-use Rattle.desk_model.specs.Job.{JobValue}
-use Rattle.desk_model.specs.History.{History}
-use Rattle.desk_model.specs.Register.{vacancy_of}
+use Rattle.desk_model.specs.statements.Job.{JobValue}
+use Rattle.desk_model.specs.histories.History.{History}
+use Rattle.desk_model.specs.histories.Register.{vacancy_of}
 
 -- so many as a search of the vacancy's chain takes; none where it was never made
 abbrev pub steps_of : (JobValue → ℕ) → Option JobValue → ℕ

@@ -1,8 +1,8 @@
 ghost use Rattle.std.specs.Prelude.{◌≡◌};
-ghost use Rattle.desk_model.specs.History.{History};
-ghost use Rattle.desk_model.specs.Duty.{events};
+ghost use Rattle.desk_model.specs.histories.History.{History};
+ghost use Rattle.desk_model.specs.histories.Duty.{events};
 ghost use Rattle.desk_model.specs.declared.reply.Reply.TheVariants as reply;
-ghost use Rattle.desk_model.specs.EventAnswer.{told_answer, past_answer, unless_frozen, event_answer};
+ghost use Rattle.desk_model.specs.answers.EventAnswer.{told_answer, past_answer, unless_frozen, event_answer};
 
 use crate::Reads;
 use desk_base::{Minute, PersonNo, VacNo};

@@ -1,6 +1,6 @@
 ghost use Rattle.std.specs.Prelude.{◌≡◌};
-ghost use Rattle.desk_model.specs.History.{History};
-ghost use Rattle.desk_model.specs.GiveUpAnswer.{over_answer, annul_answer, drop_answer};
+ghost use Rattle.desk_model.specs.histories.History.{History};
+ghost use Rattle.desk_model.specs.answers.GiveUpAnswer.{over_answer, annul_answer, drop_answer};
 
 use crate::Reads;
 use desk_base::{PersonNo, VacNo};

@@ -1,6 +1,6 @@
 ghost use Rattle.std.specs.Prelude.{◌≡◌};
-ghost use Rattle.desk_model.specs.History.{History};
-ghost use Rattle.desk_model.specs.Legal.{is_within, moment};
+ghost use Rattle.desk_model.specs.histories.History.{History};
+ghost use Rattle.desk_model.specs.histories.Legal.{is_within, moment};
 
 use crate::Reads;
 use desk_base::{Minute, Window};

@@ -1,9 +1,9 @@
 ghost use Rattle.std.specs.Prelude.{◌≡◌, ◌≤◌, ◌+◌, ℕ, Some, unwrap_or};
 ghost use Rattle.desk_model.specs.declared.reply.Reply.{Reply};
-ghost use Rattle.desk_model.specs.History.{History};
-ghost use Rattle.desk_model.specs.Register.{vacancy_of};
-ghost use Rattle.desk_model.specs.Legal.{last_moment};
-ghost use Rattle.desk_model.specs.NextAnswer.{vacant_answer, unless_closed, next_answer};
+ghost use Rattle.desk_model.specs.histories.History.{History};
+ghost use Rattle.desk_model.specs.histories.Register.{vacancy_of};
+ghost use Rattle.desk_model.specs.histories.Legal.{last_moment};
+ghost use Rattle.desk_model.specs.answers.NextAnswer.{vacant_answer, unless_closed, next_answer};
 ghost use Rattle.desk_answers.specs.Searched.{steps_of};
 
 use crate::Reads;

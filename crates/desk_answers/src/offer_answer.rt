@@ -1,12 +1,12 @@
 ghost use Rattle.std.specs.Prelude.{◌≡◌, ◌≤◌, ◌+◌};
-ghost use Rattle.desk_model.specs.History.{History};
-ghost use Rattle.desk_model.specs.Legal.{last_moment};
-ghost use Rattle.desk_model.specs.OfferAnswer.{named_answer, offer_answer};
-ghost use Rattle.desk_model.specs.Register.{vacancy_of};
+ghost use Rattle.desk_model.specs.histories.History.{History};
+ghost use Rattle.desk_model.specs.histories.Legal.{last_moment};
+ghost use Rattle.desk_model.specs.answers.OfferAnswer.{named_answer, offer_answer};
+ghost use Rattle.desk_model.specs.histories.Register.{vacancy_of};
 ghost use Rattle.desk_answers.specs.Searched.{steps_of};
 
 use crate::Reads;
-use crate::explain_answer::judge;
+use crate::look_answers::judge;
 use crate::next_answer::closed;
 use desk_base::{Minute, PersonNo, VacNo};
 use desk_model::{Link, Reply};

@@ -4,18 +4,18 @@ ghost use Rattle.duty_events.specs.Allowed.{judge};
 ghost use Rattle.duty_events.specs.Lists.{stage_of, latest};
 ghost use Rattle.month_hours.specs.Used.{used};
 ghost use Rattle.month_hours.specs.Capped.{capped};
-ghost use Rattle.desk_model.specs.Register.{person_of, persons, board_of, boards, vacancy_of, vacancies};
-ghost use Rattle.desk_model.specs.Boards.{is_on, boards_of, order, chain};
-ghost use Rattle.desk_model.specs.Duty.{events, is_closed};
-ghost use Rattle.desk_model.specs.Offers.{open_offer, on_offer};
-ghost use Rattle.desk_model.specs.Marks.{is_marked_off};
-ghost use Rattle.desk_model.specs.Assigned.{assigned};
-ghost use Rattle.desk_model.specs.States.{state_of};
-ghost use Rattle.desk_model.specs.Bars.{bar_of, first_free};
-ghost use Rattle.desk_model.specs.ExplainAnswer.{place_in};
-ghost use Rattle.desk_model.specs.LookAnswer.{member_at};
-ghost use Rattle.desk_model.specs.HoursAnswer.{has_month};
-ghost use Rattle.desk_model.specs.Legal.{last_moment};
+ghost use Rattle.desk_model.specs.histories.Register.{person_of, persons, board_of, boards, vacancy_of, vacancies};
+ghost use Rattle.desk_model.specs.boards.Boards.{is_on, boards_of, order, chain};
+ghost use Rattle.desk_model.specs.histories.Duty.{events, is_closed};
+ghost use Rattle.desk_model.specs.offers.Offers.{open_offer, on_offer};
+ghost use Rattle.desk_model.specs.boards.Marks.{is_marked_off};
+ghost use Rattle.desk_model.specs.offers.Assigned.{assigned};
+ghost use Rattle.desk_model.specs.offers.States.{state_of};
+ghost use Rattle.desk_model.specs.offers.Bars.{bar_of, first_free};
+ghost use Rattle.desk_model.specs.answers.ExplainAnswer.{place_in};
+ghost use Rattle.desk_model.specs.answers.LookAnswer.{member_at};
+ghost use Rattle.desk_model.specs.answers.HoursAnswer.{has_month};
+ghost use Rattle.desk_model.specs.histories.Legal.{last_moment};
 ghost use Rattle.desk_answers.specs.Asked.{IsAsked};
 
 use denial_rules::Bar;
@@ -26,9 +26,9 @@ use duty_events::{Event, EventFault, Stage};
 /// What can tell of the history that it stands for. It may want something to work with: lists, or a count of steps.
 pub trait Reads {
     ghost use Rattle.std.specs.Prelude.{ℕ};
-    ghost use Rattle.desk_model.specs.Job.{JobValue};
-    ghost use Rattle.desk_model.specs.History.{History};
-    ghost use Rattle.desk_model.specs.Legal.{IsLegal};
+    ghost use Rattle.desk_model.specs.statements.Job.{JobValue};
+    ghost use Rattle.desk_model.specs.histories.History.{History};
+    ghost use Rattle.desk_model.specs.histories.Legal.{IsLegal};
 
     /// What it is lent to work with.
     type Work;

@@ -2,8 +2,8 @@ ghost use Rattle.std.specs.Prelude.{◌≡◌, ℕ, IfOk};
 ghost use Rattle.desk_base.specs.Minute.{IsInYears};
 ghost use Rattle.desk_model.specs.declared.reply.Reply.{Reply};
 ghost use Rattle.desk_model.specs.declared.offer.Offer.{Offer};
-ghost use Rattle.desk_model.specs.History.{History};
-ghost use Rattle.desk_model.specs.SettleAnswer.{settle_answer, accept_answer, decline_answer, no_answer};
+ghost use Rattle.desk_model.specs.histories.History.{History};
+ghost use Rattle.desk_model.specs.answers.SettleAnswer.{settle_answer, accept_answer, decline_answer, no_answer};
 ghost use Rattle.desk_answers.specs.Answered.{answered};
 
 use crate::Reads;

@@ -1,8 +1,8 @@
 ghost use Rattle.std.specs.Prelude.{◌≡◌, not};
 ghost use Rattle.std.specs.List.{find};
-ghost use Rattle.desk_model.specs.History.{History};
-ghost use Rattle.desk_model.specs.Register.{board_of};
-ghost use Rattle.desk_model.specs.VacancyAnswer.{is_extra, unknown_in, bad_in, plan_answer, vacancy_answer};
+ghost use Rattle.desk_model.specs.histories.History.{History};
+ghost use Rattle.desk_model.specs.histories.Register.{board_of};
+ghost use Rattle.desk_model.specs.answers.VacancyAnswer.{is_extra, unknown_in, bad_in, plan_answer, vacancy_answer};
 
 use crate::Reads;
 use desk_base::{Code, Minute};

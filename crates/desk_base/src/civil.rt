@@ -15,7 +15,7 @@ fn epoch() -> Date
 }
 
 /// The date of that day.
-pub fn date_of(day: u32) -> Date
+pub(crate) fn date_of(day: u32) -> Date
     requires { day < 186_414 }
     ensures day { epoch_day result ≡ pos day }
     ensures first { pos 1970 ≤ℤ result.year }
@@ -25,7 +25,7 @@ pub fn date_of(day: u32) -> Date
 }
 
 /// The number of that date's day.
-pub fn day_of(date: Date) -> u32
+pub(crate) fn day_of(date: Date) -> u32
     requires { pos 1970 ≤ℤ date.year }
     ensures { epoch_day date ≡ pos result }
 {
@@ -33,7 +33,7 @@ pub fn day_of(date: Date) -> u32
 }
 
 /// The first date of that month.
-pub fn first_of(month: u16) -> Date
+pub(crate) fn first_of(month: u16) -> Date
     requires { month ≤ 6124 }
     ensures { IsYmd (pos (year_of month)) (pos (place_in_year month)) (pos 1) result }
 {
@@ -41,7 +41,7 @@ pub fn first_of(month: u16) -> Date
 }
 
 /// The first day of that month.
-pub fn first_day_of(month: u16) -> u32
+pub(crate) fn first_day_of(month: u16) -> u32
     requires { month ≤ 6124 }
     ensures { result ≡ first_day month }
 {
@@ -49,7 +49,7 @@ pub fn first_day_of(month: u16) -> u32
 }
 
 /// The month in which that date lies.
-pub fn month_at(date: Date) -> u16
+pub(crate) fn month_at(date: Date) -> u16
     requires low { pos 1970 ≤ℤ date.year }
     requires high { date.year ≤ℤ pos 2480 }
     ensures { IsMonthAt result date }

@@ -3,7 +3,7 @@ ghost use Rattle.std.specs.Prelude.{◌≡◌, ◌<◌, ℕ, ◌∷◌, [], IfSo
 ghost use Rattle.desk_base.specs.Month.{two_digits};
 
 /// The two digits of a number below 100.
-pub fn digits_of(number: u8) -> [u8; 2]
+pub(crate) fn digits_of(number: u8) -> [u8; 2]
     requires { number < 100 }
     ensures { result ≡ two_digits number }
 {
@@ -11,7 +11,7 @@ pub fn digits_of(number: u8) -> [u8; 2]
 }
 
 /// The number below 100 that two digits spell; `None` where one of the bytes is no digit.
-pub fn number_of(tens: u8, ones: u8) -> Option<u8>
+pub(crate) fn number_of(tens: u8, ones: u8) -> Option<u8>
     ensures some { IfSome result (λ number. (number < 100) × (tens ∷ ones ∷ [] ≡ two_digits number)) }
     ensures only { (number : ℕ) → number < 100 → tens ∷ ones ∷ [] ≡ two_digits number → result ≡ Some number }
 {

@@ -14,18 +14,18 @@ use Rattle.desk_model.specs.declared.reply.Reply.{Reply}
 use Rattle.desk_model.specs.declared.reply.Reply.TheVariants as reply
 use Rattle.desk_model.specs.declared.person.Person.{Person}
 use Rattle.desk_model.specs.declared.board_setup.BoardSetup.{BoardSetup}
-use Rattle.desk_model.specs.Statement.{stated_of}
-use Rattle.desk_model.specs.Entry.{EntryValue, entry_of}
-use Rattle.desk_model.specs.History.{History, with_entry, is_done, said}
-use Rattle.desk_model.specs.Register.{person_of, quals_of, board_of, persons, boards}
-use Rattle.desk_model.specs.Boards.{is_on, released, order}
-use Rattle.desk_model.specs.Duty.{tells, events, is_closed}
-use Rattle.desk_model.specs.Marks.{is_marked_off}
-use Rattle.desk_model.specs.EnrolAnswer.{enrol_answer}
-use Rattle.desk_model.specs.BoardAnswer.{board_answer}
-use Rattle.desk_model.specs.Comes.{without, left_by, order_by}
-use Rattle.desk_model.specs.Accepted.{Accepted, Enrols, SetsUp, Lists, Unlists, MarksOff, MarksOn, Qualifies, TellsPast, to_bottom, Happens}
-use Rattle.desk_model.specs.Legal.{IsNext, IsLegal}
+use Rattle.desk_model.specs.statements.Statement.{stated_of}
+use Rattle.desk_model.specs.statements.Entry.{EntryValue, entry_of}
+use Rattle.desk_model.specs.histories.History.{History, with_entry, is_done, said}
+use Rattle.desk_model.specs.histories.Register.{person_of, quals_of, board_of, persons, boards}
+use Rattle.desk_model.specs.boards.Boards.{is_on, released, order}
+use Rattle.desk_model.specs.histories.Duty.{tells, events, is_closed}
+use Rattle.desk_model.specs.boards.Marks.{is_marked_off}
+use Rattle.desk_model.specs.answers.EnrolAnswer.{enrol_answer}
+use Rattle.desk_model.specs.answers.BoardAnswer.{board_answer}
+use Rattle.desk_model.specs.laws.Comes.{without, left_by, order_by}
+use Rattle.desk_model.specs.laws.Accepted.{Accepted, Enrols, SetsUp, Lists, Unlists, MarksOff, MarksOn, Qualifies, TellsPast, to_bottom, Happens}
+use Rattle.desk_model.specs.histories.Legal.{IsNext, IsLegal}
 use Rattle.desk_model.proofs.SaidLemmas.{filter_map-snoc}
 use Rattle.desk_model.proofs.OrderLemmas.{same_number, nat_eq-same}
 use Rattle.desk_model.proofs.LegalLemmas.{legal-with, done-answer}

@@ -10,13 +10,13 @@ use Rattle.duty_events.proofs.ListLemmas.{last_event-push}
 use Rattle.desk_model.specs.declared.command.Cmd.{Cmd}
 use Rattle.desk_model.specs.declared.command.Cmd.TheVariants as cmd
 use Rattle.desk_model.specs.declared.reply.Reply.TheVariants as reply
-use Rattle.desk_model.specs.Opening.{OpeningValue}
-use Rattle.desk_model.specs.Entry.{EntryValue}
-use Rattle.desk_model.specs.History.{History, opened, with_entry, steps, is_done, said}
-use Rattle.desk_model.specs.Duty.{tells, events, told}
-use Rattle.desk_model.specs.Comes.{kept}
-use Rattle.desk_model.specs.EventAnswer.{judged_answer, told_answer}
-use Rattle.desk_model.specs.Legal.{last_moment, answer_to, IsNext, IsLegal}
+use Rattle.desk_model.specs.statements.Opening.{OpeningValue}
+use Rattle.desk_model.specs.statements.Entry.{EntryValue}
+use Rattle.desk_model.specs.histories.History.{History, opened, with_entry, steps, is_done, said}
+use Rattle.desk_model.specs.histories.Duty.{tells, events, told}
+use Rattle.desk_model.specs.laws.Comes.{kept}
+use Rattle.desk_model.specs.answers.EventAnswer.{judged_answer, told_answer}
+use Rattle.desk_model.specs.histories.Legal.{last_moment, answer_to, IsNext, IsLegal}
 use Rattle.desk_model.proofs.LegalLemmas.{legal-induction, said-next}
 use Rattle.desk_model.proofs.MomentLemmas.{last_moment-comes, never-before}
 use Rattle.desk_model.proofs.EventLemmas.{events-snoc, past-done, event-done}

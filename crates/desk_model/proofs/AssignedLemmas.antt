@@ -4,11 +4,11 @@ use Rattle.std.specs.Option.{option_or}
 use Rattle.std.proofs.lemmas.Bool.{cases_Bool, false≢true}
 use Rattle.desk_model.specs.declared.command.Cmd.{Cmd}
 use Rattle.desk_model.specs.declared.command.Cmd.TheVariants as cmd
-use Rattle.desk_model.specs.Entry.{EntryValue}
-use Rattle.desk_model.specs.History.{History, with_entry, is_done, said, last_of}
-use Rattle.desk_model.specs.Offers.{is_of}
-use Rattle.desk_model.specs.Assigned.{reports, assigns, is_assigned, accepts, only_if, assigned}
-use Rattle.desk_model.specs.Comes.{assigned_by, assigned_after}
+use Rattle.desk_model.specs.statements.Entry.{EntryValue}
+use Rattle.desk_model.specs.histories.History.{History, with_entry, is_done, said, last_of}
+use Rattle.desk_model.specs.offers.Offers.{is_of}
+use Rattle.desk_model.specs.offers.Assigned.{reports, assigns, is_assigned, accepts, only_if, assigned}
+use Rattle.desk_model.specs.laws.Comes.{assigned_by, assigned_after}
 use Rattle.desk_model.proofs.SaidLemmas.{last_of-snoc, last_of-or}
 use Rattle.desk_model.proofs.OrderLemmas.{same_number, nat_eq-same, nat_eq-swap}
 

@@ -11,14 +11,14 @@ use Rattle.desk_model.specs.declared.command.Cmd.{Cmd}
 use Rattle.desk_model.specs.declared.command.Cmd.TheVariants as cmd
 use Rattle.desk_model.specs.declared.reply.Reply.TheVariants as reply
 use Rattle.desk_model.specs.declared.offer.Offer.{Offer}
-use Rattle.desk_model.specs.Opening.{OpeningValue}
-use Rattle.desk_model.specs.Entry.{EntryValue}
-use Rattle.desk_model.specs.History.{History, opened, with_entry, steps, is_done, said}
-use Rattle.desk_model.specs.Register.{person_of, board_of}
-use Rattle.desk_model.specs.Offers.{open_offer}
-use Rattle.desk_model.specs.Boards.{puts, is_on, boards_of, is_at, released, declined, sends, order, links, chain}
-use Rattle.desk_model.specs.ListAnswer.{list_answer}
-use Rattle.desk_model.specs.Legal.{answer_to, IsNext, IsLegal}
+use Rattle.desk_model.specs.statements.Opening.{OpeningValue}
+use Rattle.desk_model.specs.statements.Entry.{EntryValue}
+use Rattle.desk_model.specs.histories.History.{History, opened, with_entry, steps, is_done, said}
+use Rattle.desk_model.specs.histories.Register.{person_of, board_of}
+use Rattle.desk_model.specs.offers.Offers.{open_offer}
+use Rattle.desk_model.specs.boards.Boards.{puts, is_on, boards_of, is_at, released, declined, sends, order, links, chain}
+use Rattle.desk_model.specs.answers.ListAnswer.{list_answer}
+use Rattle.desk_model.specs.histories.Legal.{answer_to, IsNext, IsLegal}
 use Rattle.desk_model.proofs.OrderLemmas.{nat_eq-same, length-without, order-silent, order-sent, order-taken, length-order-sent}
 use Rattle.desk_model.proofs.OnBoardLemmas.{length-order-moved}
 use Rattle.desk_model.proofs.LegalLemmas.{legal-induction, done-answer}

@@ -10,7 +10,7 @@ use Rattle.std.proofs.lemmas.List.Sums.{AllPass-from_list_all}
 use Rattle.desk_base.specs.Code.{IsCode, is_code_byte}
 use Rattle.desk_base.specs.Parts.{parts_by}
 use Rattle.desk_base.proofs.PartsLemmas.{AreUnmarked, parts_by-join}
-use Rattle.desk_model.specs.Chain.{IsChain, chain_text}
+use Rattle.desk_model.specs.statements.Chain.{IsChain, chain_text}
 
 -- ---- a board more, and the boards at the front
 

@@ -1,14 +1,14 @@
 -- What one entry more makes of each definition of a history.
 use Rattle.std.proofs.Common.{false, None, is_some, ap, ◌∙◌}
-use Rattle.desk_model.specs.Entry.{EntryValue}
-use Rattle.desk_model.specs.History.{History, steps, step_of, said, first_of}
-use Rattle.desk_model.specs.Register.{enrols, enrols_any, gives, sets_up, sets_up_any, makes, makes_any}
-use Rattle.desk_model.specs.Offers.{offer_said}
-use Rattle.desk_model.specs.Boards.{puts}
-use Rattle.desk_model.specs.Duty.{closes}
-use Rattle.desk_model.specs.Marks.{marks}
-use Rattle.desk_model.specs.TurnedDown.{turned_by}
-use Rattle.desk_model.specs.Comes.{Comes}
+use Rattle.desk_model.specs.statements.Entry.{EntryValue}
+use Rattle.desk_model.specs.histories.History.{History, steps, step_of, said, first_of}
+use Rattle.desk_model.specs.histories.Register.{enrols, enrols_any, gives, sets_up, sets_up_any, makes, makes_any}
+use Rattle.desk_model.specs.offers.Offers.{offer_said}
+use Rattle.desk_model.specs.boards.Boards.{puts}
+use Rattle.desk_model.specs.histories.Duty.{closes}
+use Rattle.desk_model.specs.boards.Marks.{marks}
+use Rattle.desk_model.specs.offers.TurnedDown.{turned_by}
+use Rattle.desk_model.specs.laws.Comes.{Comes}
 use Rattle.desk_model.proofs.SaidLemmas.{first_of-snoc, last_of-or, is_some-snoc, filter_map-snoc, steps-snoc}
 use Rattle.desk_model.proofs.EventLemmas.{events-snoc}
 use Rattle.desk_model.proofs.MovedLemmas.{order-comes}

@@ -9,14 +9,14 @@ use Rattle.denial_rules.specs.declared.bar.Bar.{Bar}
 use Rattle.desk_model.specs.declared.person.Person.{Person}
 use Rattle.desk_model.specs.declared.link.Link.{Link}
 use Rattle.desk_model.specs.declared.reply.Reply.TheVariants as reply
-use Rattle.desk_model.specs.Job.{JobValue}
-use Rattle.desk_model.specs.History.{History}
-use Rattle.desk_model.specs.Register.{person_of}
-use Rattle.desk_model.specs.Boards.{chain}
-use Rattle.desk_model.specs.Bars.{bar_of, may_have, is_free, first_free}
-use Rattle.desk_model.specs.NextAnswer.{choice_answer, vacant_answer, unless_closed, known_answer, next_answer}
-use Rattle.desk_model.specs.Denials.{IsOpen, IsBarred, IsClear, AreBarred, IsUnfilled, IsFirstClear}
-use Rattle.desk_model.specs.Legal.{IsLegal}
+use Rattle.desk_model.specs.statements.Job.{JobValue}
+use Rattle.desk_model.specs.histories.History.{History}
+use Rattle.desk_model.specs.histories.Register.{person_of}
+use Rattle.desk_model.specs.boards.Boards.{chain}
+use Rattle.desk_model.specs.offers.Bars.{bar_of, may_have, is_free, first_free}
+use Rattle.desk_model.specs.answers.NextAnswer.{choice_answer, vacant_answer, unless_closed, known_answer, next_answer}
+use Rattle.desk_model.specs.laws.Denials.{IsOpen, IsBarred, IsClear, AreBarred, IsUnfilled, IsFirstClear}
+use Rattle.desk_model.specs.histories.Legal.{IsLegal}
 use Rattle.desk_model.proofs.ListedLemmas.{on-listed, chain-keeps}
 
 -- ---- all of a chain are enrolled

@@ -15,15 +15,15 @@ use Rattle.denial_rules.specs.declared.bar.Bar.TheVariants as bar
 use Rattle.denial_rules.specs.declared.facts.Facts.{Facts}
 use Rattle.denial_rules.specs.Table.{marked_off_row, busy_row, on_offer_row, place_row, craft_row, quals_row, answered_row, law_row, first_some}
 use Rattle.desk_model.specs.declared.person.Person.{Person}
-use Rattle.desk_model.specs.Opening.{OpeningValue}
-use Rattle.desk_model.specs.Job.{JobValue}
-use Rattle.desk_model.specs.History.{History, Step, steps, is_done}
-use Rattle.desk_model.specs.Register.{vacancy_of, vacancies}
-use Rattle.desk_model.specs.Held.{hold_end, held_in, held, HasDeclined}
-use Rattle.desk_model.specs.VacancyAnswer.{unknown_in, bad_in, is_edition_one, chain_answer, vacancy_answer}
-use Rattle.desk_model.specs.Bars.{facts_of, bar_of}
-use Rattle.desk_model.specs.FirstEdition.{first_bar_in_one, chain_answer_in_one, vacancy_answer_in_one}
-use Rattle.desk_model.specs.Legal.{IsLegal}
+use Rattle.desk_model.specs.statements.Opening.{OpeningValue}
+use Rattle.desk_model.specs.statements.Job.{JobValue}
+use Rattle.desk_model.specs.histories.History.{History, Step, steps, is_done}
+use Rattle.desk_model.specs.histories.Register.{vacancy_of, vacancies}
+use Rattle.desk_model.specs.offers.Held.{hold_end, held_in, held, HasDeclined}
+use Rattle.desk_model.specs.answers.VacancyAnswer.{unknown_in, bad_in, is_edition_one, chain_answer, vacancy_answer}
+use Rattle.desk_model.specs.offers.Bars.{facts_of, bar_of}
+use Rattle.desk_model.specs.laws.FirstEdition.{first_bar_in_one, chain_answer_in_one, vacancy_answer_in_one}
+use Rattle.desk_model.specs.histories.Legal.{IsLegal}
 use Rattle.desk_model.proofs.PlanLemmas.{vacancy_of-keeps}
 use Rattle.desk_model.proofs.HeldLemmas.{hold_end-declined}
 

@@ -19,16 +19,16 @@ use Rattle.duty_events.proofs.ListLemmas.{lawful-push}
 use Rattle.desk_model.specs.declared.command.Cmd.{Cmd}
 use Rattle.desk_model.specs.declared.command.Cmd.TheVariants as cmd
 use Rattle.desk_model.specs.declared.reply.Reply.TheVariants as reply
-use Rattle.desk_model.specs.Opening.{OpeningValue}
-use Rattle.desk_model.specs.Entry.{EntryValue}
-use Rattle.desk_model.specs.Fits.{IsEvent, IsCommand}
-use Rattle.desk_model.specs.History.{History, opened, with_entry, step_of, steps, is_done, said}
-use Rattle.desk_model.specs.Register.{person_of}
-use Rattle.desk_model.specs.Offers.{on_offer}
-use Rattle.desk_model.specs.Duty.{tells, Told, told_at, told_by, events_in, may_come, keep, told, events, is_closed}
-use Rattle.desk_model.specs.Comes.{kept}
-use Rattle.desk_model.specs.EventAnswer.{judged_answer, told_answer, past_answer, unless_frozen, event_answer}
-use Rattle.desk_model.specs.Legal.{answer_to, IsNext, IsLegal}
+use Rattle.desk_model.specs.statements.Opening.{OpeningValue}
+use Rattle.desk_model.specs.statements.Entry.{EntryValue}
+use Rattle.desk_model.specs.statements.Fits.{IsEvent, IsCommand}
+use Rattle.desk_model.specs.histories.History.{History, opened, with_entry, step_of, steps, is_done, said}
+use Rattle.desk_model.specs.histories.Register.{person_of}
+use Rattle.desk_model.specs.offers.Offers.{on_offer}
+use Rattle.desk_model.specs.histories.Duty.{tells, Told, told_at, told_by, events_in, may_come, keep, told, events, is_closed}
+use Rattle.desk_model.specs.laws.Comes.{kept}
+use Rattle.desk_model.specs.answers.EventAnswer.{judged_answer, told_answer, past_answer, unless_frozen, event_answer}
+use Rattle.desk_model.specs.histories.Legal.{answer_to, IsNext, IsLegal}
 use Rattle.desk_model.proofs.OrderLemmas.{same_number}
 use Rattle.desk_model.proofs.SaidLemmas.{filter_map-snoc, steps-snoc}
 use Rattle.desk_model.proofs.LegalLemmas.{legal-induction, said-next}

@@ -4,11 +4,11 @@ use Rattle.std.specs.List.{cons_option, filter_map}
 use Rattle.desk_model.specs.declared.limits.TheConstants.{PERSON_LIMIT, BOARD_LIMIT, VACANCY_LIMIT}
 use Rattle.desk_model.specs.declared.command.Cmd.{Cmd}
 use Rattle.desk_model.specs.declared.command.Cmd.TheVariants as cmd
-use Rattle.desk_model.specs.Entry.{EntryValue}
-use Rattle.desk_model.specs.History.{History, said}
-use Rattle.desk_model.specs.Register.{enrols_any, sets_up_any, makes_any, persons, boards, vacancies}
-use Rattle.desk_model.specs.RestsOn.{RestsOn}
-use Rattle.desk_model.specs.Legal.{IsNext, IsLegal}
+use Rattle.desk_model.specs.statements.Entry.{EntryValue}
+use Rattle.desk_model.specs.histories.History.{History, said}
+use Rattle.desk_model.specs.histories.Register.{enrols_any, sets_up_any, makes_any, persons, boards, vacancies}
+use Rattle.desk_model.specs.laws.RestsOn.{RestsOn}
+use Rattle.desk_model.specs.histories.Legal.{IsNext, IsLegal}
 use Rattle.desk_model.proofs.SaidLemmas.{filter_map-snoc, said-some}
 use Rattle.desk_model.proofs.LegalLemmas.{legal-induction}
 use Rattle.desk_model.proofs.RestsOnLemmas.{done-rests}

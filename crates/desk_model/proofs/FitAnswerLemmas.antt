@@ -26,26 +26,26 @@ use Rattle.desk_model.specs.declared.reply.Reply.{Reply}
 use Rattle.desk_model.specs.declared.reply.Reply.TheVariants as reply
 use Rattle.desk_model.specs.declared.vac_state.VacState.{VacState}
 use Rattle.desk_model.specs.declared.vac_state.VacState.TheVariants as state
-use Rattle.desk_model.specs.Opening.{OpeningValue}
-use Rattle.desk_model.specs.Job.{JobValue}
-use Rattle.desk_model.specs.Fits.{IsJob, IsEvent, IsCommand, FitsState, FitsReply, Fits}
-use Rattle.desk_model.specs.History.{History}
-use Rattle.desk_model.specs.Register.{person_of, board_of, vacancy_of}
-use Rattle.desk_model.specs.Offers.{open_offer, on_offer, deadline}
-use Rattle.desk_model.specs.Boards.{order}
-use Rattle.desk_model.specs.Duty.{events}
-use Rattle.desk_model.specs.Assigned.{assigned}
-use Rattle.desk_model.specs.States.{state_of}
-use Rattle.desk_model.specs.ListAnswer.{list_answer}
-use Rattle.desk_model.specs.UnlistAnswer.{unlist_answer}
-use Rattle.desk_model.specs.MarkAnswer.{off_answer}
-use Rattle.desk_model.specs.EventAnswer.{judged_answer, told_answer, unless_frozen, event_answer}
-use Rattle.desk_model.specs.VacancyAnswer.{is_extra, unknown_in, bad_in, chain_answer, vacancy_answer}
-use Rattle.desk_model.specs.SettleAnswer.{offered_answer, made_answer, settle_answer}
-use Rattle.desk_model.specs.GiveUpAnswer.{over_answer, annul_answer}
-use Rattle.desk_model.specs.LookAnswer.{seen_answer, member_at, at_answer}
-use Rattle.desk_model.specs.HoursAnswer.{hours_answer}
-use Rattle.desk_model.specs.Legal.{answer_to, IsLegal}
+use Rattle.desk_model.specs.statements.Opening.{OpeningValue}
+use Rattle.desk_model.specs.statements.Job.{JobValue}
+use Rattle.desk_model.specs.statements.Fits.{IsJob, IsEvent, IsCommand, FitsState, FitsReply, Fits}
+use Rattle.desk_model.specs.histories.History.{History}
+use Rattle.desk_model.specs.histories.Register.{person_of, board_of, vacancy_of}
+use Rattle.desk_model.specs.offers.Offers.{open_offer, on_offer, deadline}
+use Rattle.desk_model.specs.boards.Boards.{order}
+use Rattle.desk_model.specs.histories.Duty.{events}
+use Rattle.desk_model.specs.offers.Assigned.{assigned}
+use Rattle.desk_model.specs.offers.States.{state_of}
+use Rattle.desk_model.specs.answers.ListAnswer.{list_answer}
+use Rattle.desk_model.specs.answers.UnlistAnswer.{unlist_answer}
+use Rattle.desk_model.specs.answers.MarkAnswer.{off_answer}
+use Rattle.desk_model.specs.answers.EventAnswer.{judged_answer, told_answer, unless_frozen, event_answer}
+use Rattle.desk_model.specs.answers.VacancyAnswer.{is_extra, unknown_in, bad_in, chain_answer, vacancy_answer}
+use Rattle.desk_model.specs.answers.SettleAnswer.{offered_answer, made_answer, settle_answer}
+use Rattle.desk_model.specs.answers.GiveUpAnswer.{over_answer, annul_answer}
+use Rattle.desk_model.specs.answers.LookAnswer.{seen_answer, member_at, at_answer}
+use Rattle.desk_model.specs.answers.HoursAnswer.{hours_answer}
+use Rattle.desk_model.specs.histories.Legal.{answer_to, IsLegal}
 use Rattle.desk_model.proofs.BoundLemmas.{length-order}
 use Rattle.desk_model.proofs.FoundLemmas.{find-passes}
 use Rattle.desk_model.proofs.FitEventLemmas.{events-fit, fault-fits}

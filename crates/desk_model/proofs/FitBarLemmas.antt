@@ -20,18 +20,18 @@ use Rattle.law_bars.specs.Law.{law_bar}
 use Rattle.desk_model.specs.declared.edition.Edition.{Edition}
 use Rattle.desk_model.specs.declared.edition.Edition.TheVariants as edition
 use Rattle.desk_model.specs.declared.person.Person.{Person}
-use Rattle.desk_model.specs.Job.{JobValue}
-use Rattle.desk_model.specs.Fits.{IsJob, Fits}
-use Rattle.desk_model.specs.History.{History}
-use Rattle.desk_model.specs.Register.{quals_of}
-use Rattle.desk_model.specs.Duty.{events, in_tour, place_at}
-use Rattle.desk_model.specs.Offers.{on_offer}
-use Rattle.desk_model.specs.Marks.{is_marked_off}
-use Rattle.desk_model.specs.Assigned.{assigned}
-use Rattle.desk_model.specs.TurnedDown.{has_turned_down}
-use Rattle.desk_model.specs.Held.{hold_end, held_in, held}
-use Rattle.desk_model.specs.Bars.{law_of, facts_of, bar_of}
-use Rattle.desk_model.specs.Legal.{IsLegal}
+use Rattle.desk_model.specs.statements.Job.{JobValue}
+use Rattle.desk_model.specs.statements.Fits.{IsJob, Fits}
+use Rattle.desk_model.specs.histories.History.{History}
+use Rattle.desk_model.specs.histories.Register.{quals_of}
+use Rattle.desk_model.specs.histories.Duty.{events, in_tour, place_at}
+use Rattle.desk_model.specs.offers.Offers.{on_offer}
+use Rattle.desk_model.specs.boards.Marks.{is_marked_off}
+use Rattle.desk_model.specs.offers.Assigned.{assigned}
+use Rattle.desk_model.specs.offers.TurnedDown.{has_turned_down}
+use Rattle.desk_model.specs.offers.Held.{hold_end, held_in, held}
+use Rattle.desk_model.specs.offers.Bars.{law_of, facts_of, bar_of}
+use Rattle.desk_model.specs.histories.Legal.{IsLegal}
 use Rattle.desk_model.proofs.EventLemmas.{lawful-events}
 use Rattle.desk_model.proofs.HeldLemmas.{hold_end-fits}
 use Rattle.desk_model.proofs.FitEventLemmas.{events-fit, place-fits}

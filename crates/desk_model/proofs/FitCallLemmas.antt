@@ -11,19 +11,19 @@ use Rattle.desk_model.specs.declared.reply.Reply.{Reply}
 use Rattle.desk_model.specs.declared.reply.Reply.TheVariants as reply
 use Rattle.desk_model.specs.declared.vac_state.VacState.{VacState}
 use Rattle.desk_model.specs.declared.vac_state.VacState.TheVariants as state
-use Rattle.desk_model.specs.Job.{JobValue}
-use Rattle.desk_model.specs.Fits.{IsJob, FitsState, FitsReply, Fits}
-use Rattle.desk_model.specs.History.{History}
-use Rattle.desk_model.specs.Register.{person_of, vacancy_of}
-use Rattle.desk_model.specs.Offers.{open_offer}
-use Rattle.desk_model.specs.Boards.{chain}
-use Rattle.desk_model.specs.Assigned.{holder, begun, is_annulled}
-use Rattle.desk_model.specs.States.{open_state, taken_state, begun_state, state_of}
-use Rattle.desk_model.specs.Bars.{bar_of, is_free, first_free}
-use Rattle.desk_model.specs.NextAnswer.{choice_answer, vacant_answer, unless_closed, known_answer, next_answer}
-use Rattle.desk_model.specs.ExplainAnswer.{place_in, place_answer, judged_by, clear_answer, person_answer, job_answer, explain_answer}
-use Rattle.desk_model.specs.OfferAnswer.{named_answer, called_answer, offer_made_answer, offer_answer}
-use Rattle.desk_model.specs.Legal.{IsLegal}
+use Rattle.desk_model.specs.statements.Job.{JobValue}
+use Rattle.desk_model.specs.statements.Fits.{IsJob, FitsState, FitsReply, Fits}
+use Rattle.desk_model.specs.histories.History.{History}
+use Rattle.desk_model.specs.histories.Register.{person_of, vacancy_of}
+use Rattle.desk_model.specs.offers.Offers.{open_offer}
+use Rattle.desk_model.specs.boards.Boards.{chain}
+use Rattle.desk_model.specs.offers.Assigned.{holder, begun, is_annulled}
+use Rattle.desk_model.specs.offers.States.{open_state, taken_state, begun_state, state_of}
+use Rattle.desk_model.specs.offers.Bars.{bar_of, is_free, first_free}
+use Rattle.desk_model.specs.answers.NextAnswer.{choice_answer, vacant_answer, unless_closed, known_answer, next_answer}
+use Rattle.desk_model.specs.answers.ExplainAnswer.{place_in, place_answer, judged_by, clear_answer, person_answer, job_answer, explain_answer}
+use Rattle.desk_model.specs.answers.OfferAnswer.{named_answer, called_answer, offer_made_answer, offer_answer}
+use Rattle.desk_model.specs.histories.Legal.{IsLegal}
 use Rattle.desk_model.proofs.BoundLemmas.{length-chain-most}
 use Rattle.desk_model.proofs.FoundLemmas.{find-passes, IfSome-find}
 use Rattle.desk_model.proofs.PlanLemmas.{vacancy-in_years}

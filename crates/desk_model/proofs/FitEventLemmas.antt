@@ -18,10 +18,10 @@ use Rattle.duty_events.specs.Lists.{stage_after, stage_of, last_event, latest}
 use Rattle.duty_events.specs.Places.{end_by, ends_from, last_end, place_of}
 use Rattle.desk_model.specs.declared.command.Cmd.{Cmd}
 use Rattle.desk_model.specs.declared.command.Cmd.TheVariants as cmd
-use Rattle.desk_model.specs.Fits.{IsEvent, IsCommand, Fits, FitsStage, FitsFault}
-use Rattle.desk_model.specs.History.{History, said}
-use Rattle.desk_model.specs.Duty.{tells, events}
-use Rattle.desk_model.specs.Legal.{IsLegal}
+use Rattle.desk_model.specs.statements.Fits.{IsEvent, IsCommand, Fits, FitsStage, FitsFault}
+use Rattle.desk_model.specs.histories.History.{History, said}
+use Rattle.desk_model.specs.histories.Duty.{tells, events}
+use Rattle.desk_model.specs.histories.Legal.{IsLegal}
 use Rattle.desk_model.proofs.FoundLemmas.{All-filter_map, IfSome-find, All-option_to_list, unwrap_or-passes, All-reverse, said-fits}
 use Rattle.desk_model.proofs.EventLemmas.{event-years, events-all}
 

@@ -4,10 +4,10 @@ use Rattle.std.specs.List.{All}
 use Rattle.std.proofs.lemmas.List.Elements.{All-nil, All-push}
 use Rattle.desk_base.specs.Minute.{IsInYears}
 use Rattle.desk_base.proofs.WindowLemmas.{in_years-Holds}
-use Rattle.desk_model.specs.Entry.{EntryValue}
-use Rattle.desk_model.specs.Fits.{FitsReply, Fits}
-use Rattle.desk_model.specs.History.{History, last_of}
-use Rattle.desk_model.specs.Legal.{is_within, last_moment, moment, IsNext, IsLegal}
+use Rattle.desk_model.specs.statements.Entry.{EntryValue}
+use Rattle.desk_model.specs.statements.Fits.{FitsReply, Fits}
+use Rattle.desk_model.specs.histories.History.{History, last_of}
+use Rattle.desk_model.specs.histories.Legal.{is_within, last_moment, moment, IsNext, IsLegal}
 use Rattle.desk_model.proofs.FoundLemmas.{last_of-says}
 use Rattle.desk_model.proofs.LegalLemmas.{legal-induction, reply-is}
 use Rattle.desk_model.proofs.FitBarLemmas.{LawFits}

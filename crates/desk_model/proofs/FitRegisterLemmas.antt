@@ -16,15 +16,15 @@ use Rattle.desk_model.specs.declared.offer.Offer.{Offer}
 use Rattle.desk_model.specs.declared.person.Person.{Person}
 use Rattle.desk_model.specs.declared.reply.Reply.{Reply}
 use Rattle.desk_model.specs.declared.reply.Reply.TheVariants as reply
-use Rattle.desk_model.specs.Job.{JobValue}
-use Rattle.desk_model.specs.Entry.{EntryValue}
-use Rattle.desk_model.specs.Fits.{IsJob, IsCommand, FitsReply, Fits}
-use Rattle.desk_model.specs.History.{History, step_of, steps, said, last_of}
-use Rattle.desk_model.specs.Register.{enrols, makes, makes_any, person_of, board_of, vacancy_of, vacancies}
-use Rattle.desk_model.specs.Offers.{asks_for, offer_in, is_of, settles, is_to, offer_said, open_offer, on_offer}
-use Rattle.desk_model.specs.Boards.{is_on, released, is_at, declined, sends, sent, sent_to, keep_last, order, links, chain}
-use Rattle.desk_model.specs.Assigned.{reports, is_assigned, accepts, accepted_by, only_if, assigned, holder, begins, begun_by, begun}
-use Rattle.desk_model.specs.Legal.{IsNext, IsLegal}
+use Rattle.desk_model.specs.statements.Job.{JobValue}
+use Rattle.desk_model.specs.statements.Entry.{EntryValue}
+use Rattle.desk_model.specs.statements.Fits.{IsJob, IsCommand, FitsReply, Fits}
+use Rattle.desk_model.specs.histories.History.{History, step_of, steps, said, last_of}
+use Rattle.desk_model.specs.histories.Register.{enrols, makes, makes_any, person_of, board_of, vacancy_of, vacancies}
+use Rattle.desk_model.specs.offers.Offers.{asks_for, offer_in, is_of, settles, is_to, offer_said, open_offer, on_offer}
+use Rattle.desk_model.specs.boards.Boards.{is_on, released, is_at, declined, sends, sent, sent_to, keep_last, order, links, chain}
+use Rattle.desk_model.specs.offers.Assigned.{reports, is_assigned, accepts, accepted_by, only_if, assigned, holder, begins, begun_by, begun}
+use Rattle.desk_model.specs.histories.Legal.{IsNext, IsLegal}
 use Rattle.desk_model.proofs.BoundLemmas.{length-order}
 use Rattle.desk_model.proofs.FoundLemmas.{Tells, first_of-tells, last_of-says, All-filter_map, IfSome-find, All-keep_last, said-fits}
 use Rattle.desk_model.proofs.LegalLemmas.{each-step}

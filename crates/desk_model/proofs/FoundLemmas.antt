@@ -5,10 +5,10 @@ use Rattle.std.specs.List.{All, find, list_any, cons_option, filter_map}
 use Rattle.std.proofs.lemmas.List.{reverse-append}
 use Rattle.std.proofs.lemmas.List.Elements.{All-nil, All-cons, All-head, All-tail, All-append}
 use Rattle.desk_model.specs.declared.command.Cmd.{Cmd}
-use Rattle.desk_model.specs.Entry.{EntryValue}
-use Rattle.desk_model.specs.Fits.{IsCommand, Fits}
-use Rattle.desk_model.specs.History.{said, first_of, last_of}
-use Rattle.desk_model.specs.Boards.{keep_last}
+use Rattle.desk_model.specs.statements.Entry.{EntryValue}
+use Rattle.desk_model.specs.statements.Fits.{IsCommand, Fits}
+use Rattle.desk_model.specs.histories.History.{said, first_of, last_of}
+use Rattle.desk_model.specs.boards.Boards.{keep_last}
 use Rattle.desk_model.proofs.SaidLemmas.{said-some}
 
 -- what f says of an element has Q

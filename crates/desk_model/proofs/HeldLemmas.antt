@@ -12,11 +12,11 @@ use Rattle.desk_model.specs.declared.command.Cmd.{Cmd}
 use Rattle.desk_model.specs.declared.command.Cmd.TheVariants as cmd
 use Rattle.desk_model.specs.declared.reply.Reply.{Reply}
 use Rattle.desk_model.specs.declared.reply.Reply.TheVariants as reply
-use Rattle.desk_model.specs.Entry.{EntryValue}
-use Rattle.desk_model.specs.History.{History, opened, with_entry, Step, step_of, steps_from, steps, is_done, said}
-use Rattle.desk_model.specs.Offers.{open_offer}
-use Rattle.desk_model.specs.Held.{is_from, hold_told, held_by, greatest, hold_end, HasDeclined}
-use Rattle.desk_model.specs.Fits.{Fits}
+use Rattle.desk_model.specs.statements.Entry.{EntryValue}
+use Rattle.desk_model.specs.histories.History.{History, opened, with_entry, Step, step_of, steps_from, steps, is_done, said}
+use Rattle.desk_model.specs.offers.Offers.{open_offer}
+use Rattle.desk_model.specs.offers.Held.{is_from, hold_told, held_by, greatest, hold_end, HasDeclined}
+use Rattle.desk_model.specs.statements.Fits.{Fits}
 use Rattle.desk_model.proofs.FoundLemmas.{Tells, All-filter_map}
 use Rattle.desk_model.proofs.SaidLemmas.{steps-snoc, filter_map-snoc, said-some}
 use Rattle.desk_model.proofs.OrderLemmas.{same_number, nat_eq-same}

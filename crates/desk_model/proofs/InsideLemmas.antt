@@ -3,7 +3,7 @@ use Rattle.std.proofs.Common.{◌≡◌, ℕ, ◌+◌, ◌-◌, ◌<◌, ◌≤�
 use Rattle.std.specs.List.{Contains}
 use Rattle.std.proofs.lemmas.List.{drop-drop, drop-replicate, drop-set-lt, take_more_set}
 use Rattle.desk_base.specs.Code.{IsCode}
-use Rattle.desk_model.specs.ChainInside.{chain_boards, first_board, KeepsChain, inside_of}
+use Rattle.desk_model.specs.statements.ChainInside.{chain_boards, first_board, KeepsChain, inside_of}
 use Rattle.desk_model.specs.declared.chain.Chain.TheInside.{Inside}
 use Rattle.desk_model.proofs.ChainLemmas.{IsChain-push}
 

@@ -16,25 +16,25 @@ use Rattle.desk_model.specs.declared.reply.Reply.{Reply}
 use Rattle.desk_model.specs.declared.reply.Reply.TheVariants as reply
 use Rattle.desk_model.specs.declared.vac_state.VacState.{VacState}
 use Rattle.desk_model.specs.declared.vac_state.VacState.TheVariants as state
-use Rattle.desk_model.specs.Opening.{OpeningValue}
-use Rattle.desk_model.specs.Job.{JobValue}
-use Rattle.desk_model.specs.History.{History}
-use Rattle.desk_model.specs.Register.{person_of, vacancy_of}
-use Rattle.desk_model.specs.Offers.{on_offer, open_offer, deadline}
-use Rattle.desk_model.specs.Assigned.{assigned}
-use Rattle.desk_model.specs.Boards.{order, chain}
-use Rattle.desk_model.specs.Duty.{events}
-use Rattle.desk_model.specs.States.{state_of}
-use Rattle.desk_model.specs.Bars.{bar_of, first_free}
-use Rattle.desk_model.specs.VacancyAnswer.{unknown_in, bad_in, plan_answer, chain_answer}
-use Rattle.desk_model.specs.EventAnswer.{judged_answer, told_answer, unless_frozen}
-use Rattle.desk_model.specs.ExplainAnswer.{place_in, place_answer, judged_by, clear_answer, person_answer, job_answer, explain_answer}
-use Rattle.desk_model.specs.NextAnswer.{choice_answer, vacant_answer, unless_closed, known_answer, next_answer}
-use Rattle.desk_model.specs.OfferAnswer.{named_answer, called_answer, offer_made_answer, offer_answer}
-use Rattle.desk_model.specs.SettleAnswer.{offered_answer, made_answer, settle_answer}
-use Rattle.desk_model.specs.GiveUpAnswer.{over_answer}
-use Rattle.desk_model.specs.LookAnswer.{seen_answer, member_at}
-use Rattle.desk_model.specs.Legal.{answer_to}
+use Rattle.desk_model.specs.statements.Opening.{OpeningValue}
+use Rattle.desk_model.specs.statements.Job.{JobValue}
+use Rattle.desk_model.specs.histories.History.{History}
+use Rattle.desk_model.specs.histories.Register.{person_of, vacancy_of}
+use Rattle.desk_model.specs.offers.Offers.{on_offer, open_offer, deadline}
+use Rattle.desk_model.specs.offers.Assigned.{assigned}
+use Rattle.desk_model.specs.boards.Boards.{order, chain}
+use Rattle.desk_model.specs.histories.Duty.{events}
+use Rattle.desk_model.specs.offers.States.{state_of}
+use Rattle.desk_model.specs.offers.Bars.{bar_of, first_free}
+use Rattle.desk_model.specs.answers.VacancyAnswer.{unknown_in, bad_in, plan_answer, chain_answer}
+use Rattle.desk_model.specs.answers.EventAnswer.{judged_answer, told_answer, unless_frozen}
+use Rattle.desk_model.specs.answers.ExplainAnswer.{place_in, place_answer, judged_by, clear_answer, person_answer, job_answer, explain_answer}
+use Rattle.desk_model.specs.answers.NextAnswer.{choice_answer, vacant_answer, unless_closed, known_answer, next_answer}
+use Rattle.desk_model.specs.answers.OfferAnswer.{named_answer, called_answer, offer_made_answer, offer_answer}
+use Rattle.desk_model.specs.answers.SettleAnswer.{offered_answer, made_answer, settle_answer}
+use Rattle.desk_model.specs.answers.GiveUpAnswer.{over_answer}
+use Rattle.desk_model.specs.answers.LookAnswer.{seen_answer, member_at}
+use Rattle.desk_model.specs.histories.Legal.{answer_to}
 
 -- ---- only `next`, `offer` and `explain` judge
 

@@ -7,11 +7,11 @@ use Rattle.std.proofs.lemmas.List.{map-append}
 use Rattle.std.proofs.lemmas.List.Elements.{All-nil, All-cons, All-tail, All-append}
 use Rattle.desk_model.specs.declared.command.Cmd.{Cmd}
 use Rattle.desk_model.specs.declared.reply.Reply.TheVariants as reply
-use Rattle.desk_model.specs.Opening.{OpeningValue, IsOpening}
-use Rattle.desk_model.specs.Statement.{StatedValue}
-use Rattle.desk_model.specs.Entry.{EntryValue, entry_of}
-use Rattle.desk_model.specs.History.{History, history_of, opened, with_entry, Step, step_of, steps_from, steps, is_done, said}
-use Rattle.desk_model.specs.Legal.{is_within, moment, answer_to, next, MayState, IsNext, IsLegal, given, history_from}
+use Rattle.desk_model.specs.statements.Opening.{OpeningValue, IsOpening}
+use Rattle.desk_model.specs.statements.Statement.{StatedValue}
+use Rattle.desk_model.specs.statements.Entry.{EntryValue, entry_of}
+use Rattle.desk_model.specs.histories.History.{History, history_of, opened, with_entry, Step, step_of, steps_from, steps, is_done, said}
+use Rattle.desk_model.specs.histories.Legal.{is_within, moment, answer_to, next, MayState, IsNext, IsLegal, given, history_from}
 use Rattle.desk_model.proofs.SaidLemmas.{steps-snoc, said-some}
 
 abbrev pub IsRight : Step → Type 0

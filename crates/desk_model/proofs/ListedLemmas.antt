@@ -10,14 +10,14 @@ use Rattle.desk_model.specs.declared.command.Cmd.{Cmd}
 use Rattle.desk_model.specs.declared.command.Cmd.TheVariants as cmd
 use Rattle.desk_model.specs.declared.reply.Reply.TheVariants as reply
 use Rattle.desk_model.specs.declared.link.Link.{Link}
-use Rattle.desk_model.specs.Entry.{EntryValue}
-use Rattle.desk_model.specs.History.{History, with_entry, said, last_of}
-use Rattle.desk_model.specs.Register.{enrols, sets_up, person_of, board_of, vacancy_of}
-use Rattle.desk_model.specs.Boards.{puts, is_on, order, links, chain}
-use Rattle.desk_model.specs.Offers.{asks_for, open_offer}
-use Rattle.desk_model.specs.Bars.{is_free}
-use Rattle.desk_model.specs.RestsOn.{IsEnrolled, IsBoard, IsListed, RestsOn, MayOffer}
-use Rattle.desk_model.specs.Legal.{IsNext, IsLegal}
+use Rattle.desk_model.specs.statements.Entry.{EntryValue}
+use Rattle.desk_model.specs.histories.History.{History, with_entry, said, last_of}
+use Rattle.desk_model.specs.histories.Register.{enrols, sets_up, person_of, board_of, vacancy_of}
+use Rattle.desk_model.specs.boards.Boards.{puts, is_on, order, links, chain}
+use Rattle.desk_model.specs.offers.Offers.{asks_for, open_offer}
+use Rattle.desk_model.specs.offers.Bars.{is_free}
+use Rattle.desk_model.specs.laws.RestsOn.{IsEnrolled, IsBoard, IsListed, RestsOn, MayOffer}
+use Rattle.desk_model.specs.histories.Legal.{IsNext, IsLegal}
 use Rattle.desk_model.proofs.SaidLemmas.{first_of-snoc, last_of-snoc, said-some}
 use Rattle.desk_model.proofs.OrderLemmas.{same_number, nat_eq-same}
 use Rattle.desk_model.proofs.LegalLemmas.{legal-induction}

@@ -5,10 +5,10 @@ use Rattle.std.specs.List.{list_any, cons_option, filter_map}
 use Rattle.std.proofs.lemmas.List.Folds.{list_any-append}
 use Rattle.desk_model.specs.declared.command.Cmd.{Cmd}
 use Rattle.desk_model.specs.declared.command.Cmd.TheVariants as cmd
-use Rattle.desk_model.specs.Entry.{EntryValue}
-use Rattle.desk_model.specs.Job.{JobValue}
-use Rattle.desk_model.specs.History.{History, with_entry, said, first_of}
-use Rattle.desk_model.specs.Register.{makes, makes_any, vacancy_of, vacancies}
+use Rattle.desk_model.specs.statements.Entry.{EntryValue}
+use Rattle.desk_model.specs.statements.Job.{JobValue}
+use Rattle.desk_model.specs.histories.History.{History, with_entry, said, first_of}
+use Rattle.desk_model.specs.histories.Register.{makes, makes_any, vacancy_of, vacancies}
 use Rattle.desk_model.proofs.SaidLemmas.{filter_map-snoc, said-some}
 use Rattle.desk_model.proofs.OrderLemmas.{same_number, nat_eq-same}
 

@@ -3,9 +3,9 @@ use Rattle.std.specs.List.{slice_get}
 use Rattle.std.proofs.lemmas.List.{take_more, take_all}
 use Rattle.std.proofs.lemmas.Option.{slice_get_within, get_or_from_slice_get}
 use Rattle.std.proofs.Common.{◌≡◌, ◌+◌, ◌-◌, ◌≤◌, List, [], ◌∷◌, ◌++◌, length, take, get_or, Bool, true, false, cond, max, Some, unwrap_or, refl, ap, subst, sym, arith, ◌∙◌}
-use Rattle.desk_model.specs.Entry.{EntryValue}
-use Rattle.desk_model.specs.History.{History, with_entry, last_of}
-use Rattle.desk_model.specs.Legal.{is_within, last_moment, IsNext, IsLegal}
+use Rattle.desk_model.specs.statements.Entry.{EntryValue}
+use Rattle.desk_model.specs.histories.History.{History, with_entry, last_of}
+use Rattle.desk_model.specs.histories.Legal.{is_within, last_moment, IsNext, IsLegal}
 use Rattle.desk_model.proofs.SaidLemmas.{last_of-tells}
 
 pub last_moment-comes : (h : History) (e : EntryValue) → last_moment (with_entry h e) ≡ e.moment

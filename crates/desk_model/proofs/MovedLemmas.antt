@@ -5,10 +5,10 @@ use Rattle.std.specs.List.{list_any}
 use Rattle.std.proofs.lemmas.Bool.{false≢true}
 use Rattle.desk_model.specs.declared.command.Cmd.{Cmd}
 use Rattle.desk_model.specs.declared.command.Cmd.TheVariants as cmd
-use Rattle.desk_model.specs.Entry.{EntryValue}
-use Rattle.desk_model.specs.History.{History, with_entry, is_done, said}
-use Rattle.desk_model.specs.Boards.{puts, is_on, sends, order}
-use Rattle.desk_model.specs.Comes.{takes_off, without, sent_last, order_by, order_after}
+use Rattle.desk_model.specs.statements.Entry.{EntryValue}
+use Rattle.desk_model.specs.histories.History.{History, with_entry, is_done, said}
+use Rattle.desk_model.specs.boards.Boards.{puts, is_on, sends, order}
+use Rattle.desk_model.specs.laws.Comes.{takes_off, without, sent_last, order_by, order_after}
 use Rattle.desk_model.proofs.SaidLemmas.{said-some}
 use Rattle.desk_model.proofs.OrderLemmas.{same_number, nat_eq-same, order-silent, order-sent, order-moved, order-taken}
 use Rattle.desk_model.proofs.OnBoardLemmas.{any-order}

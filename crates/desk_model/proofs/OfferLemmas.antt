@@ -9,13 +9,13 @@ use Rattle.denial_rules.proofs.TableLemmas.{first_bar-none}
 use Rattle.law_bars.specs.Law.{law_bar, LawInWords, WasOffTenHours}
 use Rattle.desk_model.specs.declared.person.Person.{Person}
 use Rattle.desk_model.specs.declared.link.Link.{Link}
-use Rattle.desk_model.specs.Entry.{EntryValue}
-use Rattle.desk_model.specs.Job.{JobValue}
-use Rattle.desk_model.specs.History.{History, step_of}
-use Rattle.desk_model.specs.Duty.{events}
-use Rattle.desk_model.specs.Bars.{facts_of, bar_of}
-use Rattle.desk_model.specs.Denials.{IsRightOffer, OffersRightly}
-use Rattle.desk_model.specs.Legal.{IsNext, IsLegal}
+use Rattle.desk_model.specs.statements.Entry.{EntryValue}
+use Rattle.desk_model.specs.statements.Job.{JobValue}
+use Rattle.desk_model.specs.histories.History.{History, step_of}
+use Rattle.desk_model.specs.histories.Duty.{events}
+use Rattle.desk_model.specs.offers.Bars.{facts_of, bar_of}
+use Rattle.desk_model.specs.laws.Denials.{IsRightOffer, OffersRightly}
+use Rattle.desk_model.specs.histories.Legal.{IsNext, IsLegal}
 use Rattle.desk_model.proofs.EventLemmas.{lawful-events}
 use Rattle.desk_model.proofs.OfferedLemmas.{link_of, WasOffered, entry-offered}
 use Rattle.desk_model.proofs.DenialLemmas.{found-clear}

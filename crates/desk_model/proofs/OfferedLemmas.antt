@@ -9,18 +9,18 @@ use Rattle.desk_model.specs.declared.person.Person.{Person}
 use Rattle.desk_model.specs.declared.reply.Reply.{Reply}
 use Rattle.desk_model.specs.declared.reply.Reply.TheVariants as reply
 use Rattle.desk_model.specs.declared.vac_state.VacState.TheVariants as state
-use Rattle.desk_model.specs.Job.{JobValue}
-use Rattle.desk_model.specs.Entry.{EntryValue}
-use Rattle.desk_model.specs.History.{History}
-use Rattle.desk_model.specs.Register.{person_of, vacancy_of}
-use Rattle.desk_model.specs.Boards.{chain}
-use Rattle.desk_model.specs.Offers.{asks_for}
-use Rattle.desk_model.specs.States.{state_of}
-use Rattle.desk_model.specs.Bars.{bar_of, may_have, is_free, first_free}
-use Rattle.desk_model.specs.NextAnswer.{choice_answer}
-use Rattle.desk_model.specs.ExplainAnswer.{place_in}
-use Rattle.desk_model.specs.OfferAnswer.{named_answer}
-use Rattle.desk_model.specs.Legal.{answer_to, IsNext}
+use Rattle.desk_model.specs.statements.Job.{JobValue}
+use Rattle.desk_model.specs.statements.Entry.{EntryValue}
+use Rattle.desk_model.specs.histories.History.{History}
+use Rattle.desk_model.specs.histories.Register.{person_of, vacancy_of}
+use Rattle.desk_model.specs.boards.Boards.{chain}
+use Rattle.desk_model.specs.offers.Offers.{asks_for}
+use Rattle.desk_model.specs.offers.States.{state_of}
+use Rattle.desk_model.specs.offers.Bars.{bar_of, may_have, is_free, first_free}
+use Rattle.desk_model.specs.answers.NextAnswer.{choice_answer}
+use Rattle.desk_model.specs.answers.ExplainAnswer.{place_in}
+use Rattle.desk_model.specs.answers.OfferAnswer.{named_answer}
+use Rattle.desk_model.specs.histories.Legal.{answer_to, IsNext}
 use Rattle.desk_model.proofs.LegalLemmas.{reply-is}
 use Rattle.desk_model.proofs.OrderLemmas.{same_number}
 use Rattle.desk_model.proofs.JudgedLemmas.{is_call, other-no, IsJudged, IsKnown, IsChosen, explained, called, chosen}

@@ -7,11 +7,11 @@ use Rattle.std.proofs.lemmas.Bool.{false≢true}
 use Rattle.std.proofs.lemmas.Bool.Decides.{nat_tests}
 use Rattle.desk_model.specs.declared.command.Cmd.{Cmd}
 use Rattle.desk_model.specs.declared.command.Cmd.TheVariants as cmd
-use Rattle.desk_model.specs.Entry.{EntryValue}
-use Rattle.desk_model.specs.History.{History, opened, with_entry, steps_from, steps, said, last_of}
-use Rattle.desk_model.specs.Boards.{puts, is_on, sends, sent, sent_to, keep_last, order}
+use Rattle.desk_model.specs.statements.Entry.{EntryValue}
+use Rattle.desk_model.specs.histories.History.{History, opened, with_entry, steps_from, steps, said, last_of}
+use Rattle.desk_model.specs.boards.Boards.{puts, is_on, sends, sent, sent_to, keep_last, order}
 use Rattle.desk_model.proofs.SaidLemmas.{said-some}
-use Rattle.desk_model.specs.Comes.{without}
+use Rattle.desk_model.specs.laws.Comes.{without}
 use Rattle.desk_model.proofs.OrderLemmas.{length-without, order-moved, same_number, nat_eq-same}
 
 and_false : (b : Bool) → (b && false) ≡ false

@@ -1,12 +1,12 @@
 -- The vacancy that is on offer to a person: the last that was offered to them, while that offer is open; and what an entry makes of it.
 use Rattle.std.proofs.Common.{◌≡◌, ℕ, inl, inr, Bool, true, false, cond, nat_eq, Option, None, Some, unwrap_or, refl, sym, ap, subst, ◌∙◌}
 use Rattle.std.proofs.lemmas.Bool.{cases_Bool, false≢true}
-use Rattle.desk_model.specs.Entry.{EntryValue}
-use Rattle.desk_model.specs.History.{History, with_entry, said, last_of}
-use Rattle.desk_model.specs.Register.{vacancies}
-use Rattle.desk_model.specs.Offers.{is_of, offer_in, settles, open_offer, is_to, offered_to, on_offer}
-use Rattle.desk_model.specs.Comes.{left_open, on_offer_after}
-use Rattle.desk_model.specs.Legal.{IsNext, IsLegal}
+use Rattle.desk_model.specs.statements.Entry.{EntryValue}
+use Rattle.desk_model.specs.histories.History.{History, with_entry, said, last_of}
+use Rattle.desk_model.specs.histories.Register.{vacancies}
+use Rattle.desk_model.specs.offers.Offers.{is_of, offer_in, settles, open_offer, is_to, offered_to, on_offer}
+use Rattle.desk_model.specs.laws.Comes.{left_open, on_offer_after}
+use Rattle.desk_model.specs.histories.Legal.{IsNext, IsLegal}
 use Rattle.desk_model.proofs.SaidLemmas.{last_of-silent, last_of-tells}
 use Rattle.desk_model.proofs.OrderLemmas.{same_number, nat_eq-same}
 use Rattle.desk_model.proofs.LegalLemmas.{legal-with, legal-induction}

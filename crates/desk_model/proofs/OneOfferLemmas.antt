@@ -4,12 +4,12 @@ use Rattle.std.specs.List.{list_any, find}
 use Rattle.std.proofs.lemmas.Bool.{cases_Bool, false≢true}
 use Rattle.desk_model.specs.declared.command.Cmd.{Cmd}
 use Rattle.desk_model.specs.declared.command.Cmd.TheVariants as cmd
-use Rattle.desk_model.specs.Entry.{EntryValue}
-use Rattle.desk_model.specs.History.{History, with_entry, is_done, said}
-use Rattle.desk_model.specs.Register.{vacancies}
-use Rattle.desk_model.specs.Offers.{offer_in, is_of, ends, open_offer, is_to}
-use Rattle.desk_model.specs.Assigned.{reports, assigns, is_assigned, assigned}
-use Rattle.desk_model.specs.Legal.{answer_to, IsNext, IsLegal}
+use Rattle.desk_model.specs.statements.Entry.{EntryValue}
+use Rattle.desk_model.specs.histories.History.{History, with_entry, is_done, said}
+use Rattle.desk_model.specs.histories.Register.{vacancies}
+use Rattle.desk_model.specs.offers.Offers.{offer_in, is_of, ends, open_offer, is_to}
+use Rattle.desk_model.specs.offers.Assigned.{reports, assigns, is_assigned, assigned}
+use Rattle.desk_model.specs.histories.Legal.{answer_to, IsNext, IsLegal}
 use Rattle.desk_model.proofs.SaidLemmas.{said-some}
 use Rattle.desk_model.proofs.AssignedLemmas.{has-comes, assigned-has}
 use Rattle.desk_model.proofs.OrderLemmas.{same_number, nat_eq-same}

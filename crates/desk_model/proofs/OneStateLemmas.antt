@@ -4,11 +4,11 @@ use Rattle.std.proofs.lemmas.Bool.{false≢true}
 use Rattle.desk_model.specs.declared.vac_state.VacState.{VacState}
 use Rattle.desk_model.specs.declared.vac_state.VacState.TheVariants as state
 use Rattle.desk_model.specs.declared.offer.Offer.{Offer}
-use Rattle.desk_model.specs.History.{History}
-use Rattle.desk_model.specs.Offers.{is_of, open_offer, is_to}
-use Rattle.desk_model.specs.Assigned.{assigned, begun, is_annulled}
-use Rattle.desk_model.specs.States.{state_of}
-use Rattle.desk_model.specs.Legal.{IsLegal}
+use Rattle.desk_model.specs.histories.History.{History}
+use Rattle.desk_model.specs.offers.Offers.{is_of, open_offer, is_to}
+use Rattle.desk_model.specs.offers.Assigned.{assigned, begun, is_annulled}
+use Rattle.desk_model.specs.offers.States.{state_of}
+use Rattle.desk_model.specs.histories.Legal.{IsLegal}
 use Rattle.desk_model.proofs.OrderLemmas.{same_number, nat_eq-same}
 use Rattle.desk_model.proofs.AssignedLemmas.{assigned-has}
 use Rattle.desk_model.proofs.StateLemmas.{is_over, begun_in, offered_in, taken_in, offered_person, on-offer}

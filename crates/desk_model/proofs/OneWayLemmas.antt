@@ -4,9 +4,9 @@ use Rattle.duty_events.specs.declared.event.Event.{Event}
 use Rattle.duty_events.specs.declared.event.Event.TheVariants as event
 use Rattle.desk_model.specs.declared.command.Cmd.{Cmd}
 use Rattle.desk_model.specs.declared.command.Cmd.TheVariants as cmd
-use Rattle.desk_model.specs.Fits.{IsCommand, IsEvent}
-use Rattle.desk_model.specs.History.{History}
-use Rattle.desk_model.specs.Legal.{IsLegal}
+use Rattle.desk_model.specs.statements.Fits.{IsCommand, IsEvent}
+use Rattle.desk_model.specs.histories.History.{History}
+use Rattle.desk_model.specs.histories.Legal.{IsLegal}
 
 IsEvent-IsProp : (e : Event) → IsProp (IsEvent e)
 IsEvent-IsProp (event.Ride at) = hlevel props

@@ -14,17 +14,17 @@ use Rattle.desk_model.specs.declared.vac_state.VacState.TheVariants as state
 use Rattle.desk_model.specs.declared.person.Person.{Person}
 use Rattle.desk_model.specs.declared.link.Link.{Link}
 use Rattle.desk_model.specs.declared.offer.Offer.{Offer}
-use Rattle.desk_model.specs.Entry.{EntryValue}
-use Rattle.desk_model.specs.Job.{JobValue}
-use Rattle.desk_model.specs.History.{History, with_entry, is_done, said}
-use Rattle.desk_model.specs.Register.{person_of, vacancy_of, vacancies}
-use Rattle.desk_model.specs.Boards.{chain}
-use Rattle.desk_model.specs.Offers.{asks_for, offer_in, is_of, settles, ends, offer_said, open_offer, is_to, offered_to, on_offer}
-use Rattle.desk_model.specs.Assigned.{assigned, holder, begun, is_annulled}
-use Rattle.desk_model.specs.States.{open_state, taken_state, begun_state, state_of}
-use Rattle.desk_model.specs.Bars.{facts_of, bar_of, may_have, is_free}
-use Rattle.desk_model.specs.SettleAnswer.{offered_answer, made_answer, settle_answer}
-use Rattle.desk_model.specs.Legal.{IsNext}
+use Rattle.desk_model.specs.statements.Entry.{EntryValue}
+use Rattle.desk_model.specs.statements.Job.{JobValue}
+use Rattle.desk_model.specs.histories.History.{History, with_entry, is_done, said}
+use Rattle.desk_model.specs.histories.Register.{person_of, vacancy_of, vacancies}
+use Rattle.desk_model.specs.boards.Boards.{chain}
+use Rattle.desk_model.specs.offers.Offers.{asks_for, offer_in, is_of, settles, ends, offer_said, open_offer, is_to, offered_to, on_offer}
+use Rattle.desk_model.specs.offers.Assigned.{assigned, holder, begun, is_annulled}
+use Rattle.desk_model.specs.offers.States.{open_state, taken_state, begun_state, state_of}
+use Rattle.desk_model.specs.offers.Bars.{facts_of, bar_of, may_have, is_free}
+use Rattle.desk_model.specs.answers.SettleAnswer.{offered_answer, made_answer, settle_answer}
+use Rattle.desk_model.specs.histories.Legal.{IsNext}
 use Rattle.desk_model.proofs.SaidLemmas.{last_of-or}
 use Rattle.desk_model.proofs.OfferedLemmas.{find-passes, link_of, entry-offered}
 use Rattle.desk_model.proofs.MadeLemmas.{made-among}

@@ -4,10 +4,10 @@ use Rattle.std.specs.List.{list_any, cons_option, filter_map}
 use Rattle.std.proofs.lemmas.List.Elements.{filter-append, filter_agree}
 use Rattle.std.proofs.lemmas.List.Folds.{list_any-append}
 use Rattle.std.proofs.lemmas.Bool.Decides.{nat_tests}
-use Rattle.desk_model.specs.Entry.{EntryValue}
-use Rattle.desk_model.specs.History.{History, with_entry, step_of, steps, said}
-use Rattle.desk_model.specs.Boards.{puts, is_on, sends, sent, sent_to, keep_last, order}
-use Rattle.desk_model.specs.Comes.{without}
+use Rattle.desk_model.specs.statements.Entry.{EntryValue}
+use Rattle.desk_model.specs.histories.History.{History, with_entry, step_of, steps, said}
+use Rattle.desk_model.specs.boards.Boards.{puts, is_on, sends, sent, sent_to, keep_last, order}
+use Rattle.desk_model.specs.laws.Comes.{without}
 use Rattle.desk_model.proofs.SaidLemmas.{last_of-silent, last_of-tells, filter_map-snoc, steps-snoc}
 
 pub same_number : (p q : ℕ) → nat_eq p q ≡ true → p ≡ q

@@ -6,21 +6,21 @@ use Rattle.std.proofs.lemmas.Bool.{false≢true}
 use Rattle.desk_model.specs.declared.command.Cmd.{Cmd}
 use Rattle.desk_model.specs.declared.command.Cmd.TheVariants as cmd
 use Rattle.desk_model.specs.declared.vac_state.VacState.{VacState}
-use Rattle.desk_model.specs.Entry.{EntryValue}
-use Rattle.desk_model.specs.History.{History, with_entry, is_done, said}
-use Rattle.desk_model.specs.Register.{enrols, enrols_any, gives, sets_up, sets_up_any, makes, makes_any, person_of, board_of, vacancy_of, quals_of, persons, boards, vacancies}
-use Rattle.desk_model.specs.Offers.{asks_for, is_of, offer_in, settles, offer_said, open_offer, is_to, offered_to, on_offer}
-use Rattle.desk_model.specs.Boards.{puts, is_on, sends, order}
-use Rattle.desk_model.specs.Duty.{tells, events, closes, is_closed}
-use Rattle.desk_model.specs.Marks.{marks, is_marked_off}
-use Rattle.desk_model.specs.Assigned.{assigned}
-use Rattle.desk_model.specs.States.{state_of}
-use Rattle.desk_model.specs.TurnedDown.{turns_down, has_turned_down}
-use Rattle.desk_model.specs.Held.{hold_told, hold_end}
-use Rattle.desk_model.specs.Comes.{takes_off, kept, left_by, order_by, assigned_by, state_by, offered_by, left_open}
-use Rattle.desk_model.specs.Parts.{Part, Stays, touches}
-use Rattle.desk_model.specs.Parts as part
-use Rattle.desk_model.specs.Legal.{IsNext, IsLegal}
+use Rattle.desk_model.specs.statements.Entry.{EntryValue}
+use Rattle.desk_model.specs.histories.History.{History, with_entry, is_done, said}
+use Rattle.desk_model.specs.histories.Register.{enrols, enrols_any, gives, sets_up, sets_up_any, makes, makes_any, person_of, board_of, vacancy_of, quals_of, persons, boards, vacancies}
+use Rattle.desk_model.specs.offers.Offers.{asks_for, is_of, offer_in, settles, offer_said, open_offer, is_to, offered_to, on_offer}
+use Rattle.desk_model.specs.boards.Boards.{puts, is_on, sends, order}
+use Rattle.desk_model.specs.histories.Duty.{tells, events, closes, is_closed}
+use Rattle.desk_model.specs.boards.Marks.{marks, is_marked_off}
+use Rattle.desk_model.specs.offers.Assigned.{assigned}
+use Rattle.desk_model.specs.offers.States.{state_of}
+use Rattle.desk_model.specs.offers.TurnedDown.{turns_down, has_turned_down}
+use Rattle.desk_model.specs.offers.Held.{hold_told, hold_end}
+use Rattle.desk_model.specs.laws.Comes.{takes_off, kept, left_by, order_by, assigned_by, state_by, offered_by, left_open}
+use Rattle.desk_model.specs.laws.Parts.{Part, Stays, touches}
+use Rattle.desk_model.specs.laws.Parts as part
+use Rattle.desk_model.specs.histories.Legal.{IsNext, IsLegal}
 use Rattle.desk_model.proofs.SaidLemmas.{or_none}
 use Rattle.desk_model.proofs.HeldLemmas.{max-none}
 use Rattle.desk_model.proofs.ComesLemmas.{comes}

@@ -11,13 +11,13 @@ use Rattle.desk_model.specs.declared.limits.TheConstants.{PLAN_LIMIT, RELIEF_LIM
 use Rattle.desk_model.specs.declared.command.Cmd.{Cmd}
 use Rattle.desk_model.specs.declared.command.Cmd.TheVariants as cmd
 use Rattle.desk_model.specs.declared.reply.Reply.TheVariants as reply
-use Rattle.desk_model.specs.Opening.{OpeningValue}
-use Rattle.desk_model.specs.Job.{JobValue}
-use Rattle.desk_model.specs.Entry.{EntryValue}
-use Rattle.desk_model.specs.History.{History, with_entry, is_done, said}
-use Rattle.desk_model.specs.Register.{makes, vacancy_of, vacancies}
-use Rattle.desk_model.specs.VacancyAnswer.{unknown_in, bad_in, is_edition_one, plan_answer, chain_answer, vacancy_answer}
-use Rattle.desk_model.specs.Legal.{answer_to, IsNext, IsLegal}
+use Rattle.desk_model.specs.statements.Opening.{OpeningValue}
+use Rattle.desk_model.specs.statements.Job.{JobValue}
+use Rattle.desk_model.specs.statements.Entry.{EntryValue}
+use Rattle.desk_model.specs.histories.History.{History, with_entry, is_done, said}
+use Rattle.desk_model.specs.histories.Register.{makes, vacancy_of, vacancies}
+use Rattle.desk_model.specs.answers.VacancyAnswer.{unknown_in, bad_in, is_edition_one, plan_answer, chain_answer, vacancy_answer}
+use Rattle.desk_model.specs.histories.Legal.{answer_to, IsNext, IsLegal}
 use Rattle.desk_model.proofs.SaidLemmas.{first_of-snoc}
 use Rattle.desk_model.proofs.LegalLemmas.{legal-induction, said-next}
 

@@ -3,11 +3,11 @@ use Rattle.std.proofs.Common.{◌≡◌, ℕ, ◌+◌, length, length-append, �
 use Rattle.std.specs.Option.{option_or}
 use Rattle.std.specs.List.{list_any, cons_option}
 use Rattle.std.proofs.lemmas.Bool.{cases_Bool, false≢true}
-use Rattle.desk_model.specs.Entry.{EntryValue}
-use Rattle.desk_model.specs.History.{History, opened, with_entry, steps_from, steps, said, last_of}
-use Rattle.desk_model.specs.Boards.{is_on, sends, sent_to, keep_last, order}
+use Rattle.desk_model.specs.statements.Entry.{EntryValue}
+use Rattle.desk_model.specs.histories.History.{History, opened, with_entry, steps_from, steps, said, last_of}
+use Rattle.desk_model.specs.boards.Boards.{is_on, sends, sent_to, keep_last, order}
 use Rattle.desk_model.proofs.OrderLemmas.{same_number, nat_eq-same}
-use Rattle.desk_model.specs.Rank.{is_number, sends_at, rank, IsBefore, Rises, IsOnce, IsByRank}
+use Rattle.desk_model.specs.boards.Rank.{is_number, sends_at, rank, IsBefore, Rises, IsOnce, IsByRank}
 use Rattle.desk_model.proofs.OnBoardLemmas.{any-filter, any-keep_last, any-order, sent_from}
 
 or_none : (o : Option ℕ) → option_or o None ≡ o

@@ -11,10 +11,10 @@ use Rattle.denial_rules.specs.declared.bar.Bar.{Bar}
 use Rattle.denial_rules.proofs.TableLemmas.{first_bar-none}
 use Rattle.law_bars.specs.Law.{law_bar, LawInWords}
 use Rattle.desk_model.specs.declared.person.Person.{Person}
-use Rattle.desk_model.specs.Job.{JobValue}
-use Rattle.desk_model.specs.History.{History}
-use Rattle.desk_model.specs.Duty.{events, in_tour}
-use Rattle.desk_model.specs.Bars.{facts_of, bar_of}
+use Rattle.desk_model.specs.statements.Job.{JobValue}
+use Rattle.desk_model.specs.histories.History.{History}
+use Rattle.desk_model.specs.histories.Duty.{events, in_tour}
+use Rattle.desk_model.specs.offers.Bars.{facts_of, bar_of}
 use Rattle.desk_model.proofs.EventLemmas.{lawful-events}
 
 pub tour-barred : (h : History) (m : ℕ) (job : JobValue) (p : ℕ) (person : Person) → in_tour h p ≡ true → is_some (bar_of h m job p person) ≡ true

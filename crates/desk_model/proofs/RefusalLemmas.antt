@@ -8,22 +8,22 @@ use Rattle.desk_model.specs.declared.reply.Reply.{Reply}
 use Rattle.desk_model.specs.declared.reply.Reply.TheVariants as reply
 use Rattle.desk_model.specs.declared.person.Person.{Person}
 use Rattle.desk_model.specs.declared.link.Link.{Link}
-use Rattle.desk_model.specs.Entry.{EntryValue}
-use Rattle.desk_model.specs.Job.{JobValue}
-use Rattle.desk_model.specs.History.{History, with_entry, step_of, steps, is_done, said, first_of, last_of}
-use Rattle.desk_model.specs.Register.{enrols, enrols_any, gives, sets_up, sets_up_any, makes, makes_any, person_of, quals_of, vacancies}
-use Rattle.desk_model.specs.Boards.{puts, is_on, sends, order, chain}
-use Rattle.desk_model.specs.Offers.{offer_in, is_of, settles, offer_said, open_offer, is_to, on_offer}
-use Rattle.desk_model.specs.Marks.{marks, is_marked_off}
-use Rattle.desk_model.specs.Assigned.{assigns, is_assigned, accepted_by, only_if, assigned, holder, begins, begun_by, begun, annuls}
-use Rattle.desk_model.specs.States.{state_of}
-use Rattle.desk_model.specs.TurnedDown.{turns_down, turned_by, has_turned_down}
-use Rattle.desk_model.specs.Held.{hold_told, hold_end}
-use Rattle.desk_model.specs.Duty.{tells, told_at, told_by, events_in, keep, told, events, closes}
-use Rattle.desk_model.specs.Bars.{bar_of, may_have, is_free}
-use Rattle.desk_model.specs.Comes.{assigned_by}
-use Rattle.desk_model.specs.Rank.{is_number, sends_at, rank}
-use Rattle.desk_model.specs.Refusal.{changes, IsSameDesk}
+use Rattle.desk_model.specs.statements.Entry.{EntryValue}
+use Rattle.desk_model.specs.statements.Job.{JobValue}
+use Rattle.desk_model.specs.histories.History.{History, with_entry, step_of, steps, is_done, said, first_of, last_of}
+use Rattle.desk_model.specs.histories.Register.{enrols, enrols_any, gives, sets_up, sets_up_any, makes, makes_any, person_of, quals_of, vacancies}
+use Rattle.desk_model.specs.boards.Boards.{puts, is_on, sends, order, chain}
+use Rattle.desk_model.specs.offers.Offers.{offer_in, is_of, settles, offer_said, open_offer, is_to, on_offer}
+use Rattle.desk_model.specs.boards.Marks.{marks, is_marked_off}
+use Rattle.desk_model.specs.offers.Assigned.{assigns, is_assigned, accepted_by, only_if, assigned, holder, begins, begun_by, begun, annuls}
+use Rattle.desk_model.specs.offers.States.{state_of}
+use Rattle.desk_model.specs.offers.TurnedDown.{turns_down, turned_by, has_turned_down}
+use Rattle.desk_model.specs.offers.Held.{hold_told, hold_end}
+use Rattle.desk_model.specs.histories.Duty.{tells, told_at, told_by, events_in, keep, told, events, closes}
+use Rattle.desk_model.specs.offers.Bars.{bar_of, may_have, is_free}
+use Rattle.desk_model.specs.laws.Comes.{assigned_by}
+use Rattle.desk_model.specs.boards.Rank.{is_number, sends_at, rank}
+use Rattle.desk_model.specs.laws.Refusal.{changes, IsSameDesk}
 use Rattle.desk_model.proofs.SaidLemmas.{first_of-silent, last_of-silent, filter_map-silent, steps-snoc}
 use Rattle.desk_model.proofs.OrderLemmas.{order-silent}
 use Rattle.desk_model.proofs.AssignedLemmas.{only_if-agree, has-comes, assigned-comes}

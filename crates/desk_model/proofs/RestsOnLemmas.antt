@@ -8,21 +8,21 @@ use Rattle.desk_model.specs.declared.command.Cmd.TheVariants as cmd
 use Rattle.desk_model.specs.declared.reply.Reply.{Reply}
 use Rattle.desk_model.specs.declared.reply.Reply.TheVariants as reply
 use Rattle.desk_model.specs.declared.offer.Offer.{Offer}
-use Rattle.desk_model.specs.Job.{JobValue}
-use Rattle.desk_model.specs.Entry.{EntryValue}
-use Rattle.desk_model.specs.History.{History, is_done}
-use Rattle.desk_model.specs.Register.{person_of, board_of, vacancy_of, persons, boards, vacancies}
-use Rattle.desk_model.specs.Boards.{is_on, boards_of, order}
-use Rattle.desk_model.specs.Assigned.{assigned}
-use Rattle.desk_model.specs.EnrolAnswer.{enrol_answer}
-use Rattle.desk_model.specs.BoardAnswer.{board_answer}
-use Rattle.desk_model.specs.ListAnswer.{list_answer}
-use Rattle.desk_model.specs.UnlistAnswer.{unlist_answer}
-use Rattle.desk_model.specs.VacancyAnswer.{vacancy_answer}
-use Rattle.desk_model.specs.SettleAnswer.{made_answer, settle_answer}
-use Rattle.desk_model.specs.GiveUpAnswer.{drop_answer}
-use Rattle.desk_model.specs.RestsOn.{MayEnrol, MaySetUp, MayMake, MayList, IsListed, MaySettle, MayDrop, RestsOn}
-use Rattle.desk_model.specs.Legal.{answer_to, IsNext}
+use Rattle.desk_model.specs.statements.Job.{JobValue}
+use Rattle.desk_model.specs.statements.Entry.{EntryValue}
+use Rattle.desk_model.specs.histories.History.{History, is_done}
+use Rattle.desk_model.specs.histories.Register.{person_of, board_of, vacancy_of, persons, boards, vacancies}
+use Rattle.desk_model.specs.boards.Boards.{is_on, boards_of, order}
+use Rattle.desk_model.specs.offers.Assigned.{assigned}
+use Rattle.desk_model.specs.answers.EnrolAnswer.{enrol_answer}
+use Rattle.desk_model.specs.answers.BoardAnswer.{board_answer}
+use Rattle.desk_model.specs.answers.ListAnswer.{list_answer}
+use Rattle.desk_model.specs.answers.UnlistAnswer.{unlist_answer}
+use Rattle.desk_model.specs.answers.VacancyAnswer.{vacancy_answer}
+use Rattle.desk_model.specs.answers.SettleAnswer.{made_answer, settle_answer}
+use Rattle.desk_model.specs.answers.GiveUpAnswer.{drop_answer}
+use Rattle.desk_model.specs.laws.RestsOn.{MayEnrol, MaySetUp, MayMake, MayList, IsListed, MaySettle, MayDrop, RestsOn}
+use Rattle.desk_model.specs.histories.Legal.{answer_to, IsNext}
 use Rattle.desk_model.proofs.LegalLemmas.{done-answer}
 use Rattle.desk_model.proofs.OpensLemmas.{settle-open}
 

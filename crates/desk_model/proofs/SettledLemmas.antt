@@ -6,20 +6,20 @@ use Rattle.desk_model.specs.declared.limits.TheConstants.{VACANCY_LIMIT, HOLD}
 use Rattle.desk_model.specs.declared.command.Cmd.TheVariants as cmd
 use Rattle.desk_model.specs.declared.reply.Reply.TheVariants as reply
 use Rattle.desk_model.specs.declared.offer.Offer.{Offer}
-use Rattle.desk_model.specs.Job.{JobValue}
-use Rattle.desk_model.specs.Entry.{EntryValue}
-use Rattle.desk_model.specs.History.{History, with_entry, is_done, said}
-use Rattle.desk_model.specs.Register.{vacancy_of, vacancies}
-use Rattle.desk_model.specs.Offers.{is_of, offer_in, settles, offered_to, open_offer, on_offer}
-use Rattle.desk_model.specs.Boards.{declined, order}
-use Rattle.desk_model.specs.Marks.{is_marked_off}
-use Rattle.desk_model.specs.Assigned.{assigned}
-use Rattle.desk_model.specs.TurnedDown.{has_turned_down}
-use Rattle.desk_model.specs.Held.{is_from, hold_end}
-use Rattle.desk_model.specs.VacancyAnswer.{unknown_in, bad_in, is_edition_one, chain_answer, vacancy_answer}
-use Rattle.desk_model.specs.Comes.{left_open, order_by}
-use Rattle.desk_model.specs.Accepted.{Answered, Accepted, to_bottom, Makes, Offers, Settles, Accepts, Declines, IsSilent, Withdraws, Annuls, Drops}
-use Rattle.desk_model.specs.Legal.{IsNext, IsLegal}
+use Rattle.desk_model.specs.statements.Job.{JobValue}
+use Rattle.desk_model.specs.statements.Entry.{EntryValue}
+use Rattle.desk_model.specs.histories.History.{History, with_entry, is_done, said}
+use Rattle.desk_model.specs.histories.Register.{vacancy_of, vacancies}
+use Rattle.desk_model.specs.offers.Offers.{is_of, offer_in, settles, offered_to, open_offer, on_offer}
+use Rattle.desk_model.specs.boards.Boards.{declined, order}
+use Rattle.desk_model.specs.boards.Marks.{is_marked_off}
+use Rattle.desk_model.specs.offers.Assigned.{assigned}
+use Rattle.desk_model.specs.offers.TurnedDown.{has_turned_down}
+use Rattle.desk_model.specs.offers.Held.{is_from, hold_end}
+use Rattle.desk_model.specs.answers.VacancyAnswer.{unknown_in, bad_in, is_edition_one, chain_answer, vacancy_answer}
+use Rattle.desk_model.specs.laws.Comes.{left_open, order_by}
+use Rattle.desk_model.specs.laws.Accepted.{Answered, Accepted, to_bottom, Makes, Offers, Settles, Accepts, Declines, IsSilent, Withdraws, Annuls, Drops}
+use Rattle.desk_model.specs.histories.Legal.{IsNext, IsLegal}
 use Rattle.desk_model.proofs.OrderLemmas.{same_number, nat_eq-swap}
 use Rattle.desk_model.proofs.LegalLemmas.{done-answer}
 use Rattle.desk_model.proofs.ComesLemmas.{comes}

@@ -6,14 +6,14 @@ use Rattle.std.proofs.lemmas.Option.{same_Some}
 use Rattle.desk_model.specs.declared.reply.Reply.{Reply}
 use Rattle.desk_model.specs.declared.reply.Reply.TheVariants as reply
 use Rattle.desk_model.specs.declared.offer.Offer.{Offer}
-use Rattle.desk_model.specs.Entry.{EntryValue}
-use Rattle.desk_model.specs.Job.{JobValue}
-use Rattle.desk_model.specs.History.{History, with_entry, said}
-use Rattle.desk_model.specs.Register.{enrols, makes, person_of, vacancy_of}
-use Rattle.desk_model.specs.Offers.{offer_in, open_offer, is_to, deadline}
-use Rattle.desk_model.specs.SettleAnswer.{settle_answer, accept_answer, decline_answer, no_answer}
-use Rattle.desk_model.specs.RestsOn.{IsEnrolled, IsMade, MaySettle}
-use Rattle.desk_model.specs.Legal.{IsNext, IsLegal}
+use Rattle.desk_model.specs.statements.Entry.{EntryValue}
+use Rattle.desk_model.specs.statements.Job.{JobValue}
+use Rattle.desk_model.specs.histories.History.{History, with_entry, said}
+use Rattle.desk_model.specs.histories.Register.{enrols, makes, person_of, vacancy_of}
+use Rattle.desk_model.specs.offers.Offers.{offer_in, open_offer, is_to, deadline}
+use Rattle.desk_model.specs.answers.SettleAnswer.{settle_answer, accept_answer, decline_answer, no_answer}
+use Rattle.desk_model.specs.laws.RestsOn.{IsEnrolled, IsMade, MaySettle}
+use Rattle.desk_model.specs.histories.Legal.{IsNext, IsLegal}
 use Rattle.desk_model.proofs.SaidLemmas.{first_of-snoc}
 use Rattle.desk_model.proofs.OrderLemmas.{same_number, nat_eq-same}
 use Rattle.desk_model.proofs.LegalLemmas.{legal-induction}

@@ -5,10 +5,10 @@ use Rattle.std.proofs.lemmas.Bool.{false≢true}
 use Rattle.desk_model.specs.declared.vac_state.VacState.{VacState}
 use Rattle.desk_model.specs.declared.vac_state.VacState.TheVariants as state
 use Rattle.desk_model.specs.declared.offer.Offer.{Offer}
-use Rattle.desk_model.specs.History.{History, said, last_of}
-use Rattle.desk_model.specs.Offers.{open_offer, is_to}
-use Rattle.desk_model.specs.Assigned.{is_assigned, accepted_by, only_if, holder, begun, is_annulled}
-use Rattle.desk_model.specs.States.{open_state, state_of}
+use Rattle.desk_model.specs.histories.History.{History, said, last_of}
+use Rattle.desk_model.specs.offers.Offers.{open_offer, is_to}
+use Rattle.desk_model.specs.offers.Assigned.{is_assigned, accepted_by, only_if, holder, begun, is_annulled}
+use Rattle.desk_model.specs.offers.States.{open_state, state_of}
 use Rattle.desk_model.proofs.SaidLemmas.{or_none}
 use Rattle.desk_model.proofs.OrderLemmas.{same_number, nat_eq-same}
 

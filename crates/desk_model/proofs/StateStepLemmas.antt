@@ -10,16 +10,16 @@ use Rattle.desk_model.specs.declared.reply.Reply.TheVariants as reply
 use Rattle.desk_model.specs.declared.vac_state.VacState.{VacState}
 use Rattle.desk_model.specs.declared.vac_state.VacState.TheVariants as state
 use Rattle.desk_model.specs.declared.offer.Offer.{Offer}
-use Rattle.desk_model.specs.Opening.{OpeningValue}
-use Rattle.desk_model.specs.Entry.{EntryValue}
-use Rattle.desk_model.specs.History.{History, opened, with_entry, step_of, steps, is_done, said, first_of}
-use Rattle.desk_model.specs.Register.{vacancy_of}
-use Rattle.desk_model.specs.Offers.{offer_in, is_of, settles, offer_said, open_offer, is_to}
-use Rattle.desk_model.specs.Assigned.{reports, assigns, is_assigned, accepted_by, begins, begun_by, begun, annuls, is_annulled}
-use Rattle.desk_model.specs.States.{state_of}
-use Rattle.desk_model.specs.Comes.{given_up, started, state_by, offered_by, state_after}
-use Rattle.desk_model.specs.GiveUpAnswer.{over_answer, annul_answer}
-use Rattle.desk_model.specs.Legal.{answer_to, IsNext, IsLegal}
+use Rattle.desk_model.specs.statements.Opening.{OpeningValue}
+use Rattle.desk_model.specs.statements.Entry.{EntryValue}
+use Rattle.desk_model.specs.histories.History.{History, opened, with_entry, step_of, steps, is_done, said, first_of}
+use Rattle.desk_model.specs.histories.Register.{vacancy_of}
+use Rattle.desk_model.specs.offers.Offers.{offer_in, is_of, settles, offer_said, open_offer, is_to}
+use Rattle.desk_model.specs.offers.Assigned.{reports, assigns, is_assigned, accepted_by, begins, begun_by, begun, annuls, is_annulled}
+use Rattle.desk_model.specs.offers.States.{state_of}
+use Rattle.desk_model.specs.laws.Comes.{given_up, started, state_by, offered_by, state_after}
+use Rattle.desk_model.specs.answers.GiveUpAnswer.{over_answer, annul_answer}
+use Rattle.desk_model.specs.histories.Legal.{answer_to, IsNext, IsLegal}
 use Rattle.desk_model.proofs.SaidLemmas.{or_none, first_of-snoc, last_of-snoc, is_some-snoc, steps-snoc}
 use Rattle.desk_model.proofs.OrderLemmas.{same_number, nat_eq-swap}
 use Rattle.desk_model.proofs.LegalLemmas.{legal-induction, done-answer}

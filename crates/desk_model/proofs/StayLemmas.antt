@@ -10,8 +10,8 @@ use Rattle.duty_events.proofs.EventLemmas.{follows-reached}
 use Rattle.duty_events.proofs.ListLemmas.{last_event-push, lawful-induction}
 use Rattle.duty_events.proofs.PlaceLemmas.{place_of-nil, place_of-behind}
 use Rattle.desk_model.specs.declared.person.Person.{Person}
-use Rattle.desk_model.specs.History.{History}
-use Rattle.desk_model.specs.Duty.{events, place_at}
+use Rattle.desk_model.specs.histories.History.{History}
+use Rattle.desk_model.specs.histories.Duty.{events, place_at}
 use Rattle.desk_model.proofs.EventLemmas.{lawful-events}
 
 abbrev Settled : List Event → Type 0

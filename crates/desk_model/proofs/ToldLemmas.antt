@@ -9,13 +9,13 @@ use Rattle.duty_events.specs.Lists.{stage_of, latest}
 use Rattle.desk_model.specs.declared.command.Cmd.{Cmd}
 use Rattle.desk_model.specs.declared.command.Cmd.TheVariants as cmd
 use Rattle.desk_model.specs.declared.reply.Reply.TheVariants as reply
-use Rattle.desk_model.specs.Opening.{OpeningValue}
-use Rattle.desk_model.specs.Entry.{EntryValue}
-use Rattle.desk_model.specs.Fits.{IsEvent, IsCommand}
-use Rattle.desk_model.specs.History.{History, is_done, said}
-use Rattle.desk_model.specs.Duty.{tells, may_come, events}
-use Rattle.desk_model.specs.EventAnswer.{judged_answer, told_answer}
-use Rattle.desk_model.specs.Legal.{is_within, last_moment, answer_to, IsNext, IsLegal}
+use Rattle.desk_model.specs.statements.Opening.{OpeningValue}
+use Rattle.desk_model.specs.statements.Entry.{EntryValue}
+use Rattle.desk_model.specs.statements.Fits.{IsEvent, IsCommand}
+use Rattle.desk_model.specs.histories.History.{History, is_done, said}
+use Rattle.desk_model.specs.histories.Duty.{tells, may_come, events}
+use Rattle.desk_model.specs.answers.EventAnswer.{judged_answer, told_answer}
+use Rattle.desk_model.specs.histories.Legal.{is_within, last_moment, answer_to, IsNext, IsLegal}
 use Rattle.desk_model.proofs.LegalLemmas.{legal-induction, said-next}
 use Rattle.desk_model.proofs.MomentLemmas.{last_moment-comes}
 use Rattle.desk_model.proofs.EventLemmas.{event-years, past-done, event-done, command-comes}

@@ -9,18 +9,18 @@ use Rattle.desk_model.specs.declared.person.Person.{Person}
 use Rattle.desk_model.specs.declared.reply.Reply.{Reply}
 use Rattle.desk_model.specs.declared.reply.Reply.TheVariants as reply
 use Rattle.desk_model.specs.declared.vac_state.VacState.TheVariants as state
-use Rattle.desk_model.specs.Job.{JobValue}
-use Rattle.desk_model.specs.Entry.{EntryValue}
-use Rattle.desk_model.specs.History.{History, step_of}
-use Rattle.desk_model.specs.Boards.{chain}
-use Rattle.desk_model.specs.Offers.{asks_for}
-use Rattle.desk_model.specs.States.{state_of}
-use Rattle.desk_model.specs.Bars.{bar_of, first_free}
-use Rattle.desk_model.specs.ExplainAnswer.{clear_answer}
-use Rattle.desk_model.specs.NextAnswer.{choice_answer, next_answer}
-use Rattle.desk_model.specs.OfferAnswer.{named_answer}
-use Rattle.desk_model.specs.Denials.{Names, IsOpen, IsRightlyUnfilled, IsUnfilledRightly, IsRightDenial, DeniesRightly, IsRightRunAround, RunsAroundRightly}
-use Rattle.desk_model.specs.Legal.{answer_to, IsNext, IsLegal}
+use Rattle.desk_model.specs.statements.Job.{JobValue}
+use Rattle.desk_model.specs.statements.Entry.{EntryValue}
+use Rattle.desk_model.specs.histories.History.{History, step_of}
+use Rattle.desk_model.specs.boards.Boards.{chain}
+use Rattle.desk_model.specs.offers.Offers.{asks_for}
+use Rattle.desk_model.specs.offers.States.{state_of}
+use Rattle.desk_model.specs.offers.Bars.{bar_of, first_free}
+use Rattle.desk_model.specs.answers.ExplainAnswer.{clear_answer}
+use Rattle.desk_model.specs.answers.NextAnswer.{choice_answer, next_answer}
+use Rattle.desk_model.specs.answers.OfferAnswer.{named_answer}
+use Rattle.desk_model.specs.laws.Denials.{Names, IsOpen, IsRightlyUnfilled, IsUnfilledRightly, IsRightDenial, DeniesRightly, IsRightRunAround, RunsAroundRightly}
+use Rattle.desk_model.specs.histories.Legal.{answer_to, IsNext, IsLegal}
 use Rattle.desk_model.proofs.OrderLemmas.{nat_eq-same}
 use Rattle.desk_model.proofs.JudgedLemmas.{is_call, other-no, IsKnown, IsJudged, IsChosen, explained, called, chosen}
 use Rattle.desk_model.proofs.OfferedLemmas.{find-any, entry-called}

@@ -1,8 +1,8 @@
 /// What stands for a history, and has room for more entries.
 pub trait Booked {
     ghost use Rattle.std.specs.Prelude.{ℕ, ◌≡◌, ◌≤◌, length};
-    ghost use Rattle.desk_model.specs.History.{History};
-    ghost use Rattle.desk_model.specs.Mark.{Mark};
+    ghost use Rattle.desk_model.specs.histories.History.{History};
+    ghost use Rattle.desk_model.specs.histories.Mark.{Mark};
 
     // How the desk was opened, and its entries in order.
     ghost history: { Self → History };

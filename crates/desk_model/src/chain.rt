@@ -4,7 +4,7 @@ ghost use Rattle.std.specs.List.{All, Contains};
 ghost use Rattle.std.specs.Bool.{Decides};
 ghost use Rattle.arrayvec.specs.ArrayVec.{array_vec_len};
 ghost use Rattle.desk_base.specs.Code.{IsCode};
-ghost use Rattle.desk_model.specs.Chain.{IsChain, chain_text};
+ghost use Rattle.desk_model.specs.statements.Chain.{IsChain, chain_text};
 
 use arrayvec::ArrayVec;
 use desk_base::{Code, split_once};
@@ -26,8 +26,8 @@ impl Model for Chain {
 
     ghost Value = { List (List ℕ) };
 
-    ghost use Rattle.desk_model.specs.ChainInside.{chain_boards, KeepsChain};
-    ghost use Rattle.desk_model.specs.ChainInside.{chain_inside, chain_inside-chain_boards};
+    ghost use Rattle.desk_model.specs.statements.ChainInside.{chain_boards, KeepsChain};
+    ghost use Rattle.desk_model.specs.statements.ChainInside.{chain_inside, chain_inside-chain_boards};
 
     ghost view = { chain_boards };
 

@@ -5,9 +5,9 @@ use crate::{Entry, LAST_CALLER, Stated};
 /// What answers commands. It stands for the history of all that it was asked so far.
 pub trait DeskCore: Drop {
     ghost use Rattle.std.specs.Prelude.{ℕ};
-    ghost use Rattle.desk_model.specs.Opening.{OpeningValue};
-    ghost use Rattle.desk_model.specs.History.{History, with_entry};
-    ghost use Rattle.desk_model.specs.Legal.{next, IsLegal};
+    ghost use Rattle.desk_model.specs.statements.Opening.{OpeningValue};
+    ghost use Rattle.desk_model.specs.histories.History.{History, with_entry};
+    ghost use Rattle.desk_model.specs.histories.Legal.{next, IsLegal};
 
     // How the desk was opened.
     ghost opening: { Self → OpeningValue };

@@ -1,7 +1,7 @@
 ghost use Rattle.std.specs.Prelude.{◌≡◌, ◌≤◌, true, false, IfSome, IfNone};
-ghost use Rattle.desk_model.specs.History.{is_done};
+ghost use Rattle.desk_model.specs.histories.History.{is_done};
 ghost use Rattle.desk_model.specs.declared.limits.TheConstants.{LAST_CALLER};
-ghost use Rattle.desk_model.specs.Entry.{entry_of};
+ghost use Rattle.desk_model.specs.statements.Entry.{entry_of};
 
 use crate::{Cmd, Reply, Stated};
 use desk_base::Minute;
@@ -19,7 +19,7 @@ pub struct Entry {
 impl Model for Entry {
     ghost use Rattle.std.specs.Prelude.{◌≤◌};
     ghost use Rattle.desk_model.specs.declared.limits.TheConstants.{LAST_CALLER};
-    ghost use Rattle.desk_model.specs.Entry.{EntryValue, entry_of};
+    ghost use Rattle.desk_model.specs.statements.Entry.{EntryValue, entry_of};
 
     ghost Value = { EntryValue };
 

@@ -1,7 +1,7 @@
 ghost use Rattle.std.specs.Prelude.{◌≡◌, ◌≤◌};
 ghost use Rattle.std.specs.Option.{SomeIff};
 ghost use Rattle.desk_base.specs.Minute.{IsInYears};
-ghost use Rattle.desk_model.specs.Job.{IsPlan, job_of};
+ghost use Rattle.desk_model.specs.statements.Job.{IsPlan, job_of};
 
 use crate::Chain;
 use desk_base::{Code, Minute, VacNo};
@@ -23,7 +23,7 @@ pub struct Job {
 }
 
 impl Model for Job {
-    ghost use Rattle.desk_model.specs.Job.{JobValue, IsPlan, job_of};
+    ghost use Rattle.desk_model.specs.statements.Job.{JobValue, IsPlan, job_of};
 
     ghost Value = { JobValue };
 

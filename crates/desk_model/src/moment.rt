@@ -1,7 +1,7 @@
 //! The moments of a desk.
 ghost use Rattle.std.specs.Prelude.{◌≡◌};
-ghost use Rattle.desk_model.specs.History.{history_of};
-ghost use Rattle.desk_model.specs.Legal.{last_moment};
+ghost use Rattle.desk_model.specs.histories.History.{history_of};
+ghost use Rattle.desk_model.specs.histories.Legal.{last_moment};
 
 use crate::entry::Entry;
 use crate::opening::Opening;

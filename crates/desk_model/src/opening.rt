@@ -2,7 +2,7 @@ ghost use Rattle.std.specs.Prelude.{◌≡◌};
 ghost use Rattle.std.specs.Option.{SomeIff};
 ghost use Rattle.desk_base.specs.Minute.{IsInYears};
 ghost use Rattle.desk_base.specs.Window.{IsWindow};
-ghost use Rattle.desk_model.specs.Opening.{IsOpening, opening_of};
+ghost use Rattle.desk_model.specs.statements.Opening.{IsOpening, opening_of};
 
 use crate::Edition;
 use desk_base::{Minute, Window};
@@ -19,7 +19,7 @@ pub struct Opening {
 }
 
 impl Model for Opening {
-    ghost use Rattle.desk_model.specs.Opening.{OpeningValue, IsOpening, opening_of};
+    ghost use Rattle.desk_model.specs.statements.Opening.{OpeningValue, IsOpening, opening_of};
 
     ghost Value = { OpeningValue };
 

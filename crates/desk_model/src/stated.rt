@@ -1,8 +1,8 @@
 ghost use Rattle.std.specs.Prelude.{◌≡◌};
 ghost use Rattle.std.specs.Option.{SomeIff};
 ghost use Rattle.std.specs.Bool.{Decides};
-ghost use Rattle.desk_model.specs.Statement.{stated_of};
-ghost use Rattle.desk_model.specs.Fits.{IsEvent, IsJob, IsCommand, IsStated};
+ghost use Rattle.desk_model.specs.statements.Statement.{stated_of};
+ghost use Rattle.desk_model.specs.statements.Fits.{IsEvent, IsJob, IsCommand, IsStated};
 
 use crate::{Cmd, Job};
 use desk_base::Minute;
@@ -17,8 +17,8 @@ pub struct Stated {
 }
 
 impl Model for Stated {
-    ghost use Rattle.desk_model.specs.Statement.{StatedValue, stated_of};
-    ghost use Rattle.desk_model.specs.Fits.{IsStated};
+    ghost use Rattle.desk_model.specs.statements.Statement.{StatedValue, stated_of};
+    ghost use Rattle.desk_model.specs.statements.Fits.{IsStated};
 
     ghost Value = { StatedValue };
 

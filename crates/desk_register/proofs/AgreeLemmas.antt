@@ -5,14 +5,14 @@ use Rattle.std.specs.Option.{option_or}
 use Rattle.desk_model.specs.declared.command.Cmd.{Cmd}
 use Rattle.desk_model.specs.declared.command.Cmd.TheVariants as cmd
 use Rattle.qualifications.specs.declared.craft.Craft.{Craft}
-use Rattle.desk_model.specs.Entry.{EntryValue}
-use Rattle.desk_model.specs.History.{History, with_entry, said}
-use Rattle.desk_model.specs.Register.{enrols, gives, quals_of}
-use Rattle.desk_model.specs.Duty.{closes, is_closed}
-use Rattle.desk_model.specs.Marks.{marks, is_marked_off}
-use Rattle.desk_model.specs.Comes.{Comes, assigned_by, assigned_after}
-use Rattle.desk_model.specs.Assigned.{assigned}
-use Rattle.desk_model.specs.Offers.{on_offer}
+use Rattle.desk_model.specs.statements.Entry.{EntryValue}
+use Rattle.desk_model.specs.histories.History.{History, with_entry, said}
+use Rattle.desk_model.specs.histories.Register.{enrols, gives, quals_of}
+use Rattle.desk_model.specs.histories.Duty.{closes, is_closed}
+use Rattle.desk_model.specs.boards.Marks.{marks, is_marked_off}
+use Rattle.desk_model.specs.laws.Comes.{Comes, assigned_by, assigned_after}
+use Rattle.desk_model.specs.offers.Assigned.{assigned}
+use Rattle.desk_model.specs.offers.Offers.{on_offer}
 use Rattle.desk_register.specs.Changes.{subject, changed, enrolled}
 use Rattle.desk_register.specs.Done.{IsDone}
 use Rattle.desk_register.specs.Persons.{offered_in, IsPerson}

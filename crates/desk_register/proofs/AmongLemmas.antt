@@ -9,9 +9,9 @@ use Rattle.std.proofs.lemmas.Bool.Decides.{nat_tests}
 use Rattle.std.proofs.lemmas.Slice.Eq.{bytes_eq-Decides}
 use Rattle.desk_model.specs.declared.command.Cmd.{Cmd}
 use Rattle.desk_model.specs.declared.command.Cmd.TheVariants as cmd
-use Rattle.desk_model.specs.Entry.{EntryValue}
-use Rattle.desk_model.specs.History.{History, is_done, said, first_of}
-use Rattle.desk_model.specs.Register.{enrols, enrols_any, sets_up, sets_up_any, person_of, board_of, persons, boards}
+use Rattle.desk_model.specs.statements.Entry.{EntryValue}
+use Rattle.desk_model.specs.histories.History.{History, is_done, said, first_of}
+use Rattle.desk_model.specs.histories.Register.{enrols, enrols_any, sets_up, sets_up_any, person_of, board_of, persons, boards}
 use Rattle.desk_register.specs.Among.{place_among, board_place}
 
 -- a place is there where the test passes anywhere

@@ -7,12 +7,12 @@ use Rattle.desk_model.specs.declared.command.Cmd.TheVariants as cmd
 use Rattle.desk_model.specs.declared.reply.Reply.{Reply}
 use Rattle.desk_model.specs.declared.reply.Reply.TheVariants as reply
 use Rattle.desk_model.specs.declared.offer.Offer.{Offer}
-use Rattle.desk_model.specs.Job.{JobValue}
-use Rattle.desk_model.specs.Entry.{EntryValue}
-use Rattle.desk_model.specs.History.{History, is_done}
-use Rattle.desk_model.specs.Register.{person_of, vacancy_of}
-use Rattle.desk_model.specs.SettleAnswer.{made_answer}
-use Rattle.desk_model.specs.Legal.{is_within, moment, answer_to, IsNext}
+use Rattle.desk_model.specs.statements.Job.{JobValue}
+use Rattle.desk_model.specs.statements.Entry.{EntryValue}
+use Rattle.desk_model.specs.histories.History.{History, is_done}
+use Rattle.desk_model.specs.histories.Register.{person_of, vacancy_of}
+use Rattle.desk_model.specs.answers.SettleAnswer.{made_answer}
+use Rattle.desk_model.specs.histories.Legal.{is_within, moment, answer_to, IsNext}
 use Rattle.desk_register.specs.Changes.{subject}
 use Rattle.desk_register.proofs.ChangeLemmas.{OfNumber}
 use Rattle.desk_register.specs.Vacancies.{turner}

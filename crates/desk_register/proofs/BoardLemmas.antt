@@ -12,11 +12,11 @@ use Rattle.desk_model.specs.declared.command.Cmd.{Cmd}
 use Rattle.desk_model.specs.declared.command.Cmd.TheVariants as cmd
 use Rattle.desk_model.specs.declared.reply.Reply.TheVariants as reply
 use Rattle.desk_model.specs.declared.board_setup.BoardSetup.{BoardSetup}
-use Rattle.desk_model.specs.Entry.{EntryValue}
-use Rattle.desk_model.specs.History.{History, with_entry, is_done}
-use Rattle.desk_model.specs.Register.{sets_up, sets_up_any, board_of, boards}
-use Rattle.desk_model.specs.Comes.{Comes}
-use Rattle.desk_model.specs.Legal.{answer_to, IsNext}
+use Rattle.desk_model.specs.statements.Entry.{EntryValue}
+use Rattle.desk_model.specs.histories.History.{History, with_entry, is_done}
+use Rattle.desk_model.specs.histories.Register.{sets_up, sets_up_any, board_of, boards}
+use Rattle.desk_model.specs.laws.Comes.{Comes}
+use Rattle.desk_model.specs.histories.Legal.{answer_to, IsNext}
 use Rattle.desk_register.specs.Done.{IsDone}
 use Rattle.desk_register.specs.Boards.{AreBoards, CanSetUp, put_board}
 use Rattle.desk_register.proofs.PersonLemmas.{option_or-none}

@@ -6,8 +6,8 @@ use Rattle.std.specs.Option.{option_map}
 use Rattle.desk_model.specs.declared.command.Cmd.{Cmd}
 use Rattle.desk_model.specs.declared.command.Cmd.TheVariants as cmd
 use Rattle.qualifications.specs.declared.craft.Craft.{Craft}
-use Rattle.desk_model.specs.Register.{enrols_any}
-use Rattle.desk_model.specs.Offers.{is_of}
+use Rattle.desk_model.specs.histories.Register.{enrols_any}
+use Rattle.desk_model.specs.offers.Offers.{is_of}
 use Rattle.desk_register.specs.Changes.{subject, changed, freed, put_under, put_enrolled, enrolled, CanEnrol}
 use Rattle.desk_register.specs.Persons.{assigned_in}
 use Rattle.desk_register.specs.declared.kept_person.KeptPerson.{KeptPerson}

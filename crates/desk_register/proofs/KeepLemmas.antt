@@ -13,17 +13,17 @@ use Rattle.desk_model.specs.declared.reply.Reply.TheVariants as reply
 use Rattle.desk_model.specs.declared.offer.Offer.{Offer}
 use Rattle.desk_model.specs.declared.vac_state.VacState.{VacState}
 use Rattle.desk_model.specs.declared.vac_state.VacState.TheVariants as state
-use Rattle.desk_model.specs.Job.{JobValue}
-use Rattle.desk_model.specs.Entry.{EntryValue}
-use Rattle.desk_model.specs.History.{History, with_entry, is_done}
-use Rattle.desk_model.specs.Register.{makes, makes_any, vacancy_of, vacancies}
-use Rattle.desk_model.specs.VacancyAnswer.{is_edition_one, unknown_in, bad_in, chain_answer}
-use Rattle.desk_model.specs.SettleAnswer.{made_answer}
-use Rattle.desk_model.specs.Offers.{is_of, asks_for, offer_in}
-use Rattle.desk_model.specs.Assigned.{reports, assigned}
-use Rattle.desk_model.specs.States.{state_of}
-use Rattle.desk_model.specs.Comes.{Comes, state_after, offered_by}
-use Rattle.desk_model.specs.Legal.{answer_to, IsNext}
+use Rattle.desk_model.specs.statements.Job.{JobValue}
+use Rattle.desk_model.specs.statements.Entry.{EntryValue}
+use Rattle.desk_model.specs.histories.History.{History, with_entry, is_done}
+use Rattle.desk_model.specs.histories.Register.{makes, makes_any, vacancy_of, vacancies}
+use Rattle.desk_model.specs.answers.VacancyAnswer.{is_edition_one, unknown_in, bad_in, chain_answer}
+use Rattle.desk_model.specs.answers.SettleAnswer.{made_answer}
+use Rattle.desk_model.specs.offers.Offers.{is_of, asks_for, offer_in}
+use Rattle.desk_model.specs.offers.Assigned.{reports, assigned}
+use Rattle.desk_model.specs.offers.States.{state_of}
+use Rattle.desk_model.specs.laws.Comes.{Comes, state_after, offered_by}
+use Rattle.desk_model.specs.histories.Legal.{answer_to, IsNext}
 use Rattle.desk_register.specs.Done.{IsDone}
 use Rattle.desk_register.specs.Vacancies.{IsVacancy, AreVacancies, target, had_by, IsMade, CanMake, Makes, ChangesAt, Changes, offered_vac, offered_person}
 use Rattle.desk_register.specs.declared.kept_vacancy.KeptVacancy.{KeptVacancy}

@@ -10,13 +10,13 @@ use Rattle.desk_model.specs.declared.reply.Reply.TheVariants as reply
 use Rattle.desk_model.specs.declared.offer.Offer.{Offer}
 use Rattle.desk_model.specs.declared.vac_state.VacState.{VacState}
 use Rattle.desk_model.specs.declared.vac_state.VacState.TheVariants as state
-use Rattle.desk_model.specs.Entry.{EntryValue}
-use Rattle.desk_model.specs.History.{History, is_done}
-use Rattle.desk_model.specs.Register.{enrols_any, vacancies}
-use Rattle.desk_model.specs.Offers.{is_of, asks_for, offer_in, settles, open_offer, is_to, offered_to, on_offer}
-use Rattle.desk_model.specs.States.{state_of}
-use Rattle.desk_model.specs.Comes.{left_open, on_offer_after}
-use Rattle.desk_model.specs.RestsOn.{RestsOn}
+use Rattle.desk_model.specs.statements.Entry.{EntryValue}
+use Rattle.desk_model.specs.histories.History.{History, is_done}
+use Rattle.desk_model.specs.histories.Register.{enrols_any, vacancies}
+use Rattle.desk_model.specs.offers.Offers.{is_of, asks_for, offer_in, settles, open_offer, is_to, offered_to, on_offer}
+use Rattle.desk_model.specs.offers.States.{state_of}
+use Rattle.desk_model.specs.laws.Comes.{left_open, on_offer_after}
+use Rattle.desk_model.specs.laws.RestsOn.{RestsOn}
 use Rattle.desk_register.specs.Changes.{subject, changed, freed, with_offer, put_under, put_enrolled, enrolled, CanEnrol, asked, offeree}
 use Rattle.desk_register.specs.Done.{IsDone}
 use Rattle.desk_register.specs.Persons.{assigned_in, offered_in}

@@ -6,11 +6,11 @@ use Rattle.std.specs.Option.{option_map, option_map_or, option_or}
 use Rattle.desk_register.specs.Persons.{assigned_in}
 use Rattle.desk_model.specs.declared.command.Cmd.{Cmd}
 use Rattle.desk_model.specs.declared.command.Cmd.TheVariants as cmd
-use Rattle.desk_model.specs.Offers.{is_of}
-use Rattle.desk_model.specs.Register.{enrols, gives}
-use Rattle.desk_model.specs.Duty.{closes}
-use Rattle.desk_model.specs.Marks.{marks}
-use Rattle.desk_model.specs.Comes.{assigned_by}
+use Rattle.desk_model.specs.offers.Offers.{is_of}
+use Rattle.desk_model.specs.histories.Register.{enrols, gives}
+use Rattle.desk_model.specs.histories.Duty.{closes}
+use Rattle.desk_model.specs.boards.Marks.{marks}
+use Rattle.desk_model.specs.laws.Comes.{assigned_by}
 use Rattle.desk_register.specs.Changes.{subject, changed}
 use Rattle.desk_register.specs.declared.kept_person.KeptPerson.{KeptPerson}
 

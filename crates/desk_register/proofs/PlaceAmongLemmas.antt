@@ -52,12 +52,3 @@ places-apart numbers p q i j p_is q_is = go (nat_eq i j) (nat_eq p q) refl refl
     go false false x y = refl
     go true false x y = absurd (false≢true (sym y ∙ rw (place-is numbers p i p_is, place-is numbers q j q_is, same_number i j x) (same (get_or numbers j 0))))
     go false true x y = absurd (false≢true (sym x ∙ ap (λ o. option_map_or (nat_eq i) o false) (sym q_is ∙ ap (place_among numbers) (sym (same_number p q y)) ∙ p_is) ∙ same i))
-
--- where no number stands twice, each has the place at which it stands
-pub place-at : (numbers : List ℕ) (p i : ℕ) → IsDistinct nat_eq numbers → i < length numbers → get_or numbers i 0 ≡ p → place_among numbers p ≡ Some i
-place-at numbers p i distinct within is =
-    let before : (k : ℕ) → k < i → nat_eq p (get_or numbers k 0) ≡ false =
-    λ k early. let apart = apart_from_distinct nat_eq numbers k i 0 distinct early within in grind (arith, nat_tests, apart, is) in
-    let at = position_or_len_is (nat_eq p) numbers i 0 (omega (arith, within)) before (λ inside. rw is (same p)) in
-    let short : nat_lt i (length numbers) ≡ true = grind (arith, nat_tests, within) in
-    rw (at, short) refl

@@ -4,12 +4,12 @@ use Rattle.std.proofs.lemmas.Bool.{false≢true}
 use Rattle.std.specs.Option.{option_and_then}
 use Rattle.desk_model.specs.declared.command.Cmd.{Cmd}
 use Rattle.desk_model.specs.declared.board_setup.BoardSetup.{BoardSetup}
-use Rattle.desk_model.specs.Opening.{OpeningValue}
-use Rattle.desk_model.specs.Entry.{EntryValue}
-use Rattle.desk_model.specs.History.{History, opened, steps}
-use Rattle.desk_model.specs.Register.{person_of, persons, vacancies}
-use Rattle.desk_model.specs.Offers.{is_of}
-use Rattle.desk_model.specs.Legal.{IsNext}
+use Rattle.desk_model.specs.statements.Opening.{OpeningValue}
+use Rattle.desk_model.specs.statements.Entry.{EntryValue}
+use Rattle.desk_model.specs.histories.History.{History, opened, steps}
+use Rattle.desk_model.specs.histories.Register.{person_of, persons, vacancies}
+use Rattle.desk_model.specs.offers.Offers.{is_of}
+use Rattle.desk_model.specs.histories.Legal.{IsNext}
 use Rattle.desk_register.specs.Done.{IsDone}
 use Rattle.desk_register.specs.Persons.{ArePersons}
 use Rattle.desk_register.specs.Boards.{AreBoards}

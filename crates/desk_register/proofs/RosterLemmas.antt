@@ -11,15 +11,15 @@ use Rattle.desk_model.specs.declared.command.Cmd.TheVariants as cmd
 use Rattle.desk_model.specs.declared.reply.Reply.TheVariants as reply
 use Rattle.desk_model.specs.declared.vac_state.VacState.{VacState}
 use Rattle.desk_model.specs.declared.vac_state.VacState.TheVariants as state
-use Rattle.desk_model.specs.Entry.{EntryValue}
-use Rattle.desk_model.specs.History.{History, with_entry, is_done}
-use Rattle.desk_model.specs.Register.{enrols_any, person_of, persons}
-use Rattle.desk_model.specs.Offers.{is_of, on_offer}
-use Rattle.desk_model.specs.Assigned.{assigned}
-use Rattle.desk_model.specs.States.{state_of}
-use Rattle.desk_model.specs.Comes.{Comes, on_offer_after}
-use Rattle.desk_model.specs.RestsOn.{RestsOn}
-use Rattle.desk_model.specs.Legal.{answer_to, IsNext}
+use Rattle.desk_model.specs.statements.Entry.{EntryValue}
+use Rattle.desk_model.specs.histories.History.{History, with_entry, is_done}
+use Rattle.desk_model.specs.histories.Register.{enrols_any, person_of, persons}
+use Rattle.desk_model.specs.offers.Offers.{is_of, on_offer}
+use Rattle.desk_model.specs.offers.Assigned.{assigned}
+use Rattle.desk_model.specs.offers.States.{state_of}
+use Rattle.desk_model.specs.laws.Comes.{Comes, on_offer_after}
+use Rattle.desk_model.specs.laws.RestsOn.{RestsOn}
+use Rattle.desk_model.specs.histories.Legal.{answer_to, IsNext}
 use Rattle.desk_register.specs.Changes.{subject, changed, freed, with_offer, put_under, put_enrolled, CanEnrol, taker, loser, offeree}
 use Rattle.desk_register.specs.Done.{IsDone}
 use Rattle.desk_register.specs.Persons.{assigned_in, offered_in, IsPerson, ArePersons}

@@ -7,12 +7,12 @@ use Rattle.desk_model.specs.declared.command.Cmd.{Cmd}
 use Rattle.desk_model.specs.declared.command.Cmd.TheVariants as cmd
 use Rattle.desk_model.specs.declared.vac_state.VacState.{VacState}
 use Rattle.desk_model.specs.declared.vac_state.VacState.TheVariants as state
-use Rattle.desk_model.specs.History.{History}
-use Rattle.desk_model.specs.Register.{makes}
-use Rattle.desk_model.specs.Offers.{is_of}
-use Rattle.desk_model.specs.Assigned.{reports, is_assigned, assigned}
-use Rattle.desk_model.specs.States.{state_of}
-use Rattle.desk_model.specs.Comes.{given_up, started, state_by}
+use Rattle.desk_model.specs.histories.History.{History}
+use Rattle.desk_model.specs.histories.Register.{makes}
+use Rattle.desk_model.specs.offers.Offers.{is_of}
+use Rattle.desk_model.specs.offers.Assigned.{reports, is_assigned, assigned}
+use Rattle.desk_model.specs.offers.States.{state_of}
+use Rattle.desk_model.specs.laws.Comes.{given_up, started, state_by}
 use Rattle.desk_register.specs.Vacancies.{target, state_then, had_by}
 use Rattle.desk_register.proofs.PersonLemmas.{same, same_number}
 use Rattle.desk_register.proofs.RosterLemmas.{TakenIsAssigned, is-some}

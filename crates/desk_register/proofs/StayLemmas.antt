@@ -10,20 +10,20 @@ use Rattle.desk_model.specs.declared.reply.Reply.TheVariants as reply
 use Rattle.desk_model.specs.declared.offer.Offer.{Offer}
 use Rattle.desk_model.specs.declared.board_setup.BoardSetup.{BoardSetup}
 use Rattle.desk_model.specs.declared.vac_state.VacState.TheVariants as state
-use Rattle.desk_model.specs.Job.{JobValue}
-use Rattle.desk_model.specs.Entry.{EntryValue}
-use Rattle.desk_model.specs.History.{History, with_entry, is_done, said}
-use Rattle.desk_model.specs.Register.{enrols, enrols_any, gives, makes, makes_any, sets_up, sets_up_any, person_of, persons, vacancy_of, vacancies, boards}
-use Rattle.desk_model.specs.Duty.{closes}
-use Rattle.desk_model.specs.Marks.{marks}
-use Rattle.desk_model.specs.Offers.{is_of, asks_for, offer_in, on_offer}
-use Rattle.desk_model.specs.States.{state_of}
-use Rattle.desk_model.specs.TurnedDown.{turns_down, has_turned_down}
-use Rattle.desk_model.specs.NextAnswer.{known_answer}
-use Rattle.desk_model.specs.OfferAnswer.{offer_made_answer}
-use Rattle.desk_model.specs.Comes.{Comes, state_after, on_offer_after}
-use Rattle.desk_model.specs.RestsOn.{MayOffer}
-use Rattle.desk_model.specs.Legal.{answer_to, is_within, moment, IsNext}
+use Rattle.desk_model.specs.statements.Job.{JobValue}
+use Rattle.desk_model.specs.statements.Entry.{EntryValue}
+use Rattle.desk_model.specs.histories.History.{History, with_entry, is_done, said}
+use Rattle.desk_model.specs.histories.Register.{enrols, enrols_any, gives, makes, makes_any, sets_up, sets_up_any, person_of, persons, vacancy_of, vacancies, boards}
+use Rattle.desk_model.specs.histories.Duty.{closes}
+use Rattle.desk_model.specs.boards.Marks.{marks}
+use Rattle.desk_model.specs.offers.Offers.{is_of, asks_for, offer_in, on_offer}
+use Rattle.desk_model.specs.offers.States.{state_of}
+use Rattle.desk_model.specs.offers.TurnedDown.{turns_down, has_turned_down}
+use Rattle.desk_model.specs.answers.NextAnswer.{known_answer}
+use Rattle.desk_model.specs.answers.OfferAnswer.{offer_made_answer}
+use Rattle.desk_model.specs.laws.Comes.{Comes, state_after, on_offer_after}
+use Rattle.desk_model.specs.laws.RestsOn.{MayOffer}
+use Rattle.desk_model.specs.histories.Legal.{answer_to, is_within, moment, IsNext}
 use Rattle.desk_register.specs.Changes.{with_offer, put_under}
 use Rattle.desk_register.specs.Persons.{offered_in, IsPerson, ArePersons}
 use Rattle.desk_register.specs.Boards.{AreBoards}

@@ -6,13 +6,13 @@ use Rattle.std.specs.List.{cons_option}
 use Rattle.std.specs.Option.{option_or, option_and_then}
 use Rattle.desk_model.specs.declared.command.Cmd.{Cmd}
 use Rattle.desk_model.specs.declared.command.Cmd.TheVariants as cmd
-use Rattle.desk_model.specs.Entry.{EntryValue}
-use Rattle.desk_model.specs.History.{History, with_entry}
-use Rattle.desk_model.specs.Register.{enrols_any, makes_any, persons, vacancies}
-use Rattle.desk_model.specs.Offers.{is_of}
-use Rattle.desk_model.specs.Assigned.{is_assigned, assigned}
-use Rattle.desk_model.specs.TurnedDown.{turns_down, has_turned_down}
-use Rattle.desk_model.specs.Comes.{Comes}
+use Rattle.desk_model.specs.statements.Entry.{EntryValue}
+use Rattle.desk_model.specs.histories.History.{History, with_entry}
+use Rattle.desk_model.specs.histories.Register.{enrols_any, makes_any, persons, vacancies}
+use Rattle.desk_model.specs.offers.Offers.{is_of}
+use Rattle.desk_model.specs.offers.Assigned.{is_assigned, assigned}
+use Rattle.desk_model.specs.offers.TurnedDown.{turns_down, has_turned_down}
+use Rattle.desk_model.specs.laws.Comes.{Comes}
 use Rattle.desk_register.specs.Done.{IsDone}
 use Rattle.desk_register.specs.Among.{place_among}
 use Rattle.desk_register.specs.Vacancies.{turner, turner_place}

@@ -6,8 +6,8 @@ use Rattle.desk_model.specs.declared.limits.TheConstants.{BOARD_LIMIT}
 use Rattle.desk_model.specs.declared.command.Cmd.{Cmd}
 use Rattle.desk_model.specs.declared.command.Cmd.TheVariants as cmd
 use Rattle.desk_model.specs.declared.board_setup.BoardSetup.{BoardSetup}
-use Rattle.desk_model.specs.History.{History}
-use Rattle.desk_model.specs.Register.{board_of, boards}
+use Rattle.desk_model.specs.histories.History.{History}
+use Rattle.desk_model.specs.histories.Register.{board_of, boards}
 use Rattle.desk_register.specs.declared.boards.Boards.{Boards}
 
 -- what is kept under a code is what the board was set up as; nothing is kept under one that is no board; and the codes that something

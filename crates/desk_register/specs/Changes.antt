@@ -4,12 +4,12 @@ use Rattle.std.specs.Option.{option_map}
 use Rattle.qualifications.specs.declared.craft.Craft.{Craft}
 use Rattle.desk_model.specs.declared.command.Cmd.{Cmd}
 use Rattle.desk_model.specs.declared.command.Cmd.TheVariants as cmd
-use Rattle.desk_model.specs.Assigned.{reports}
+use Rattle.desk_model.specs.offers.Assigned.{reports}
 use Rattle.desk_model.specs.declared.limits.TheConstants.{PERSON_LIMIT}
 use Rattle.desk_model.specs.declared.vac_state.VacState.{VacState}
 use Rattle.desk_model.specs.declared.vac_state.VacState.TheVariants as state
-use Rattle.desk_model.specs.History.{History}
-use Rattle.desk_model.specs.States.{state_of}
+use Rattle.desk_model.specs.histories.History.{History}
+use Rattle.desk_model.specs.offers.States.{state_of}
 use Rattle.desk_register.specs.declared.kept_person.KeptPerson.{KeptPerson}
 
 -- the enrolled person whom a command changes

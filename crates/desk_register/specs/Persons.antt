@@ -1,12 +1,12 @@
 -- What is kept of persons, beside what a history says of them.
 use Rattle.std.specs.Prelude.{◌≡◌, ℕ, false, nat_eq, Option, None, Some, List}
 use Rattle.std.specs.Option.{option_map, option_map_or}
-use Rattle.desk_model.specs.History.{History}
-use Rattle.desk_model.specs.Register.{person_of, quals_of, persons}
-use Rattle.desk_model.specs.Duty.{is_closed}
-use Rattle.desk_model.specs.Marks.{is_marked_off}
-use Rattle.desk_model.specs.Assigned.{assigned}
-use Rattle.desk_model.specs.Offers.{on_offer}
+use Rattle.desk_model.specs.histories.History.{History}
+use Rattle.desk_model.specs.histories.Register.{person_of, quals_of, persons}
+use Rattle.desk_model.specs.histories.Duty.{is_closed}
+use Rattle.desk_model.specs.boards.Marks.{is_marked_off}
+use Rattle.desk_model.specs.offers.Assigned.{assigned}
+use Rattle.desk_model.specs.offers.Offers.{on_offer}
 use Rattle.indexmap.specs.IndexMap.{get, keys}
 use Rattle.desk_register.specs.declared.roster.Roster.{Roster}
 use Rattle.desk_register.specs.declared.kept_person.KeptPerson.{KeptPerson}

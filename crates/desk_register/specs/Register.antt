@@ -1,5 +1,5 @@
 -- What is kept of persons, boards and vacancies, beside what a history says of them.
-use Rattle.desk_model.specs.History.{History}
+use Rattle.desk_model.specs.histories.History.{History}
 use Rattle.desk_register.specs.Persons.{KeepsPersons}
 use Rattle.desk_register.specs.Boards.{KeepsBoards}
 use Rattle.desk_register.specs.Vacancies.{KeepsVacancies}

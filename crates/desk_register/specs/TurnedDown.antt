@@ -3,10 +3,10 @@ use Rattle.std.specs.Prelude.{◌≡◌, ℕ, ◌+◌, ◌*◌, ◌/◌, ◌%◌
 use Rattle.std.specs.Option.{option_and_then}
 use Rattle.desk_model.specs.declared.limits.TheConstants.{VACANCY_LIMIT}
 use Rattle.desk_model.specs.declared.command.Cmd.{Cmd}
-use Rattle.desk_model.specs.History.{History}
-use Rattle.desk_model.specs.Register.{persons, vacancies}
-use Rattle.desk_model.specs.Offers.{is_of}
-use Rattle.desk_model.specs.TurnedDown.{has_turned_down}
+use Rattle.desk_model.specs.histories.History.{History}
+use Rattle.desk_model.specs.histories.Register.{persons, vacancies}
+use Rattle.desk_model.specs.offers.Offers.{is_of}
+use Rattle.desk_model.specs.offers.TurnedDown.{has_turned_down}
 use Rattle.desk_register.specs.Places.{has_place}
 use Rattle.desk_register.specs.Among.{place_among}
 use Rattle.desk_register.specs.Vacancies.{target, turner, had_by}

@@ -4,17 +4,17 @@ use Rattle.std.specs.Option.{option_map, option_map_or, option_and_then}
 use Rattle.desk_register.specs.Among.{place_among}
 use Rattle.indexmap.specs.IndexMap.{get, keys}
 use Rattle.desk_model.specs.declared.limits.TheConstants.{VACANCY_LIMIT}
-use Rattle.desk_model.specs.Job.{JobValue}
+use Rattle.desk_model.specs.statements.Job.{JobValue}
 use Rattle.desk_model.specs.declared.command.Cmd.{Cmd}
 use Rattle.desk_model.specs.declared.command.Cmd.TheVariants as cmd
 use Rattle.desk_model.specs.declared.vac_state.VacState.{VacState}
 use Rattle.desk_model.specs.declared.vac_state.VacState.TheVariants as state
-use Rattle.desk_model.specs.Entry.{EntryValue}
-use Rattle.desk_model.specs.History.{History}
-use Rattle.desk_model.specs.Register.{vacancy_of, vacancies}
-use Rattle.desk_model.specs.Offers.{is_of, asks_for, offer_in}
-use Rattle.desk_model.specs.Assigned.{reports, assigned}
-use Rattle.desk_model.specs.States.{state_of}
+use Rattle.desk_model.specs.statements.Entry.{EntryValue}
+use Rattle.desk_model.specs.histories.History.{History}
+use Rattle.desk_model.specs.histories.Register.{vacancy_of, vacancies}
+use Rattle.desk_model.specs.offers.Offers.{is_of, asks_for, offer_in}
+use Rattle.desk_model.specs.offers.Assigned.{reports, assigned}
+use Rattle.desk_model.specs.offers.States.{state_of}
 use Rattle.desk_register.specs.declared.vacancies.Vacancies.{Vacancies}
 use Rattle.desk_register.specs.declared.kept_vacancy.KeptVacancy.{KeptVacancy}
 

@@ -2,7 +2,6 @@ ghost use Rattle.std.specs.Prelude.{◌≡◌, ◌<◌, IfSome};
 ghost use Rattle.std.specs.Option.{option_map};
 ghost use Rattle.indexmap.specs.IndexMap.{get, index_of, index_map_len};
 
-use crate::placed::Placed;
 use indexmap::IndexMap;
 use std::hash::{BuildHasher, Hash};
 
@@ -41,4 +40,11 @@ pub(crate) fn find_in<'a, K: Eq + Hash, V, S: BuildHasher>(
         }
     }
     search_in(map, key)
+}
+
+/// What is kept in a map, and its place among all, from 0.
+#[derive(Clone, Copy)]
+pub(crate) struct Placed<'a, V> {
+    pub(crate) place: usize,
+    pub(crate) value: &'a V,
 }

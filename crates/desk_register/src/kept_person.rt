@@ -1,5 +1,5 @@
 ghost use Rattle.std.specs.Prelude.{◌≡◌};
-ghost use Rattle.desk_model.specs.Assigned.{reports};
+ghost use Rattle.desk_model.specs.offers.Assigned.{reports};
 ghost use Rattle.desk_register.specs.Changes.{subject, changed, enrolled};
 
 use desk_base::{Code, PersonNo, VacNo};

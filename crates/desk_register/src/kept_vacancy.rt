@@ -1,4 +1,4 @@
-ghost use Rattle.desk_register.specs.Vacancies.{target, state_then, turner, giver, IsChanged};
+ghost use Rattle.desk_register.specs.Vacancies.{target, state_then, turner, giver, IsChanged, IsMade};
 ghost use Rattle.std.specs.Prelude.{◌≡◌};
 
 use crate::kept_person::reports;
@@ -68,6 +68,16 @@ pub(crate) fn giver(cmd: &Cmd) -> Option<PersonNo>
 }
 
 impl KeptVacancy {
+    // What is kept of a vacancy that is made.
+    pub(crate) fn made(job: Job) -> KeptVacancy
+        ensures { IsMade job result }
+    {
+        KeptVacancy {
+            job,
+            state: VacState::Vacant,
+        }
+    }
+
     // What a command makes of the vacancy whose state it changes.
     pub(crate) fn change(&mut self, cmd: &Cmd)
         ensures { IsChanged cmd.now self.old self.new }

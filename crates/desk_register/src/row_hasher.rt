@@ -10,7 +10,7 @@ const MULTIPLIER: u64 = 0x9e37_79b9_7f4a_7c15;
 /// Hashes keys of one 32-bit number so that eight in a row share a group of a map's table, whose 64 bytes are looked at together: keys
 /// that are numbered in the order in which they come are then looked for beside each other. Groups are spread over the table.
 #[derive(Clone, Copy, Default)]
-pub struct RowHasher {
+pub(crate) struct RowHasher {
     number: u32,
 }
 

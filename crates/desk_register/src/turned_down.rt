@@ -1,8 +1,13 @@
-ghost use Rattle.std.specs.Prelude.{◌≤◌, length, vec_capacity};
+ghost use Rattle.std.specs.Prelude.{◌≤◌, length, vec_capacity, ◌≡◌, ◌<◌, ◌/◌, ℕ, false, Some, IfOk, IfSome, slice_index_or};
 ghost use Rattle.desk_register.specs.declared.turned_down.TheConstants.{WORDS};
+ghost use Rattle.desk_model.specs.declared.limits.TheConstants.{PERSON_LIMIT, VACANCY_LIMIT};
+
+use desk_base::NoMemory;
+use desk_model::{PERSON_LIMIT, VACANCY_LIMIT};
+use std::alloc::Global;
 
 // How many words there are: for each 64 of 1,000 persons, 16 times, one of each of 20,000 vacancies.
-pub(crate) const WORDS: usize = 320_000;
+const WORDS: usize = 320_000;
 
 /// Who has turned which vacancy down, by the places of both among all: for each 64 persons a word of each vacancy, up to the last word
 /// with a bit that is set. So the words of vacancies that were made one after the other lie side by side. There is memory for all.
@@ -11,4 +16,84 @@ pub struct TurnedDown {
     pub(crate) words: Vec<u64>,
     ghost few: { length words.items ≤ WORDS },
     ghost room: { WORDS ≤ vec_capacity words },
+}
+
+impl TurnedDown {
+    ghost use Rattle.desk_register.specs.TurnedDown.{bit_of, turned_at, TurnsDown};
+
+    // The bit of the person at one place and the vacancy at another.
+    fn bit_of(person: usize, vacancy: usize) -> usize
+        requires person { person < PERSON_LIMIT }
+        requires vacancy { vacancy < VACANCY_LIMIT }
+        ensures value { result ≡ bit_of person vacancy }
+        ensures range { result / 64 < WORDS }
+    {
+        (person / 64 * VACANCY_LIMIT + vacancy) * 64 + person % 64
+    }
+
+    /// Nobody has turned anything down; `NoMemory` where there is none for 1,000 persons and 20,000 vacancies.
+    pub(crate) fn new(alloc: Global) -> Result<TurnedDown, NoMemory>
+        ensures { IfOk result (λ x. (i j : ℕ) → turned_at x i j ≡ false) }
+    {
+        let words = Vec::with_capacity(alloc, WORDS)?;
+        Ok(TurnedDown { words })
+    }
+
+    /// The same persons have turned the same vacancies down, with memory for all; `NoMemory` where there is none for it.
+    pub(crate) fn copy(&self, alloc: Global) -> Result<TurnedDown, NoMemory>
+        ensures { IfOk result (λ x. turned_at x ≡ turned_at self.now) }
+    {
+        let mut words = Vec::with_capacity(alloc, WORDS)?;
+        words.extend_from_slice(&self.words)?;
+        Ok(TurnedDown { words })
+    }
+
+    /// Whether the person at one place, below 1,000, has turned down the vacancy at another.
+    pub fn has(&self, person: usize, vacancy: usize) -> bool
+        requires { person < PERSON_LIMIT }
+        ensures { result ≡ turned_at self.now person vacancy }
+    {
+        if vacancy >= VACANCY_LIMIT {
+            return false;
+        }
+        let bit = TurnedDown::bit_of(person, vacancy);
+        match self.words.get(bit / 64) {
+            Some(word) => (word >> (bit % 64)) & 1 == 1,
+            None => false,
+        }
+    }
+
+    // Keeps the words up to a place, of which those that were not kept have no bit.
+    fn reach(&mut self, place: usize)
+        requires { place < WORDS }
+        ensures reached { place < length self.new.words.items }
+        ensures same { (i : ℕ) → slice_index_or self.new.words.items i 0 ≡ slice_index_or self.old.words.items i 0 }
+    {
+        if self.words.len() <= place {
+            let _reached = self.words.resize(place + 1, 0);
+        }
+    }
+
+    // Keeps that the person at one place has turned down the vacancy at another.
+    fn add(&mut self, person: usize, vacancy: usize)
+        requires person { person < PERSON_LIMIT }
+        requires vacancy { vacancy < VACANCY_LIMIT }
+        ensures { TurnsDown (Some person) (Some vacancy) (turned_at self.old) (turned_at self.new) }
+    {
+        let bit = TurnedDown::bit_of(person, vacancy);
+        self.reach(bit / 64);
+        let word = self.words[bit / 64];
+        self.words[bit / 64] = word | 1 << (bit % 64);
+    }
+
+    /// Keeps that the person at one place has turned down the vacancy at another, where there are both.
+    pub(crate) fn keep(&mut self, person: Option<usize>, vacancy: Option<usize>)
+        requires person { IfSome person (λ i. i < PERSON_LIMIT) }
+        requires vacancy { IfSome vacancy (λ j. j < VACANCY_LIMIT) }
+        ensures { TurnsDown person vacancy (turned_at self.old) (turned_at self.new) }
+    {
+        if let (Some(person), Some(vacancy)) = (person, vacancy) {
+            self.add(person, vacancy);
+        }
+    }
 }

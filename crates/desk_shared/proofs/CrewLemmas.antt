@@ -4,11 +4,11 @@ use mathlib.Core.List.{IsPrefix}
 use Rattle.crew_call.specs.declared.crew_outcome.CrewOutcome.{CrewOutcome}
 use Rattle.crew_call.specs.CrewCalls.{CrewCall, CrewValue, IsOver}
 use Rattle.crew_call.specs.Outcomes.{StandIn, OutcomesInWords}
-use Rattle.desk_model.specs.Entry.{EntryValue}
-use Rattle.desk_model.specs.History.{History, history_of}
-use Rattle.desk_model.specs.Legal.{IsLegal, next}
-use Rattle.desk_model.specs.Opening.{OpeningValue}
-use Rattle.desk_model.specs.Statement.{StatedValue}
+use Rattle.desk_model.specs.statements.Entry.{EntryValue}
+use Rattle.desk_model.specs.histories.History.{History, history_of}
+use Rattle.desk_model.specs.histories.Legal.{IsLegal, next}
+use Rattle.desk_model.specs.statements.Opening.{OpeningValue}
+use Rattle.desk_model.specs.statements.Statement.{StatedValue}
 use Rattle.turn_gate.specs.Seats.{SeatValue}
 use Rattle.turn_gate.specs.Told.{own}
 use Rattle.desk_shared.specs.Calls.{Calls}

@@ -4,10 +4,10 @@ use mathlib.Core.List.{IsPrefix}
 use Rattle.crew_call.specs.declared.crew_outcome.CrewOutcome.{CrewOutcome}
 use Rattle.crew_call.specs.CrewCalls.{CrewCall}
 use Rattle.crew_call.specs.Outcomes.{StandIn, Says}
-use Rattle.desk_model.specs.Entry.{EntryValue}
-use Rattle.desk_model.specs.History.{history_of}
-use Rattle.desk_model.specs.Legal.{IsLegal}
-use Rattle.desk_model.specs.Opening.{OpeningValue}
+use Rattle.desk_model.specs.statements.Entry.{EntryValue}
+use Rattle.desk_model.specs.histories.History.{history_of}
+use Rattle.desk_model.specs.histories.Legal.{IsLegal}
+use Rattle.desk_model.specs.statements.Opening.{OpeningValue}
 use Rattle.turn_gate.specs.Seats.{SeatValue}
 use Rattle.turn_gate.specs.Told.{own}
 use Rattle.desk_shared.specs.Calls.{Calls}

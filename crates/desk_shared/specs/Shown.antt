@@ -3,9 +3,9 @@ use Rattle.std.specs.Prelude.{◌≡◌, ℕ, ◌+◌, List, length}
 use mathlib.Core.List.{IsPrefix}
 use Rattle.board_window.specs.Walls.{FrontValue}
 use Rattle.board_window.specs.declared.wall_name.WallName.{WallName}
-use Rattle.desk_model.specs.Entry.{EntryValue}
-use Rattle.desk_model.specs.History.{History}
-use Rattle.desk_model.specs.Mark.{Mark, wall_of}
+use Rattle.desk_model.specs.statements.Entry.{EntryValue}
+use Rattle.desk_model.specs.histories.History.{History}
+use Rattle.desk_model.specs.histories.Mark.{Mark, wall_of}
 use Rattle.turn_gate.specs.Seats.{GateValue}
 
 -- its history, how many entries it has room for beside, its wall, and what that shows and was given

@@ -1,8 +1,13 @@
+//! What a desk with windows keeps.
+
 ghost use Rattle.std.specs.Prelude.{◌≡◌, ◌+◌, ◌<◌, ◌≤◌, length};
 ghost use mathlib.Core.List.{IsPrefix};
-ghost use Rattle.desk_model.specs.History.{with_entry};
-ghost use Rattle.desk_model.specs.Legal.{IsLegal, next};
+ghost use Rattle.desk_model.specs.histories.History.{with_entry};
+ghost use Rattle.desk_model.specs.histories.Legal.{IsLegal, next};
 ghost use Rattle.desk_model.specs.declared.limits.TheConstants.{LAST_CALLER};
+ghost use Rattle.board_window.specs.declared.wall_name.WallName.{WallName as Name};
+ghost use Rattle.desk_shared.specs.Shown.{IsWallOf};
+ghost use Rattle.turn_gate.specs.Seats.{GateValue};
 
 use board_window::{Showing, Wall};
 use call_history::Book;
@@ -16,41 +21,10 @@ pub struct ShownBook<B: Booked> {
     pub(crate) wall: Wall,
 }
 
-impl<B: Booked> Model for ShownBook<B> {
-    ghost use Rattle.std.specs.Prelude.{◌≡◌, ◌-◌, length, take};
-    ghost use Rattle.desk_shared.specs.Shown.{ShownValue};
-
-    ghost Value = { ShownValue };
-
-    ghost view = { λ b. record {
-      history = B.history b.book;
-      left = B.room b.book - length (B.history b.book).entries;
-      wall = b.wall.wall;
-      shown = b.wall.shown;
-      added = b.wall.added;
-    } };
-
-    ghost invariant = { λ b. (b.wall.wall.opening ≡ (B.history b.book).opening)
-        × (b.wall.added ≡ take (length b.wall.added) (B.history b.book).entries) };
-}
-
-impl<B: Booked> Booked for ShownBook<B> {
-    ghost use Rattle.std.specs.Prelude.{◌+◌, length};
-    ghost use Rattle.std.proofs.Common.{arith};
-    ghost use Rattle.desk_shared.specs.Shown.{mark_of};
-
-    ghost history = { λ b. b.history };
-
-    ghost room = { λ b. length b.history.entries + b.left };
-
-    ghost mark = { λ b. mark_of b.wall };
-
-    fn count(&self) -> u32 {
-        self.book.count()
-    }
-
-    ghost within = { λ b. Prim.omega arith };
-}
+/// A desk has one wall: what is of its wall, a note or a view, is of the same. It does nothing: its clause is the law.
+pub fn a_desk_has_one_wall()
+    ensures { (desk : GateValue) (one other : Name) → IsWallOf desk one → IsWallOf desk other → one ≡ other }
+{}
 
 impl<C: DeskCore> ShownBook<Book<C>> {
     /// Answers what caller 0 to 63 states, keeps the entry, and shows it. There is room for it.
@@ -93,4 +67,40 @@ impl<C: DeskCore> ShownBook<Book<C>> {
         wall.end(rt);
         book
     }
+}
+
+impl<B: Booked> Model for ShownBook<B> {
+    ghost use Rattle.std.specs.Prelude.{◌≡◌, ◌-◌, length, take};
+    ghost use Rattle.desk_shared.specs.Shown.{ShownValue};
+
+    ghost Value = { ShownValue };
+
+    ghost view = { λ b. record {
+      history = B.history b.book;
+      left = B.room b.book - length (B.history b.book).entries;
+      wall = b.wall.wall;
+      shown = b.wall.shown;
+      added = b.wall.added;
+    } };
+
+    ghost invariant = { λ b. (b.wall.wall.opening ≡ (B.history b.book).opening)
+        × (b.wall.added ≡ take (length b.wall.added) (B.history b.book).entries) };
+}
+
+impl<B: Booked> Booked for ShownBook<B> {
+    ghost use Rattle.std.specs.Prelude.{◌+◌, length};
+    ghost use Rattle.std.proofs.Common.{arith};
+    ghost use Rattle.desk_shared.specs.Shown.{mark_of};
+
+    ghost history = { λ b. b.history };
+
+    ghost room = { λ b. length b.history.entries + b.left };
+
+    ghost mark = { λ b. mark_of b.wall };
+
+    fn count(&self) -> u32 {
+        self.book.count()
+    }
+
+    ghost within = { λ b. Prim.omega arith };
 }

@@ -8,14 +8,14 @@ use Rattle.std.proofs.lemmas.List.Splits.{slice_split_none}
 use Rattle.std.proofs.lemmas.List.Sums.{AllPass-from_list_all}
 use Rattle.desk_base.specs.Minute.{minute_text}
 use Rattle.desk_base.specs.Parts.{parts_by}
-use Rattle.desk_model.specs.Entry.{EntryValue, entry_of}
-use Rattle.desk_model.specs.Fits.{Fits}
-use Rattle.desk_model.specs.Journal.{entry_line, opening_line}
-use Rattle.desk_model.specs.Opening.{OpeningValue, IsOpening, opening_fields}
-use Rattle.desk_model.specs.ReplyTexts.{reply_text}
-use Rattle.desk_model.specs.Statement.{StatedValue}
+use Rattle.desk_model.specs.statements.Entry.{EntryValue, entry_of}
+use Rattle.desk_model.specs.statements.Fits.{Fits}
+use Rattle.desk_model.specs.texts.Journal.{entry_line, opening_line}
+use Rattle.desk_model.specs.statements.Opening.{OpeningValue, IsOpening, opening_fields}
+use Rattle.desk_model.specs.texts.ReplyTexts.{reply_text}
+use Rattle.desk_model.specs.statements.Statement.{StatedValue}
 use Rattle.desk_model.specs.declared.reply.Reply.{Reply}
-use Rattle.desk_model.specs.StatedTexts.{stated_fields}
+use Rattle.desk_model.specs.texts.StatedTexts.{stated_fields}
 use Rattle.line_writer.specs.Line.{IsPlain, IsLine}
 use Rattle.record_rows.proofs.MinuteLemmas.{minute_text-one}
 use Rattle.command_parser.proofs.ApartLemmas.{stated_fields-one}

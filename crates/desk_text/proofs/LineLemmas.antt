@@ -18,14 +18,14 @@ use Rattle.desk_model.specs.declared.reply.Reply.{Reply}
 use Rattle.desk_model.specs.declared.reply.Reply.TheVariants as reply
 use Rattle.desk_model.specs.declared.vac_state.VacState.{VacState}
 use Rattle.desk_model.specs.declared.vac_state.VacState.TheVariants as state
-use Rattle.desk_model.specs.BarTexts.{bar_text}
-use Rattle.desk_model.specs.Entry.{EntryValue}
-use Rattle.desk_model.specs.Fits.{IsStated, FitsState, FitsStage, FitsFault, FitsReply, Fits}
-use Rattle.desk_model.specs.Journal.{entry_line, opening_line}
-use Rattle.desk_model.specs.Opening.{OpeningValue, IsOpening, edition_fields, opening_fields}
-use Rattle.desk_model.specs.ReplyTexts.{state_text, stage_text, fault_text, reply_text}
-use Rattle.desk_model.specs.StatedTexts.{kind_text, stated_fields}
-use Rattle.desk_model.specs.Statement.{StatedValue}
+use Rattle.desk_model.specs.texts.BarTexts.{bar_text}
+use Rattle.desk_model.specs.statements.Entry.{EntryValue}
+use Rattle.desk_model.specs.statements.Fits.{IsStated, FitsState, FitsStage, FitsFault, FitsReply, Fits}
+use Rattle.desk_model.specs.texts.Journal.{entry_line, opening_line}
+use Rattle.desk_model.specs.statements.Opening.{OpeningValue, IsOpening, edition_fields, opening_fields}
+use Rattle.desk_model.specs.texts.ReplyTexts.{state_text, stage_text, fault_text, reply_text}
+use Rattle.desk_model.specs.texts.StatedTexts.{kind_text, stated_fields}
+use Rattle.desk_model.specs.statements.Statement.{StatedValue}
 use Rattle.line_writer.specs.Line.{IsLine}
 use Rattle.desk_text.proofs.PlainLemmas.{Passes, IsInner, AreInner, append, mark, word, number, month_in, minute_in, code, join, weaker, craft_inner, kind_inner, late, all_inner, command_inner, literal, numbered}
 

@@ -6,7 +6,7 @@ use Rattle.std.proofs.lemmas.List.{take_at, drop_at, take-append-drop}
 use Rattle.std.proofs.lemmas.List.Elements.{All-cons, All-nil}
 use Rattle.desk_base.specs.declared.minute.TheConstants.{YEARS_END}
 use Rattle.desk_base.specs.Minute.{minute_text}
-use Rattle.desk_model.specs.BarTexts.{late_text}
+use Rattle.desk_model.specs.texts.BarTexts.{late_text}
 use Rattle.desk_base.specs.Month.{year_of, place_in_year, two_digits, month_text}
 use Rattle.record_rows.proofs.MinuteLemmas.{length-minute_text}
 use Rattle.desk_text.proofs.ReplyApartLemmas.{IsUnbroken}

@@ -26,9 +26,9 @@ use Rattle.qualifications.specs.Craft.{craft_text}
 use Rattle.qualifications.specs.Quals.{has, numbers_below, joined, quals_text}
 use Rattle.desk_model.specs.declared.command.Cmd.{Cmd}
 use Rattle.desk_model.specs.declared.command.Cmd.TheVariants as cmd
-use Rattle.desk_model.specs.BarTexts.{late_text}
-use Rattle.desk_model.specs.Fits.{IsEvent, IsCommand}
-use Rattle.desk_model.specs.StatedTexts.{sort_text, job_word, kind_text, event_fields, command_fields}
+use Rattle.desk_model.specs.texts.BarTexts.{late_text}
+use Rattle.desk_model.specs.statements.Fits.{IsEvent, IsCommand}
+use Rattle.desk_model.specs.texts.StatedTexts.{sort_text, job_word, kind_text, event_fields, command_fields}
 
 -- ---- texts
 

@@ -2,8 +2,8 @@
 use Rattle.std.proofs.Common.{◌≡◌, ℕ, List, Some, true, false, sym, ◌∙◌, ap, nat_eq}
 use Rattle.std.specs.Cmp.Lexicographic.{pointwise}
 use Rattle.desk_model.specs.declared.reply.Reply.{Reply}
-use Rattle.desk_model.specs.Fits.{FitsReply}
-use Rattle.desk_model.specs.ReplyTexts.{reply_text}
+use Rattle.desk_model.specs.statements.Fits.{FitsReply}
+use Rattle.desk_model.specs.texts.ReplyTexts.{reply_text}
 use Rattle.desk_text.specs.SpelledReply.{SpellsReply}
 use Rattle.command_parser.proofs.SpelledLemmas.{apart}
 use Rattle.command_parser.proofs.WordLemmas.{alike}

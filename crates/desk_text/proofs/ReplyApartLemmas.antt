@@ -25,10 +25,10 @@ use Rattle.desk_model.specs.declared.reply.Reply.{Reply}
 use Rattle.desk_model.specs.declared.reply.Reply.TheVariants as reply
 use Rattle.desk_model.specs.declared.vac_state.VacState.{VacState}
 use Rattle.desk_model.specs.declared.vac_state.VacState.TheVariants as state
-use Rattle.desk_model.specs.BarTexts.{late_text, bar_text}
-use Rattle.desk_model.specs.Fits.{FitsState, FitsFault, FitsReply}
-use Rattle.desk_model.specs.ReplyTexts.{state_text, stage_text, fault_text, reply_text}
-use Rattle.desk_model.specs.StatedTexts.{kind_text}
+use Rattle.desk_model.specs.texts.BarTexts.{late_text, bar_text}
+use Rattle.desk_model.specs.statements.Fits.{FitsState, FitsFault, FitsReply}
+use Rattle.desk_model.specs.texts.ReplyTexts.{state_text, stage_text, fault_text, reply_text}
+use Rattle.desk_model.specs.texts.StatedTexts.{kind_text}
 use Rattle.desk_text.proofs.CutLemmas.{cut-one}
 use Rattle.command_parser.proofs.SpelledLemmas.{apart}
 use Rattle.record_rows.proofs.MinuteLemmas.{minute_text-one}

@@ -10,12 +10,12 @@ use Rattle.desk_base.specs.Parts.{parts_by}
 use Rattle.desk_base.proofs.PartsLemmas.{AreUnmarked, parts_by-join}
 use Rattle.duty_events.specs.declared.event.Event.{Event}
 use Rattle.desk_model.specs.declared.command.Cmd.{Cmd}
-use Rattle.desk_model.specs.Entry.{EntryValue}
-use Rattle.desk_model.specs.Fits.{IsStated, Fits}
-use Rattle.desk_model.specs.Journal.{entry_line}
-use Rattle.desk_model.specs.ReplyTexts.{reply_text}
-use Rattle.desk_model.specs.StatedTexts.{event_fields, command_fields, stated_fields}
-use Rattle.desk_model.specs.Statement.{StatedValue}
+use Rattle.desk_model.specs.statements.Entry.{EntryValue}
+use Rattle.desk_model.specs.statements.Fits.{IsStated, Fits}
+use Rattle.desk_model.specs.texts.Journal.{entry_line}
+use Rattle.desk_model.specs.texts.ReplyTexts.{reply_text}
+use Rattle.desk_model.specs.texts.StatedTexts.{event_fields, command_fields, stated_fields}
+use Rattle.desk_model.specs.statements.Statement.{StatedValue}
 use Rattle.desk_model.specs.declared.limits.TheConstants.{LAST_CALLER}
 use Rattle.desk_text.specs.declared.statement.Statement.{Statement}
 use Rattle.line_writer.specs.Line.{outcome_line}
@@ -143,11 +143,6 @@ line-of-parts line front caller stated moment reply rest more e a b c d spells =
   valid = spells.valid;
   line_is = rw (a, b, c, d, spells.caller_is, spells.stated_is, spells.moment_is, spells.reply_is) (sym (entry_line-parts e));
 }
-
--- the same, up to the outcome
-pub entry_line-beginning : (e : EntryValue) → entry_line e ≡ decimal e.caller ++ 124 ∷ (join_with_byte 44 (stated_fields e.stated) ++ 124 ∷ (minute_text e.moment ++ 124 ∷ (reply_text e.reply ++ 10 ∷ [])))
-unfolding entry_line
-entry_line-beginning e = simp append_assoc
 
 -- a caller and what is stated, spelled in a line's first parts, are who stated what by it
 pub BeginsEntry-parts : (line caller rest stated outcome : List ℕ) (s : Statement) → s.caller ≤ LAST_CALLER → line ≡ caller ++ 124 ∷ rest → rest ≡ stated ++ 124 ∷ outcome

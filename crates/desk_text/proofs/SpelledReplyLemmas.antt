@@ -5,7 +5,7 @@ use Rattle.desk_base.specs.Code.{IsCode}
 use Rattle.duty_events.specs.declared.event_fault.EventFault.TheVariants as fault
 use Rattle.desk_model.specs.declared.reply.Reply.{Reply}
 use Rattle.desk_model.specs.declared.reply.Reply.TheVariants as reply
-use Rattle.desk_model.specs.ReplyTexts.{fault_text, reply_text}
+use Rattle.desk_model.specs.texts.ReplyTexts.{fault_text, reply_text}
 use Rattle.desk_text.specs.declared.reply_head.ReplyHead.TheVariants as head
 use Rattle.desk_text.specs.SpelledReply.{TellsReply}
 use Rattle.command_parser.proofs.SpelledLemmas.{apart}

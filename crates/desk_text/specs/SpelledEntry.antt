@@ -2,12 +2,12 @@
 use Rattle.std.specs.Prelude.{◌≡◌, ℕ, ◌≤◌, List, ◌∷◌, ◌++◌, decimal}
 use Rattle.std.specs.List.{join_with_byte}
 use Rattle.desk_base.specs.Minute.{minute_text}
-use Rattle.desk_model.specs.Entry.{EntryValue}
-use Rattle.desk_model.specs.Fits.{IsStated, Fits}
-use Rattle.desk_model.specs.Journal.{entry_line}
-use Rattle.desk_model.specs.ReplyTexts.{reply_text}
-use Rattle.desk_model.specs.StatedTexts.{stated_fields}
-use Rattle.desk_model.specs.Statement.{StatedValue}
+use Rattle.desk_model.specs.statements.Entry.{EntryValue}
+use Rattle.desk_model.specs.statements.Fits.{IsStated, Fits}
+use Rattle.desk_model.specs.texts.Journal.{entry_line}
+use Rattle.desk_model.specs.texts.ReplyTexts.{reply_text}
+use Rattle.desk_model.specs.texts.StatedTexts.{stated_fields}
+use Rattle.desk_model.specs.statements.Statement.{StatedValue}
 use Rattle.desk_model.specs.declared.limits.TheConstants.{LAST_CALLER}
 use Rattle.desk_text.specs.declared.statement.Statement.{Statement}
 

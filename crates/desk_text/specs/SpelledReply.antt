@@ -6,9 +6,9 @@ use Rattle.denial_rules.specs.declared.bar.Bar.{Bar}
 use Rattle.denial_rules.specs.Bar.{FitsBar}
 use Rattle.desk_model.specs.declared.reply.Reply.{Reply}
 use Rattle.desk_model.specs.declared.vac_state.VacState.{VacState}
-use Rattle.desk_model.specs.BarTexts.{bar_text}
-use Rattle.desk_model.specs.Fits.{FitsState, FitsStage, FitsFault, FitsReply}
-use Rattle.desk_model.specs.ReplyTexts.{state_text, stage_text, fault_text, reply_text}
+use Rattle.desk_model.specs.texts.BarTexts.{bar_text}
+use Rattle.desk_model.specs.statements.Fits.{FitsState, FitsStage, FitsFault, FitsReply}
+use Rattle.desk_model.specs.texts.ReplyTexts.{state_text, stage_text, fault_text, reply_text}
 use Rattle.desk_text.specs.declared.reply_head.ReplyHead.{ReplyHead}
 use Rattle.desk_text.specs.declared.bar_head.BarHead.{BarHead}
 use Rattle.desk_text.specs.Heads.{reply_head_text, bar_head_text}

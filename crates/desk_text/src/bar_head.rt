@@ -6,7 +6,7 @@ use crate::cut::behind;
 
 /// What the text of a bar that keeps something begins with: none begins another.
 #[derive(Clone, Copy, Debug, PartialEq, Eq)]
-pub enum BarHead {
+pub(crate) enum BarHead {
     Assigned,
     OnOffer,
     Elsewhere,
@@ -24,7 +24,7 @@ pub enum BarHead {
 
 impl BarHead {
     /// The head of a text, and what stands behind it; `None` where the text begins with no head.
-    pub fn split(text: &[u8]) -> Option<(BarHead, &[u8])>
+    pub(crate) fn split(text: &[u8]) -> Option<(BarHead, &[u8])>
         ensures some { IfSome result (λ found.
             text.now ≡ bar_head_text found.0 ++ found.1.now) }
         ensures none { IfNone result ((head : BarHeadValue) (rest : List ℕ)

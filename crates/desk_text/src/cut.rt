@@ -6,7 +6,7 @@ use desk_base::split_once;
 use memchr::memchr;
 
 /// What stands before the first mark, and what stands behind it; `None` where there is no mark.
-pub fn cut(text: &[u8], mark: u8) -> Option<(&[u8], &[u8])>
+pub(crate) fn cut(text: &[u8], mark: u8) -> Option<(&[u8], &[u8])>
     ensures some { IfSome result (λ parts. text.now ≡ parts.0.now ++ mark ∷ parts.1.now) }
     ensures only { (front back : List ℕ) → All (λ b. (b == mark) ≡ false) front
         → text.now ≡ front ++ mark ∷ back
@@ -17,7 +17,7 @@ pub fn cut(text: &[u8], mark: u8) -> Option<(&[u8], &[u8])>
 }
 
 /// As `cut`, byte by byte: for a mark that stands among the first few bytes.
-pub fn cut_near(text: &[u8], mark: u8) -> Option<(&[u8], &[u8])>
+pub(crate) fn cut_near(text: &[u8], mark: u8) -> Option<(&[u8], &[u8])>
     ensures some { IfSome result (λ parts. text.now ≡ parts.0.now ++ mark ∷ parts.1.now) }
     ensures only { (front back : List ℕ) → All (λ b. (b == mark) ≡ false) front
         → text.now ≡ front ++ mark ∷ back
@@ -28,7 +28,7 @@ pub fn cut_near(text: &[u8], mark: u8) -> Option<(&[u8], &[u8])>
 }
 
 /// What stands behind the head of a text; `None` where the text begins otherwise.
-pub fn behind<'a>(text: &'a [u8], head: &[u8]) -> Option<&'a [u8]>
+pub(crate) fn behind<'a>(text: &'a [u8], head: &[u8]) -> Option<&'a [u8]>
     ensures some { IfSome result (λ rest. text.now ≡ head.now ++ rest.now) }
     ensures none { IfNone result ((rest : List ℕ) → text.now ≢ head.now ++ rest) }
 {
@@ -36,7 +36,7 @@ pub fn behind<'a>(text: &'a [u8], head: &[u8]) -> Option<&'a [u8]>
 }
 
 /// What stands before the end of a text; `None` where the text ends otherwise.
-pub fn before<'a>(text: &'a [u8], end: &[u8]) -> Option<&'a [u8]>
+pub(crate) fn before<'a>(text: &'a [u8], end: &[u8]) -> Option<&'a [u8]>
     ensures some { IfSome result (λ front. text.now ≡ front.now ++ end.now) }
     ensures none { IfNone result ((front : List ℕ) → text.now ≢ front ++ end.now) }
 {

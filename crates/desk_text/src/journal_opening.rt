@@ -1,6 +1,6 @@
 //! The opening, read from the journal's first line.
 ghost use Rattle.std.specs.Prelude.{◌≡◌, IfSome};
-ghost use Rattle.desk_model.specs.Opening.{OpeningValue};
+ghost use Rattle.desk_model.specs.statements.Opening.{OpeningValue};
 ghost use Rattle.command_parser.specs.OpeningRecord.{IsOpeningLine};
 
 use crate::cut::before;

@@ -3,11 +3,9 @@
 #![tactic(auto)]
 
 mod bar_head;
-mod beginnings;
 mod cut;
-mod different_replies;
-mod each_line;
 mod journal_opening;
+mod laws;
 mod reply_head;
 mod spelled_bar;
 mod spelled_entry;
@@ -16,13 +14,13 @@ mod spelled_reply;
 mod spelled_stage;
 mod statement;
 
-pub use beginnings::no_line_begins_another;
 pub use command_parser::{
     DayFault, DayFile, MoreFault, ReadFail, read_command, read_day, read_more,
 };
-pub use different_replies::different_replies_have_different_texts;
-pub use each_line::each_line_ends_once;
 pub use journal_opening::read_opening;
+pub use laws::{
+    different_replies_have_different_texts, each_line_ends_once, no_line_begins_another,
+};
 pub use line_writer::{
     LineText, fill_with_entry, fill_with_outcome, write_bar, write_entry, write_opening,
     write_outcome,

@@ -6,7 +6,7 @@ use crate::cut::behind;
 
 /// What the text of a reply that keeps something begins with, but for an event's fault: none begins another.
 #[derive(Clone, Copy, Debug, PartialEq, Eq)]
-pub enum ReplyHead {
+pub(crate) enum ReplyHead {
     Offered,
     Unfilled,
     Hours,
@@ -29,7 +29,7 @@ pub enum ReplyHead {
 
 impl ReplyHead {
     /// The head of a text, and what stands behind it; `None` where the text begins with no head.
-    pub fn split(text: &[u8]) -> Option<(ReplyHead, &[u8])>
+    pub(crate) fn split(text: &[u8]) -> Option<(ReplyHead, &[u8])>
         ensures some { IfSome result (λ found.
             text.now ≡ reply_head_text found.0 ++ found.1.now) }
         ensures none { IfNone result ((head : ReplyHeadValue) (rest : List ℕ)

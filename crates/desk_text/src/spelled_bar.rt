@@ -11,7 +11,7 @@ use desk_base::{Code, read_decimal};
 use qualifications::Craft;
 
 /// The bar of a text; `None` where the text is no bar's.
-pub fn read_bar(text: &[u8]) -> Option<Bar>
+pub(crate) fn read_bar(text: &[u8]) -> Option<Bar>
     ensures some { IfSome result (SpellsBar text.now) }
     ensures only { (bar : BarValue) → SpellsBar text.now bar → result ≡ Some bar }
 {

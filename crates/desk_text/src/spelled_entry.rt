@@ -1,8 +1,8 @@
 //! Entries, and what was stated by whom, read from lines of a journal.
 ghost use Rattle.std.specs.Prelude.{◌≡◌, ◌≤◌, ℕ, List, decimal, IfSome, IsSomeAnd};
 ghost use Rattle.desk_model.specs.declared.limits.TheConstants.{LAST_CALLER};
-ghost use Rattle.desk_model.specs.Entry.{EntryValue};
-ghost use Rattle.desk_model.specs.Statement.{StatedValue};
+ghost use Rattle.desk_model.specs.statements.Entry.{EntryValue};
+ghost use Rattle.desk_model.specs.statements.Statement.{StatedValue};
 ghost use Rattle.desk_text.specs.SpelledEntry.{IsEntryLine, SpellsStated, SpellsEntry, BeginsEntry};
 ghost use Rattle.desk_text.specs.declared.statement.Statement.{Statement as StatementValue};
 

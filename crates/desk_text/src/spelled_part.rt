@@ -4,14 +4,14 @@ ghost use Rattle.desk_base.specs.declared.minute.TheConstants.{YEARS_BEGIN};
 ghost use Rattle.desk_base.specs.Code.{IsCode};
 ghost use Rattle.desk_base.specs.Minute.{IsInYears, minute_text};
 ghost use Rattle.desk_base.specs.Month.{IsMonthInYears, month_text};
-ghost use Rattle.desk_model.specs.BarTexts.{late_text};
+ghost use Rattle.desk_model.specs.texts.BarTexts.{late_text};
 
 use crate::cut::{behind, cut};
 use command_parser::read_place;
 use desk_base::{Code, Minute, Month, YEARS_END, read_decimal};
 
 /// The minute, from the year 2000 on, that a text spells; one behind the year 2099 by its number, which spells no other.
-pub fn read_late(text: &[u8]) -> Option<Minute>
+pub(crate) fn read_late(text: &[u8]) -> Option<Minute>
     ensures some { IfSome result (λ minute. (YEARS_BEGIN ≤ minute) × (minute < 2 ^ 28)
         × (text.now ≡ late_text minute)) }
     ensures only { (minute : ℕ) → YEARS_BEGIN ≤ minute → minute < 2 ^ 28
@@ -29,7 +29,7 @@ pub fn read_late(text: &[u8]) -> Option<Minute>
 }
 
 /// The minute of the years 2000 to 2099 with which a text begins, and what stands behind it and a blank.
-pub fn read_since(text: &[u8]) -> Option<(Minute, &[u8])>
+pub(crate) fn read_since(text: &[u8]) -> Option<(Minute, &[u8])>
     ensures some { IfSome result (λ found. IsInYears found.0
         × (text.now ≡ minute_text found.0 ++ 32 ∷ found.1.now)) }
     ensures only { (minute : ℕ) (rest : List ℕ) → IsInYears minute
@@ -41,7 +41,7 @@ pub fn read_since(text: &[u8]) -> Option<(Minute, &[u8])>
 }
 
 /// Two numbers below 2^32.
-pub fn read_numbers(text: &[u8]) -> Option<(u32, u32)>
+pub(crate) fn read_numbers(text: &[u8]) -> Option<(u32, u32)>
     ensures some { IfSome result (λ both. text.now ≡ decimal both.0 ++ 32 ∷ decimal both.1) }
     ensures only { (first second : ℕ) → first < 2 ^ 32 → second < 2 ^ 32
         → text.now ≡ decimal first ++ 32 ∷ decimal second → result ≡ Some (first, second) }
@@ -51,7 +51,7 @@ pub fn read_numbers(text: &[u8]) -> Option<(u32, u32)>
 }
 
 /// A month of the years 2000 to 2099, and its total in minutes, below 2^32.
-pub fn read_total(text: &[u8]) -> Option<(Month, u32)>
+pub(crate) fn read_total(text: &[u8]) -> Option<(Month, u32)>
     ensures some { IfSome result (λ both. IsMonthInYears both.0
         × (text.now ≡ month_text both.0 ++ 32 ∷ decimal both.1)) }
     ensures only { (month total : ℕ) → IsMonthInYears month → total < 2 ^ 32
@@ -62,7 +62,7 @@ pub fn read_total(text: &[u8]) -> Option<(Month, u32)>
 }
 
 /// A board, and a position on it, 1 to 9,999.
-pub fn read_position(text: &[u8]) -> Option<(Code, u16)>
+pub(crate) fn read_position(text: &[u8]) -> Option<(Code, u16)>
     ensures some { IfSome result (λ both. IsCode both.0 × (1 ≤ both.1) × (both.1 ≤ 9_999)
         × (text.now ≡ both.0 ++ 32 ∷ decimal both.1)) }
     ensures only { (board : List ℕ) (position : ℕ) → IsCode board → 1 ≤ position

@@ -14,7 +14,7 @@ use desk_base::{Code, Minute};
 use desk_model::Reply;
 
 /// The reply of a text, each of whose values is in its range; `None` where the text is no such reply's.
-pub fn read_reply(text: &[u8]) -> Option<Reply>
+pub(crate) fn read_reply(text: &[u8]) -> Option<Reply>
     ensures some { IfSome result (SpellsReply text.now) }
     ensures only { (reply : ReplyValue) → SpellsReply text.now reply → result ≡ Some reply }
 {

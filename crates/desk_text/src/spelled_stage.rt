@@ -13,7 +13,7 @@ use desk_model::VacState;
 use duty_events::{EventFault, Stage};
 
 /// How a vacancy stands, by its text; `None` for any other text.
-pub fn read_state(text: &[u8]) -> Option<VacState>
+pub(crate) fn read_state(text: &[u8]) -> Option<VacState>
     ensures some { IfSome result (SpellsState text.now) }
     ensures only { (how : StateValue) → SpellsState text.now how → result ≡ Some how }
 {
@@ -33,7 +33,7 @@ pub fn read_state(text: &[u8]) -> Option<VacState>
 }
 
 /// The stage of a tour of duty, by its text; `None` for any other text.
-pub fn read_stage(text: &[u8]) -> Option<Stage>
+fn read_stage(text: &[u8]) -> Option<Stage>
     ensures some { IfSome result (SpellsStage text.now) }
     ensures only { (stage : StageValue) → SpellsStage text.now stage → result ≡ Some stage }
 {
@@ -72,7 +72,7 @@ fn read_interim(text: &[u8]) -> Option<Stage>
 }
 
 /// Why an event may not follow those before it, by its text; `None` for any other text.
-pub fn read_fault(text: &[u8]) -> Option<EventFault>
+pub(crate) fn read_fault(text: &[u8]) -> Option<EventFault>
     ensures some { IfSome result (SpellsFault text.now) }
     ensures only { (fault : FaultValue) → SpellsFault text.now fault → result ≡ Some fault }
 {

@@ -11,3 +11,5 @@ pub mod OffLemmas
 pub mod PlaceLemmas
 pub mod PointLemmas
 pub mod TourLemmas
+pub mod StretchLemmas
+pub mod GaugeLemmas

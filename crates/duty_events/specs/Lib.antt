@@ -8,3 +8,5 @@ pub mod MinuteKind
 pub mod Minutes
 pub mod Places
 pub mod Tours
+pub mod Gauge
+pub mod Stretch

@@ -1,4 +1,5 @@
-//! What train employees do and when, as events after 49 CFR 228.11, and what each minute counts as.
+//! What train employees do and when, as events after 49 CFR 228.11, what each minute counts as, and the longest stretch of minutes
+//! of one kind.
 #![tactic(auto)]
 
 mod asked;
@@ -6,6 +7,7 @@ mod end;
 mod ended_tours;
 mod event;
 mod event_fault;
+mod gauge;
 mod kind;
 mod lawful;
 mod laws;
@@ -22,6 +24,7 @@ pub use asked::Asked;
 pub use ended_tours::last_tour;
 pub use event::Event;
 pub use event_fault::EventFault;
+pub use gauge::{Gauge, a_stretch_is_found_where_there_is_one};
 pub use kind::Kind;
 pub use lawful::{is_lawful, may_follow};
 pub use laws::{

@@ -2,8 +2,8 @@
 use Rattle.std.proofs.Common.{◌≡◌, ℕ, ◌+◌, ◌≤◌, Bool, true, false, cond, nat_eq, Option, None, Some, unwrap_or, refl, sym, ap, ◌∙◌, subst, arith}
 use Rattle.std.proofs.lemmas.Bool.Decides.{nat_tests}
 use Rattle.desk_model.specs.declared.command.Cmd.TheVariants as cmd
-use Rattle.desk_model.specs.Offers.{is_of}
-use Rattle.desk_model.specs.Comes.{assigned_by}
+use Rattle.desk_model.specs.offers.Offers.{is_of}
+use Rattle.desk_model.specs.laws.Comes.{assigned_by}
 use Rattle.duty_record.specs.declared.assignments.Acceptance.{Acceptance}
 use Rattle.duty_record.specs.Kept.{still, IsBehind, AreHeld}
 

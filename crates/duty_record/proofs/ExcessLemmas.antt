@@ -12,7 +12,7 @@ use Rattle.std.proofs.lemmas.List.Sorted.{list_any-IsPermutation}
 use Rattle.std.proofs.lemmas.Map.Keys.{IsDistinct-IsPermutation, apart_from_distinct, sorted_from_strictly_increasing, sorted_tail}
 use Rattle.std.proofs.lemmas.Map.Made.{is_some-lookup}
 use Rattle.std.proofs.lemmas.Map.Views.{All-after_first, All-from_any}
-use Rattle.desk_model.specs.History.{History}
+use Rattle.desk_model.specs.histories.History.{History}
 use Rattle.duty_record.specs.declared.person_tours.PersonTours.{PersonTours}
 use Rattle.duty_record.specs.declared.tour_book.TourBook.{TourBook}
 use Rattle.duty_record.specs.Deeds.{Deed, deeds}

@@ -28,9 +28,6 @@ may-come k ds e is = rw (is.totals.at, is.totals.came) refl
 pub keep-yes : (k : PersonTours) (ds : List Deed) (e : Event) (v : Option ℕ) → IsOf k ds → may_follow k.totals.stage k.totals.last e ≡ true → keep ds (deed_of e v) ≡ ds ++ deed_of e v ∷ []
 keep-yes k ds e v is may = rw (sym (may-come k ds e is) ∙ may) refl
 
-pub keep-not : (k : PersonTours) (ds : List Deed) (e : Event) (v : Option ℕ) → IsOf k ds → may_follow k.totals.stage k.totals.last e ≡ false → keep ds (deed_of e v) ≡ ds
-keep-not k ds e v is may = rw (sym (may-come k ds e is) ∙ may) refl
-
 -- a tour that ends has the sums that are kept behind it
 ended_with-is : (ds : List Deed) (d : Deed) (later : TotalsValue) (v : Option ℕ) (tour : Option Tour) → AreTotals later (events_in (ds ++ d ∷ [])) → v ≡ last_vacancy (ds ++ d ∷ [])
     → option_map (with_sums v later) tour ≡ option_map (ended_with (ds ++ d ∷ [])) tour

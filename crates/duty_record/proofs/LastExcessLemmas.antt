@@ -17,9 +17,9 @@ use Rattle.duty_events.proofs.LastTourLemmas.{ended-sum, owns-whole}
 use Rattle.rest_rules.specs.Excess.{excess}
 use Rattle.rest_rules.proofs.ExcessLemmas.{excess-stays, excess-is}
 use Rattle.tour_build.proofs.CountLemmas.{sum-is}
-use Rattle.desk_model.specs.Duty as told
-use Rattle.desk_model.specs.Duty.{may_come}
-use Rattle.desk_model.specs.History.{History, steps}
+use Rattle.desk_model.specs.histories.Duty as told
+use Rattle.desk_model.specs.histories.Duty.{may_come}
+use Rattle.desk_model.specs.histories.History.{History, steps}
 use Rattle.duty_record.specs.declared.ended_tour.EndedTour.{EndedTour}
 use Rattle.duty_record.specs.declared.tour_record.TourRecord.{TourRecord}
 use Rattle.duty_record.specs.Deeds.{Deed, deed_by, events_in, keep, deeds}

@@ -9,10 +9,10 @@ use Rattle.duty_events.specs.EndedTours as duty
 use Rattle.duty_events.specs.Lists.{stage_of, stage_after}
 use Rattle.desk_model.specs.declared.command.Cmd.{Cmd}
 use Rattle.desk_model.specs.declared.command.Cmd.TheVariants as cmd
-use Rattle.desk_model.specs.History.{History, Step, place_of, steps, is_done}
-use Rattle.desk_model.specs.Duty as told
-use Rattle.desk_model.specs.Duty.{tells, may_come}
-use Rattle.desk_model.specs.Assigned.{assigned}
+use Rattle.desk_model.specs.histories.History.{History, Step, place_of, steps, is_done}
+use Rattle.desk_model.specs.histories.Duty as told
+use Rattle.desk_model.specs.histories.Duty.{tells, may_come}
+use Rattle.desk_model.specs.offers.Assigned.{assigned}
 use Rattle.duty_events.proofs.ListLemmas.{stage_of-push}
 use Rattle.duty_events.proofs.EndedTourLemmas.{last_begun-push}
 use Rattle.duty_record.specs.declared.tour_record.TourRecord.{TourRecord}

@@ -6,14 +6,14 @@ use Rattle.std.proofs.lemmas.List.Sums.{fold_push}
 use Rattle.duty_events.specs.declared.event.Event.{Event}
 use Rattle.desk_model.specs.declared.command.Cmd.{Cmd}
 use Rattle.desk_model.specs.declared.command.Cmd.TheVariants as cmd
-use Rattle.desk_model.specs.Job.{JobValue}
-use Rattle.desk_model.specs.Opening.{OpeningValue}
-use Rattle.desk_model.specs.Entry.{EntryValue}
-use Rattle.desk_model.specs.History.{History, opened, with_entry, step_of, steps, is_done, said}
-use Rattle.desk_model.specs.Register.{makes, vacancy_of}
-use Rattle.desk_model.specs.Assigned.{assigned}
-use Rattle.desk_model.specs.Assigned as duty
-use Rattle.desk_model.specs.Comes.{Comes, assigned_by, assigned_after}
+use Rattle.desk_model.specs.statements.Job.{JobValue}
+use Rattle.desk_model.specs.statements.Opening.{OpeningValue}
+use Rattle.desk_model.specs.statements.Entry.{EntryValue}
+use Rattle.desk_model.specs.histories.History.{History, opened, with_entry, step_of, steps, is_done, said}
+use Rattle.desk_model.specs.histories.Register.{makes, vacancy_of}
+use Rattle.desk_model.specs.offers.Assigned.{assigned}
+use Rattle.desk_model.specs.offers.Assigned as duty
+use Rattle.desk_model.specs.laws.Comes.{Comes, assigned_by, assigned_after}
 use Rattle.desk_model.proofs.SaidLemmas.{or_none, steps-snoc, filter_map-snoc}
 use Rattle.duty_record.specs.declared.assignments.Acceptance.{Acceptance}
 use Rattle.duty_record.specs.declared.assignments.Assignments.{Assignments}

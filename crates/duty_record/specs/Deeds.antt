@@ -4,9 +4,9 @@ use Rattle.std.specs.List.{filter_map}
 use Rattle.duty_events.specs.declared.event.Event.{Event}
 use Rattle.desk_model.specs.declared.command.Cmd.{Cmd}
 use Rattle.desk_model.specs.declared.command.Cmd.TheVariants as cmd
-use Rattle.desk_model.specs.History.{History, Step, steps, said}
-use Rattle.desk_model.specs.Duty.{may_come}
-use Rattle.desk_model.specs.Assigned.{assigned}
+use Rattle.desk_model.specs.histories.History.{History, Step, steps, said}
+use Rattle.desk_model.specs.histories.Duty.{may_come}
+use Rattle.desk_model.specs.offers.Assigned.{assigned}
 
 -- an event, and the vacancy that was assigned to the person just before; None where none was, or where the past was told
 pub record Deed : Type 0 where

@@ -7,10 +7,10 @@ use Rattle.std.specs.Option.{is_some}
 use Rattle.std.specs.Ordering.{nat_cmp}
 use Rattle.indexmap.specs.IndexMap.{get}
 use Rattle.desk_base.specs.Number.{IsNumber}
-use Rattle.desk_model.specs.Job.{JobValue}
-use Rattle.desk_model.specs.History.{History}
-use Rattle.desk_model.specs.Register.{vacancy_of}
-use Rattle.desk_model.specs.Assigned.{assigned}
+use Rattle.desk_model.specs.statements.Job.{JobValue}
+use Rattle.desk_model.specs.histories.History.{History}
+use Rattle.desk_model.specs.histories.Register.{vacancy_of}
+use Rattle.desk_model.specs.offers.Assigned.{assigned}
 use Rattle.duty_events.specs.declared.tour.Tour.{Tour}
 use Rattle.tour_build.specs.Runs.{TotalsValue, AreTotals}
 use Rattle.duty_record.specs.declared.ended_tour.EndedTour.{EndedTour}

@@ -5,9 +5,9 @@ use Rattle.std.specs.Option.{option_map_or}
 use Rattle.duty_events.specs.declared.tour.Tour.{Tour}
 use Rattle.duty_events.specs.declared.limits.TheConstants.{DUTY_LIMIT}
 use Rattle.desk_model.specs.declared.limits.TheConstants.{PLAN_LIMIT, RELIEF_LIMIT}
-use Rattle.desk_model.specs.Job.{JobValue}
-use Rattle.desk_model.specs.History.{History}
-use Rattle.desk_model.specs.Register.{vacancy_of}
+use Rattle.desk_model.specs.statements.Job.{JobValue}
+use Rattle.desk_model.specs.histories.History.{History}
+use Rattle.desk_model.specs.histories.Register.{vacancy_of}
 use Rattle.duty_record.specs.declared.ended_tour.EndedTour.{EndedTour}
 use Rattle.duty_record.specs.declared.tour_record.TourRecord.{TourRecord}
 use Rattle.duty_record.specs.Deeds.{deeds}

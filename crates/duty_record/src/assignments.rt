@@ -1,6 +1,6 @@
 ghost use Rattle.std.specs.Prelude.{◌≡◌, None, MatchResult, ℕ, Option};
 ghost use Rattle.desk_model.specs.declared.command.Cmd.TheVariants as cmd;
-ghost use Rattle.desk_model.specs.Comes.{assigned_by};
+ghost use Rattle.desk_model.specs.laws.Comes.{assigned_by};
 ghost use Rattle.duty_record.specs.Kept.{annulments, AreAssigned};
 
 use desk_base::{NoMemory, PersonNo, VacNo};
@@ -9,14 +9,14 @@ use std::alloc::Global;
 
 /// A vacancy that a person has accepted, and how often it had been annulled by then.
 #[derive(Clone, Copy, Debug)]
-pub struct Acceptance {
+pub(crate) struct Acceptance {
     pub(crate) vac: VacNo,
     pub(crate) annulled: u64,
 }
 
 /// The vacancies that are assigned to persons. One that is annulled is nobody's, however many had it.
 #[derive(Drop)]
-pub struct Assignments {
+pub(crate) struct Assignments {
     pub(crate) accepted: IndexMap<PersonNo, Acceptance>,
     pub(crate) annulled: IndexMap<VacNo, u64>,
 }

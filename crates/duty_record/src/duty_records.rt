@@ -1,10 +1,10 @@
 ghost use Rattle.std.specs.Prelude.{◌≡◌, ◌++◌, true, IfOk, OnOk, MatchResult, filter};
 ghost use Rattle.std.specs.List.{flat_map};
-ghost use Rattle.desk_model.specs.Opening.{OpeningValue};
-ghost use Rattle.desk_model.specs.Entry.{EntryValue};
-ghost use Rattle.desk_model.specs.History.{History, opened, with_entry, is_done};
-ghost use Rattle.desk_model.specs.Assigned.{reports};
-ghost use Rattle.desk_model.specs.Comes.{Comes};
+ghost use Rattle.desk_model.specs.statements.Opening.{OpeningValue};
+ghost use Rattle.desk_model.specs.statements.Entry.{EntryValue};
+ghost use Rattle.desk_model.specs.histories.History.{History, opened, with_entry, is_done};
+ghost use Rattle.desk_model.specs.offers.Assigned.{reports};
+ghost use Rattle.desk_model.specs.laws.Comes.{Comes};
 ghost use Rattle.duty_record.specs.Tours.{tours, is_excess, excess_of, excess_list};
 ghost use Rattle.duty_record.specs.Kept.{Keeps};
 

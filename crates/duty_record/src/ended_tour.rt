@@ -8,7 +8,7 @@ use duty_events::{DUTY_LIMIT, Tour};
 
 /// A tour that has ended, by what was told of its person.
 #[derive(Clone, Copy, Debug)]
-pub struct EndedTour {
+pub(crate) struct EndedTour {
     /// From where to where it went.
     pub tour: Tour,
     /// The vacancy that it was begun for; `None` for none.

@@ -1,6 +1,6 @@
 ghost use Rattle.std.specs.Prelude.{◌≡◌, IfOk};
-ghost use Rattle.desk_model.specs.Opening.{OpeningValue};
-ghost use Rattle.desk_model.specs.History.{history_of};
+ghost use Rattle.desk_model.specs.statements.Opening.{OpeningValue};
+ghost use Rattle.desk_model.specs.histories.History.{history_of};
 ghost use Rattle.duty_record.specs.Tours.{tours, excess_list};
 ghost use Rattle.duty_record.specs.Kept.{Keeps};
 

@@ -1,8 +1,8 @@
 //! The laws of records of tours.
 ghost use Rattle.std.specs.Prelude.{◌≡◌, ℕ, [], map, codes};
 ghost use Rattle.duty_events.specs.EndedTours as duty;
-ghost use Rattle.desk_model.specs.History.{History};
-ghost use Rattle.desk_model.specs.Duty.{events};
+ghost use Rattle.desk_model.specs.histories.History.{History};
+ghost use Rattle.desk_model.specs.histories.Duty.{events};
 ghost use Rattle.rest_rules.specs.Excess.{excess};
 ghost use Rattle.duty_record.specs.Deeds.{events_in, deeds};
 ghost use Rattle.duty_record.specs.Tours.{tour_of, tours, last_excess};

@@ -1,7 +1,7 @@
 ghost use Rattle.std.specs.Prelude.{◌≡◌, ◌<◌, ◌++◌, [], List, is_ok, IfOk, ℕ, Option, map, vec_len, vec_capacity};
 ghost use Rattle.std.specs.Option.{option_map};
 ghost use Rattle.std.specs.List.{cons_option};
-ghost use Rattle.desk_model.specs.Job.{JobValue};
+ghost use Rattle.desk_model.specs.statements.Job.{JobValue};
 ghost use Rattle.duty_record.specs.Deeds.{Deed, deed_of};
 ghost use Rattle.duty_record.specs.EndedTours.{begun_for, ended_tours};
 ghost use Rattle.duty_record.specs.Kept.{with_sums, marked_record, Takes, IsOf, AreMarks};
@@ -17,7 +17,7 @@ use tour_build::TourTotals;
 /// What is kept of a person: the minutes of the tour that began last, the vacancy that it was begun for, and the tours that
 /// have ended.
 #[derive(Drop)]
-pub struct PersonTours {
+pub(crate) struct PersonTours {
     pub(crate) totals: TourTotals,
     pub(crate) vacancy: Option<VacNo>,
     pub(crate) ended: Vec<EndedTour>,

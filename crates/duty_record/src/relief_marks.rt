@@ -1,8 +1,8 @@
 ghost use Rattle.std.specs.Prelude.{◌≡◌, None, MatchResult, ℕ, Option};
 ghost use Rattle.std.specs.Option.{option_or};
 ghost use Rattle.desk_model.specs.declared.command.Cmd.TheVariants as cmd;
-ghost use Rattle.desk_model.specs.Job.{JobValue};
-ghost use Rattle.desk_model.specs.Register.{makes};
+ghost use Rattle.desk_model.specs.statements.Job.{JobValue};
+ghost use Rattle.desk_model.specs.histories.Register.{makes};
 ghost use Rattle.duty_record.specs.Tours.{relief_in};
 ghost use Rattle.duty_record.specs.Kept.{AreMarks};
 
@@ -13,7 +13,7 @@ use std::alloc::Global;
 
 /// Of each vacancy that was made, whether it is for a relief crew.
 #[derive(Drop)]
-pub struct ReliefMarks {
+pub(crate) struct ReliefMarks {
     pub(crate) kept: IndexMap<VacNo, bool>,
 }
 

@@ -12,7 +12,7 @@ use std::alloc::Global;
 
 /// What is kept of all persons, in the order in which they first did something.
 #[derive(Drop)]
-pub struct TourBook {
+pub(crate) struct TourBook {
     pub(crate) alloc: Global,
     pub(crate) people: IndexMap<PersonNo, PersonTours>,
 }

@@ -15,12 +15,12 @@ use Rattle.denial_rules.proofs.TableLemmas.{both-none}
 use Rattle.desk_model.specs.declared.edition.Edition.{Edition}
 use Rattle.desk_model.specs.declared.edition.Edition.TheVariants as edition
 use Rattle.desk_model.specs.declared.person.Person.{Person}
-use Rattle.desk_model.specs.History.{History}
-use Rattle.desk_model.specs.Job.{JobValue}
-use Rattle.desk_model.specs.Duty.{events, in_tour, place_at}
-use Rattle.desk_model.specs.Held.{held_in, hold_end, held}
-use Rattle.desk_model.specs.Bars.{law_of, facts_of}
-use Rattle.desk_model.specs.Legal.{last_moment, IsLegal}
+use Rattle.desk_model.specs.histories.History.{History}
+use Rattle.desk_model.specs.statements.Job.{JobValue}
+use Rattle.desk_model.specs.histories.Duty.{events, in_tour, place_at}
+use Rattle.desk_model.specs.offers.Held.{held_in, hold_end, held}
+use Rattle.desk_model.specs.offers.Bars.{law_of, facts_of}
+use Rattle.desk_model.specs.histories.Legal.{last_moment, IsLegal}
 use Rattle.desk_model.proofs.EventLemmas.{lawful-events}
 use Rattle.earliest_minute.specs.Least.{StaysGone}
 

@@ -2,11 +2,11 @@
 use Rattle.std.specs.Prelude.{◌≡◌, ◌≢◌, ℕ, ◌<◌, ◌≤◌, None, Some}
 use Rattle.denial_rules.specs.declared.bar.Bar.{Bar}
 use Rattle.desk_model.specs.declared.person.Person.{Person}
-use Rattle.desk_model.specs.History.{History}
-use Rattle.desk_model.specs.Job.{JobValue}
-use Rattle.desk_model.specs.Register.{person_of}
-use Rattle.desk_model.specs.Bars.{bar_of}
-use Rattle.desk_model.specs.Legal.{last_moment, IsLegal}
+use Rattle.desk_model.specs.histories.History.{History}
+use Rattle.desk_model.specs.statements.Job.{JobValue}
+use Rattle.desk_model.specs.histories.Register.{person_of}
+use Rattle.desk_model.specs.offers.Bars.{bar_of}
+use Rattle.desk_model.specs.histories.Legal.{last_moment, IsLegal}
 use Rattle.desk_answers.specs.Asked.{IsAsked}
 
 -- from the last moment on: whom nothing bars from a job at a minute, nothing bars from it at a later one

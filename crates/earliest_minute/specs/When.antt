@@ -5,12 +5,12 @@ use Rattle.denial_rules.specs.declared.bar.Bar.{Bar}
 use Rattle.desk_model.specs.declared.person.Person.{Person}
 use Rattle.desk_model.specs.declared.reply.Reply.{Reply}
 use Rattle.desk_model.specs.declared.reply.Reply.TheVariants as reply
-use Rattle.desk_model.specs.History.{History}
-use Rattle.desk_model.specs.Job.{JobValue}
-use Rattle.desk_model.specs.Register.{person_of, vacancy_of}
-use Rattle.desk_model.specs.Bars.{bar_of}
-use Rattle.desk_model.specs.Legal.{last_moment}
-use Rattle.desk_model.specs.ExplainAnswer.{explain_answer}
+use Rattle.desk_model.specs.histories.History.{History}
+use Rattle.desk_model.specs.statements.Job.{JobValue}
+use Rattle.desk_model.specs.histories.Register.{person_of, vacancy_of}
+use Rattle.desk_model.specs.offers.Bars.{bar_of}
+use Rattle.desk_model.specs.histories.Legal.{last_moment}
+use Rattle.desk_model.specs.answers.ExplainAnswer.{explain_answer}
 use Rattle.earliest_minute.specs.declared.earliest.Earliest.{Earliest}
 use Rattle.earliest_minute.specs.declared.earliest.Earliest.TheVariants as earliest
 use Rattle.earliest_minute.specs.Least.{IsLeast, IsBarredThroughout}

@@ -1,7 +1,7 @@
 ghost use Rattle.std.specs.Prelude.{◌≡◌, ◌≤◌, ℕ, Some};
-ghost use Rattle.desk_model.specs.History.{History};
-ghost use Rattle.desk_model.specs.Legal.{last_moment};
-ghost use Rattle.desk_model.specs.Register.{person_of, vacancy_of};
+ghost use Rattle.desk_model.specs.histories.History.{History};
+ghost use Rattle.desk_model.specs.histories.Legal.{last_moment};
+ghost use Rattle.desk_model.specs.histories.Register.{person_of, vacancy_of};
 ghost use Rattle.earliest_minute.specs.When.{IsJudged, IsWhen};
 
 use crate::earliest::Earliest;

@@ -1,7 +1,7 @@
 //! What holds of bars as time goes on.
 ghost use Rattle.std.specs.Prelude.{◌≡◌, ◌↔◌, ℕ};
-ghost use Rattle.desk_model.specs.History.{History};
-ghost use Rattle.desk_model.specs.Legal.{IsLegal};
+ghost use Rattle.desk_model.specs.histories.History.{History};
+ghost use Rattle.desk_model.specs.histories.Legal.{IsLegal};
 ghost use Rattle.earliest_minute.specs.declared.earliest.Earliest.{Earliest as EarliestValue};
 ghost use Rattle.earliest_minute.specs.Least.{StaysGone};
 ghost use Rattle.earliest_minute.specs.When.{IsWhen, when_of};

@@ -1,6 +1,6 @@
 ghost use Rattle.std.specs.Prelude.{◌≡◌, ◌≤◌, ◌<◌, ◌+◌, ℕ, IfNone, IfSome};
-ghost use Rattle.desk_model.specs.History.{History};
-ghost use Rattle.desk_model.specs.Legal.{last_moment};
+ghost use Rattle.desk_model.specs.histories.History.{History};
+ghost use Rattle.desk_model.specs.histories.Legal.{last_moment};
 ghost use Rattle.earliest_minute.specs.Least.{IsBetween, IsLeast};
 
 use crate::laws::a_bar_that_is_gone_stays_gone;

@@ -2,11 +2,11 @@
 use Rattle.std.proofs.Common.{◌≡◌, ◌≤◌, ℕ, sym, subst}
 use Rattle.std.proofs.Math.Logic.{∥∥₁_elim}
 use Rattle.desk_model.specs.declared.limits.TheConstants.{LAST_CALLER}
-use Rattle.desk_model.specs.Statement.{StatedValue}
-use Rattle.desk_model.specs.Fits.{IsStated}
-use Rattle.desk_model.specs.Entry.{EntryValue}
-use Rattle.desk_model.specs.History.{History}
-use Rattle.desk_model.specs.Legal.{next, IsNext}
+use Rattle.desk_model.specs.statements.Statement.{StatedValue}
+use Rattle.desk_model.specs.statements.Fits.{IsStated}
+use Rattle.desk_model.specs.statements.Entry.{EntryValue}
+use Rattle.desk_model.specs.histories.History.{History}
+use Rattle.desk_model.specs.histories.Legal.{next, IsNext}
 use Rattle.desk_model.proofs.LegalLemmas.{IsNext-next}
 use Rattle.fast_core.specs.declared.desk.Desk.{Desk}
 use Rattle.fast_core.specs.Desk.{Tells}

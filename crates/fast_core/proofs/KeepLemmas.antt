@@ -3,13 +3,13 @@ use Rattle.std.proofs.Common.{◌≡◌, ℕ, Bool, true, false, cond, ◌++◌,
 use Rattle.std.specs.List.{cons_option}
 use Rattle.desk_model.specs.declared.command.Cmd.{Cmd}
 use Rattle.desk_model.specs.declared.command.Cmd.TheVariants as cmd
-use Rattle.desk_model.specs.Entry.{EntryValue}
-use Rattle.desk_model.specs.History.{History, is_done, said, with_entry}
-use Rattle.desk_model.specs.Register.{enrols_any, persons}
-use Rattle.desk_model.specs.Comes.{Comes}
-use Rattle.desk_duty.specs.Told.{teller}
-use Rattle.desk_offers.specs.Told.{decliner}
-use Rattle.desk_lists.specs.Lists.{mover}
+use Rattle.desk_model.specs.statements.Entry.{EntryValue}
+use Rattle.desk_model.specs.histories.History.{History, is_done, said, with_entry}
+use Rattle.desk_model.specs.histories.Register.{enrols_any, persons}
+use Rattle.desk_model.specs.laws.Comes.{Comes}
+use Rattle.desk_state.specs.DutyTold.{teller}
+use Rattle.desk_state.specs.OfferTold.{decliner}
+use Rattle.desk_state.specs.Lists.{mover}
 
 -- what an entry says by one reading it says by a wider one
 said-wider : (f g : Cmd → Option ℕ) → ((c : Cmd) (p : ℕ) → f c ≡ Some p → g c ≡ Some p) → (e : EntryValue) (p : ℕ) → said f e ≡ Some p → said g e ≡ Some p
@@ -19,17 +19,9 @@ said-wider f g wider e p told = go (is_done e.reply) told
     go true told = wider e.stated.cmd p told
     go false told = cc
 
-teller-moves : (c : Cmd) (p : ℕ) → teller c ≡ Some p → mover c ≡ Some p
-teller-moves (cmd.Past person event) p told = told
-teller-moves (cmd.Happened person event) p told = told
-teller-moves other p told = cc
-
 decliner-moves : (c : Cmd) (p : ℕ) → decliner c ≡ Some p → mover c ≡ Some p
 decliner-moves (cmd.Decline vac person) p told = told
 decliner-moves other p told = cc
-
-pub teller-mover : (e : EntryValue) (p : ℕ) → said teller e ≡ Some p → said mover e ≡ Some p
-teller-mover = said-wider teller mover teller-moves
 
 pub decliner-mover : (e : EntryValue) (p : ℕ) → said decliner e ≡ Some p → said mover e ≡ Some p
 decliner-mover = said-wider decliner mover decliner-moves

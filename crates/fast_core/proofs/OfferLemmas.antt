@@ -9,14 +9,14 @@ use Rattle.std.proofs.lemmas.Option.{slice_get-get_or}
 use Rattle.std.proofs.lemmas.Slice.Eq.{bytes_eq-Decides}
 use Rattle.desk_base.specs.Minute.{IsInYears}
 use Rattle.desk_model.specs.declared.offer.Offer.{Offer}
-use Rattle.desk_model.specs.Fits.{Fits}
-use Rattle.desk_model.specs.History.{History}
-use Rattle.desk_model.specs.Register.{boards}
-use Rattle.desk_model.specs.Offers.{open_offer}
+use Rattle.desk_model.specs.statements.Fits.{Fits}
+use Rattle.desk_model.specs.histories.History.{History}
+use Rattle.desk_model.specs.histories.Register.{boards}
+use Rattle.desk_model.specs.offers.Offers.{open_offer}
 use Rattle.desk_model.proofs.FitRegisterLemmas.{open_offer-fits}
 use Rattle.desk_register.specs.Among.{board_place}
 use Rattle.offer_flight.specs.declared.in_flight.InFlight.{InFlight}
-use Rattle.desk_offers.specs.OpenOffers.{IsOffer}
+use Rattle.desk_state.specs.OpenOffers.{IsOffer}
 
 of_some : {X : Type 0} {x y : X} → Some x ≡ Some y → x ≡ y
 of_some {x = x} is = ap (λ o. unwrap_or o x) is

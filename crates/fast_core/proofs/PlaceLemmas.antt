@@ -3,10 +3,10 @@ use Rattle.std.proofs.Common.{◌≡◌, ℕ, ◌+◌, Bool, true, false, ◌||�
 use Rattle.std.specs.List.{find, list_any}
 use Rattle.std.proofs.lemmas.Bool.{false≢true}
 use Rattle.std.proofs.lemmas.Bool.Decides.{nat_tests}
-use Rattle.desk_model.specs.History.{History}
-use Rattle.desk_model.specs.Register.{person_of, board_of, persons, boards}
-use Rattle.desk_model.specs.Boards.{is_on, boards_of, links, order}
-use Rattle.desk_model.specs.RestsOn.{IsListed}
+use Rattle.desk_model.specs.histories.History.{History}
+use Rattle.desk_model.specs.histories.Register.{person_of, board_of, persons, boards}
+use Rattle.desk_model.specs.boards.Boards.{is_on, boards_of, links, order}
+use Rattle.desk_model.specs.laws.RestsOn.{IsListed}
 use Rattle.desk_register.specs.Among.{place_among, board_place}
 
 -- the laws

@@ -15,26 +15,26 @@ use Rattle.vacancy_fill.specs.declared.fill.Found.{Found}
 use Rattle.vacancy_fill.specs.Chain.{members_at, places, chain_from, first_free as first_found, BarsUnready, is_passed_over, passed_over, most_steps}
 use Rattle.desk_model.specs.declared.link.Link.{Link}
 use Rattle.desk_model.specs.declared.person.Person.{Person}
-use Rattle.desk_model.specs.Job.{JobValue}
-use Rattle.desk_model.specs.History.{History}
-use Rattle.desk_model.specs.Register.{person_of, persons, boards}
+use Rattle.desk_model.specs.statements.Job.{JobValue}
+use Rattle.desk_model.specs.histories.History.{History}
+use Rattle.desk_model.specs.histories.Register.{person_of, persons, boards}
 use Rattle.slot_tree.specs.declared.slot.Slot.{Slot}
 use Rattle.slot_tree.specs.Slots.{is_ready}
-use Rattle.desk_model.specs.Boards.{is_on, links, order}
-use Rattle.desk_model.specs.Offers.{is_of}
-use Rattle.desk_model.specs.Duty.{events, in_tour}
-use Rattle.desk_model.specs.Rank.{IsOnce}
-use Rattle.desk_model.specs.Bars.{bar_of, may_have, is_free}
+use Rattle.desk_model.specs.boards.Boards.{is_on, links, order}
+use Rattle.desk_model.specs.offers.Offers.{is_of}
+use Rattle.desk_model.specs.histories.Duty.{events, in_tour}
+use Rattle.desk_model.specs.boards.Rank.{IsOnce}
+use Rattle.desk_model.specs.offers.Bars.{bar_of, may_have, is_free}
 use Rattle.desk_register.specs.Among.{place_among, board_place}
-use Rattle.desk_lists.specs.declared.named.TheConstants.{NEVER}
-use Rattle.desk_lists.specs.Places.{has_board}
-use Rattle.desk_lists.specs.declared.lists.Lists.{Lists}
-use Rattle.desk_lists.specs.Lists.{KeepsLists, Keeps, boards_kept, is_on_one, IsOnOne}
+use Rattle.desk_state.specs.declared.named.TheConstants.{NEVER}
+use Rattle.desk_state.specs.Places.{has_board}
+use Rattle.desk_state.specs.declared.lists.Lists.{Lists}
+use Rattle.desk_state.specs.Lists.{KeepsLists, Keeps, boards_kept, is_on_one, IsOnOne}
 use Rattle.fast_core.specs.declared.desk.Desk.{Desk}
 use Rattle.fast_core.specs.declared.job_asked.JobAsked.{JobAsked}
 use Rattle.fast_core.specs.Judged.{IsJobAsked}
 use Rattle.fast_core.specs.Desk.{Tells}
-use Rattle.desk_lists.proofs.BitLemmas.{no-board}
+use Rattle.desk_state.proofs.BitLemmas.{no-board}
 use Rattle.fast_core.specs.Search.{bar_by, bar_for, bar_unless, was_searched, Judges, HasSearched, is_barred_though_rested, board_steps, chain_steps}
 use Rattle.fast_core.proofs.OfferLemmas.{code-at}
 use Rattle.fast_core.proofs.StepLemmas.{over-kept, asked-early}
@@ -177,10 +177,6 @@ all-barred h m job b p (q ∷ ps) n there none = go (nat_eq p q) (is_free h m jo
 some-free : (bar : Option Bar) → is_none bar ≡ false → is_some bar ≡ true
 some-free None e = absurd (false≢true (sym e))
 some-free (Some x) e = refl
-
--- none was searched yet
-pub searched-none : (h : History) (m : ℕ) (job : JobValue) → HasSearched h m job 0
-searched-none h m job = record { fits = omega arith; barred = λ p on. absurd (false≢true (sym (no-board on.place) ∙ on.has)) }
 
 -- a board more
 pub searched-more : (h : History) (m : ℕ) (job : JobValue) (searched later : ℕ) (b : List ℕ) → ((p : ℕ) → list_any (nat_eq p) (order h b) ≡ is_on h p b) → later < 2 ^ 64

@@ -9,18 +9,18 @@ use Rattle.slot_tree.specs.declared.slot.Slot.{Slot}
 use Rattle.pool_board.specs.Board.{BoardValue}
 use Rattle.pool_board.specs.Members.{persons as members_in, ready_of}
 use Rattle.vacancy_fill.specs.Chain.{members_at, is_passed_over, passed_over}
-use Rattle.desk_model.specs.Job.{JobValue}
-use Rattle.desk_model.specs.History.{History}
-use Rattle.desk_model.specs.Register.{boards}
-use Rattle.desk_model.specs.Boards.{order}
-use Rattle.desk_model.specs.Rank.{IsOnce}
-use Rattle.desk_model.specs.Duty.{events, in_tour}
-use Rattle.desk_model.specs.Legal.{IsLegal}
+use Rattle.desk_model.specs.statements.Job.{JobValue}
+use Rattle.desk_model.specs.histories.History.{History}
+use Rattle.desk_model.specs.histories.Register.{boards}
+use Rattle.desk_model.specs.boards.Boards.{order}
+use Rattle.desk_model.specs.boards.Rank.{IsOnce}
+use Rattle.desk_model.specs.histories.Duty.{events, in_tour}
+use Rattle.desk_model.specs.histories.Legal.{IsLegal}
 use Rattle.desk_model.proofs.OrderLemmas.{nat_eq-same}
 use Rattle.desk_model.proofs.PlanLemmas.{vacancy-in_years}
 use Rattle.desk_answers.specs.Asked.{IsAsked}
-use Rattle.desk_lists.specs.declared.named.TheConstants.{NEVER}
-use Rattle.desk_lists.specs.Lists.{ready_minute, KeepsLists}
+use Rattle.desk_state.specs.declared.named.TheConstants.{NEVER}
+use Rattle.desk_state.specs.Lists.{ready_minute, KeepsLists}
 use Rattle.fast_core.specs.Search.{bar_for, is_rested, is_barred_though_rested}
 
 -- who is ready from a minute on is a member

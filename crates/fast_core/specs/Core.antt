@@ -1,7 +1,7 @@
 -- What a core stands for.
 use Rattle.std.specs.Prelude.{◌≡◌}
 use Rattle.std.proofs.Common.{sym}
-use Rattle.desk_model.specs.History.{History}
+use Rattle.desk_model.specs.histories.History.{History}
 use Rattle.fast_core.specs.declared.desk.Desk.{Desk}
 use Rattle.fast_core.specs.Desk.{Tells}
 

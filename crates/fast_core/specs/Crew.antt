@@ -1,11 +1,11 @@
 -- What is kept of each person, beside what a history says of them.
 use Rattle.std.specs.Prelude.{◌≡◌, ℕ, true, Option, None, Some, is_some, []}
 use Rattle.person_clock.specs.Clock.{ClockValue}
-use Rattle.desk_model.specs.History.{History}
-use Rattle.desk_model.specs.Register.{person_of}
-use Rattle.desk_model.specs.Duty.{events}
+use Rattle.desk_model.specs.histories.History.{History}
+use Rattle.desk_model.specs.histories.Register.{person_of}
+use Rattle.desk_model.specs.histories.Duty.{events}
 use Rattle.desk_register.specs.Register.{Keeps}
-use Rattle.desk_duty.specs.Clocks.{clocks_of, window_of, AreClocks, IsClock}
+use Rattle.desk_state.specs.Clocks.{clocks_of, window_of, AreClocks, IsClock}
 use Rattle.fast_core.specs.declared.crew.Crew.{Crew}
 
 -- the register and the clocks are those of the history

@@ -1,9 +1,9 @@
 -- What a desk keeps, beside what a history says.
 use Rattle.std.specs.Prelude.{◌≡◌}
-use Rattle.desk_model.specs.History.{History}
-use Rattle.desk_model.specs.Legal.{last_moment, IsLegal}
-use Rattle.desk_offers.specs.Keeps.{Keeps as KeepsOffers}
-use Rattle.desk_lists.specs.Lists.{Keeps as KeepsLists}
+use Rattle.desk_model.specs.histories.History.{History}
+use Rattle.desk_model.specs.histories.Legal.{last_moment, IsLegal}
+use Rattle.desk_state.specs.Keeps.{Keeps as KeepsOffers}
+use Rattle.desk_state.specs.Lists.{Keeps as KeepsLists}
 use Rattle.fast_core.specs.Crew.{KeepsCrew}
 use Rattle.fast_core.specs.declared.desk.Desk.{Desk}
 

@@ -1,14 +1,14 @@
 -- Whom a desk judges, and for what, beside what a history says of them.
 use Rattle.std.specs.Prelude.{◌≡◌, ℕ, Option, None, Some}
 use Rattle.month_hours.specs.Plan.{plan_of}
-use Rattle.desk_model.specs.History.{History}
-use Rattle.desk_model.specs.Register.{person_of, persons}
+use Rattle.desk_model.specs.histories.History.{History}
+use Rattle.desk_model.specs.histories.Register.{person_of, persons}
 use Rattle.desk_answers.specs.Asked.{IsAsked}
 use Rattle.desk_register.specs.Among.{place_among}
 use Rattle.desk_register.specs.Persons.{IsPerson}
 use Rattle.desk_register.specs.TurnedDown.{turned_at, turned_for}
-use Rattle.desk_model.specs.TurnedDown.{has_turned_down}
-use Rattle.desk_duty.specs.Clocks.{IsClock}
+use Rattle.desk_model.specs.offers.TurnedDown.{has_turned_down}
+use Rattle.desk_state.specs.Clocks.{IsClock}
 use Rattle.fast_core.specs.declared.candidate.Candidate.{Candidate}
 use Rattle.fast_core.specs.declared.job_asked.JobAsked.{JobAsked}
 

@@ -5,14 +5,14 @@ use Rattle.rest_rules.specs.Rest.{rest_end}
 use Rattle.denial_rules.specs.declared.bar.Bar.{Bar}
 use Rattle.denial_rules.specs.declared.bar.Bar.TheVariants as bar
 use Rattle.desk_model.specs.declared.person.Person.{Person}
-use Rattle.desk_model.specs.Job.{JobValue}
-use Rattle.desk_model.specs.History.{History}
-use Rattle.desk_model.specs.Register.{person_of, persons}
-use Rattle.desk_model.specs.Boards.{order}
-use Rattle.desk_model.specs.Duty.{events, in_tour}
-use Rattle.desk_model.specs.Bars.{bar_of}
+use Rattle.desk_model.specs.statements.Job.{JobValue}
+use Rattle.desk_model.specs.histories.History.{History}
+use Rattle.desk_model.specs.histories.Register.{person_of, persons}
+use Rattle.desk_model.specs.boards.Boards.{order}
+use Rattle.desk_model.specs.histories.Duty.{events, in_tour}
+use Rattle.desk_model.specs.offers.Bars.{bar_of}
 use Rattle.desk_register.specs.Among.{place_among}
-use Rattle.desk_lists.specs.Lists.{is_on_one, IsOnOne}
+use Rattle.desk_state.specs.Lists.{is_on_one, IsOnOne}
 use Rattle.fast_core.specs.Desk.{Tells}
 use Rattle.fast_core.specs.Judged.{IsJobAsked}
 use Rattle.fast_core.specs.declared.desk.Desk.{Desk}

@@ -1,9 +1,138 @@
-use desk_duty::Duty;
-use desk_register::Register;
+ghost use Rattle.desk_model.specs.histories.History.{History, with_entry, said};
+ghost use Rattle.fast_core.specs.Crew.{KeepsCrew, IsClockOf};
+ghost use Rattle.fast_core.specs.Judged.{IsCandidateOf};
+ghost use Rattle.std.specs.Prelude.{◌≡◌, ℕ, true, ◌↔◌, Some, IfOk};
+ghost use Rattle.std.specs.Option.{option_copied};
+ghost use Rattle.duty_events.specs.Allowed.{judge};
+ghost use Rattle.duty_events.specs.Lists.{stage_of, latest};
+ghost use Rattle.month_hours.specs.Used.{used};
+ghost use Rattle.month_hours.specs.Capped.{capped};
+ghost use Rattle.desk_model.specs.histories.Register.{persons};
+ghost use Rattle.desk_model.specs.histories.Duty.{events};
+ghost use Rattle.desk_model.specs.answers.HoursAnswer.{has_month};
+ghost use Rattle.desk_register.specs.Among.{place_among};
+ghost use Rattle.desk_model.specs.histories.Legal.{IsLegal, IsNext};
+ghost use Rattle.desk_state.specs.Lists.{mover, ready_minute};
+
+use crate::candidate::Candidate;
+use desk_base::{Minute, Month, NoMemory, PersonNo, Window};
+use desk_model::Entry;
+use desk_register::{Register, who_is_enrolled_has_a_place};
+use desk_state::{Duty, NEVER};
+use duty_events::{Event, EventFault, Stage, allowed};
+use month_hours::{capped, used};
+use person_clock::PersonClock;
+use rest_rules::rest_end;
+use std::alloc::Global;
 
 /// What is kept of persons, boards and vacancies, and what each person did.
 #[derive(Drop)]
 pub(crate) struct Crew {
     pub register: Register,
     pub duty: Duty,
+}
+
+// The month is one of the window's.
+fn has_month(window: &Window, month: Month) -> bool
+    ensures { result ≡ has_month window.now month }
+{
+    let first = window.first().number();
+    first <= month.number() && month.number() < first + u16::from(window.months())
+}
+
+impl Crew {
+    /// The enrolled person of this number; `None` where nobody has it.
+    pub(crate) fn candidate(&self, number: PersonNo) -> Option<Candidate<'_>>
+        ensures { (h : History) → KeepsCrew self.now h → IsCandidateOf result h number }
+    {
+        who_is_enrolled_has_a_place();
+        let found = self.register.persons().find(number)?;
+        let clock = self.duty.clock(found.place)?;
+        Some(Candidate {
+            place: found.place,
+            kept: found.kept,
+            clock,
+        })
+    }
+
+    /// The clock of the person at this place among all; `None` for who has no place.
+    fn clock_at(&self, place: Option<usize>) -> Option<&PersonClock>
+        ensures { (h : History) (p : ℕ) → KeepsCrew self.now h → place ≡ place_among (persons h) p
+            → IsClockOf (option_copied result) h p }
+    {
+        who_is_enrolled_has_a_place();
+        self.duty.clock(place?)
+    }
+
+    // The clock of an enrolled person.
+    fn clock(&self, person: PersonNo) -> Option<&PersonClock>
+        ensures { (h : History) → KeepsCrew self.now h → IsClockOf (option_copied result) h person }
+    {
+        self.clock_at(self.register.persons().place(person))
+    }
+
+    /// The stage that an event leads to after the person's events, or why it is not allowed.
+    pub(crate) fn judge(&self, person: PersonNo, event: &Event) -> Result<Stage, EventFault>
+        ensures { (h : History) → KeepsCrew self.now h
+            → result ≡ judge (stage_of (events h person)) event.now (latest (events h person)) }
+    {
+        match self.clock(person) {
+            Some(clock) => allowed(clock.stage(), *event, clock.last()),
+            None => allowed(Stage::Off, *event, None),
+        }
+    }
+
+    /// How many minutes of a month of the window the person worked.
+    pub(crate) fn used(&self, person: PersonNo, month: Month) -> u32
+        ensures { (h : History) → KeepsCrew self.now h → has_month h.opening.window month ≡ true
+            → result ≡ used (events h person) month }
+    {
+        match self.clock(person) {
+            Some(clock) if has_month(&clock.window(), month) => clock.used(month),
+            _ => used(&[], month),
+        }
+    }
+
+    /// How many of the person's minutes of limbo in a month of the window are capped.
+    pub(crate) fn capped(&self, person: PersonNo, month: Month) -> u32
+        ensures { (h : History) → KeepsCrew self.now h → has_month h.opening.window month ≡ true
+            → result ≡ capped (events h person) month }
+    {
+        match self.clock(person) {
+            Some(clock) if has_month(&clock.window(), month) => clock.capped(month),
+            _ => capped(&[], month),
+        }
+    }
+
+    /// The same again, with memory of its own; `NoMemory` where there is none for it.
+    pub(crate) fn copy(&self, alloc: Global) -> Result<Crew, NoMemory>
+        ensures { IfOk result (λ crew. (h : History) → KeepsCrew crew h ↔ KeepsCrew self.now h) }
+    {
+        let register = self.register.copy(alloc)?;
+        let duty = self.duty.copy(alloc)?;
+        Ok(Crew { register, duty })
+    }
+
+    /// Keeps what the next entry of a legal history changes. `place` is that of the person among all whom it moves or of whom it
+    /// tells an event.
+    pub(crate) fn keep(&mut self, entry: &Entry, place: Option<usize>)
+        ensures { (h : History) → IsLegal h → IsNext h entry.now
+            → ((p : ℕ) → said mover entry.now ≡ Some p → place ≡ place_among (persons h) p)
+            → KeepsCrew self.old h → KeepsCrew self.new (with_entry h entry.now) }
+    {
+        self.register.keep(entry);
+        self.duty.keep(entry, place);
+    }
+
+    /// The minute from which the person at this place among all is ready, and from which anybody is who has no place.
+    pub(crate) fn ready_of(&self, place: Option<usize>) -> Minute
+        ensures { (h : History) (p : ℕ) → KeepsCrew self.now h → place ≡ place_among (persons h) p
+            → result ≡ ready_minute h p }
+    {
+        match self.clock_at(place) {
+            Some(clock) if clock.stage() == Stage::Off => clock.rest_end(),
+            Some(_) => Minute::new(NEVER).unwrap_or(Minute::FIRST),
+            None => rest_end(&[]),
+        }
+    }
 }

@@ -1,10 +1,10 @@
 -- Supposed entries, one after another.
 use Rattle.std.proofs.Common.{◌≡◌, ℕ, ◌<◌, ◌+◌, List, [], ◌∷◌, ◌++◌, length, get_or, take, map, refl, sym, ap, ◌∙◌, append_assoc, append-nil}
 use Rattle.std.proofs.lemmas.List.{take_more, map-append}
-use Rattle.desk_model.specs.Statement.{StatedValue}
-use Rattle.desk_model.specs.Entry.{EntryValue}
-use Rattle.desk_model.specs.History.{History, history_of, opened, with_entry}
-use Rattle.desk_model.specs.Legal.{next, given, history_from, history, IsLegal}
+use Rattle.desk_model.specs.statements.Statement.{StatedValue}
+use Rattle.desk_model.specs.statements.Entry.{EntryValue}
+use Rattle.desk_model.specs.histories.History.{History, history_of, opened, with_entry}
+use Rattle.desk_model.specs.histories.Legal.{next, given, history_from, history, IsLegal}
 use Rattle.forecast.specs.Supposed.{by_nobody, with_entries, OnlyThese}
 
 -- no entries change nothing

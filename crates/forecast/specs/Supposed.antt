@@ -1,9 +1,9 @@
 -- What would be answered, if these commands came.
 use Rattle.std.specs.Prelude.{◌≡◌, ℕ, List, ◌++◌, map}
-use Rattle.desk_model.specs.Statement.{StatedValue}
-use Rattle.desk_model.specs.Entry.{EntryValue}
-use Rattle.desk_model.specs.History.{History, history_of}
-use Rattle.desk_model.specs.Legal.{IsLegal, given, history_from}
+use Rattle.desk_model.specs.statements.Statement.{StatedValue}
+use Rattle.desk_model.specs.statements.Entry.{EntryValue}
+use Rattle.desk_model.specs.histories.History.{History, history_of}
+use Rattle.desk_model.specs.histories.Legal.{IsLegal, given, history_from}
 
 -- stated by nobody's line: by caller 0
 abbrev pub by_nobody : StatedValue → ℕ × StatedValue

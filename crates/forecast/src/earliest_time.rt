@@ -1,4 +1,4 @@
-ghost use Rattle.desk_model.specs.History.{History};
+ghost use Rattle.desk_model.specs.histories.History.{History};
 ghost use Rattle.earliest_minute.specs.When.{IsWhen};
 
 use desk_base::{PersonNo, VacNo};

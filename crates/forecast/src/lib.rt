@@ -3,12 +3,10 @@
 #![tactic(auto)]
 
 mod earliest_time;
-mod laws;
 mod suppose_fault;
 mod supposed;
 
 pub use earliest_minute::Earliest;
 pub use earliest_time::when;
-pub use laws::a_history_goes_on_as_supposed;
 pub use suppose_fault::SupposeFault;
-pub use supposed::{answer_each, suppose};
+pub use supposed::{a_history_goes_on_as_supposed, answer_each, suppose};

@@ -1,11 +1,11 @@
 //! What would be answered, if commands came.
 ghost use Rattle.std.specs.Prelude.{◌≡◌, ◌<◌, ◌≤◌, ◌+◌, [], Err, IfOk, IsErr, length, vec_capacity};
-ghost use Rattle.desk_model.specs.History.{History};
+ghost use Rattle.desk_model.specs.histories.History.{History};
 ghost use Rattle.forecast.specs.declared.suppose_fault.SupposeFault.TheVariants as fault;
-ghost use Rattle.forecast.specs.Supposed.{IsSupposed, with_entries};
+ghost use Rattle.forecast.specs.Supposed.{IsSupposed, with_entries, OnlyThese};
 
 use crate::suppose_fault::SupposeFault;
-use desk_model::{DeskCore, Entry, Stated, one_history_is_legal};
+use desk_model::{DeskCore, Entry, Stated, a_history_goes_on_with_commands, one_history_is_legal};
 use fast_core::FastCore;
 use std::alloc::Global;
 
@@ -52,4 +52,13 @@ pub fn suppose(
     };
     answer_each(&mut copy, supposed, &mut entries);
     Ok(entries)
+}
+
+/// The entries that are supposed of commands after a legal history are those with which the history goes on by the rules, and no
+/// others: there is one list of them at most. It only names the laws that it rests on: its clause is the law.
+pub fn a_history_goes_on_as_supposed()
+    ensures { OnlyThese }
+{
+    one_history_is_legal();
+    a_history_goes_on_with_commands();
 }

@@ -5,13 +5,13 @@ use Rattle.desk_base.specs.Minute.{minute_text}
 use Rattle.desk_base.specs.Month.{month_text}
 use Rattle.desk_model.specs.declared.edition.Edition.{Edition}
 use Rattle.desk_model.specs.declared.edition.Edition.TheVariants as edition
-use Rattle.desk_model.specs.Opening.{OpeningValue, edition_fields}
-use Rattle.desk_model.specs.Journal.{opening_line}
-use Rattle.desk_model.specs.Entry.{EntryValue}
-use Rattle.desk_model.specs.StatedTexts.{stated_fields}
+use Rattle.desk_model.specs.statements.Opening.{OpeningValue, edition_fields}
+use Rattle.desk_model.specs.texts.Journal.{opening_line}
+use Rattle.desk_model.specs.statements.Entry.{EntryValue}
+use Rattle.desk_model.specs.texts.StatedTexts.{stated_fields}
 use Rattle.desk_model.specs.declared.reply.Reply.{Reply}
-use Rattle.desk_model.specs.ReplyTexts.{reply_text}
-use Rattle.desk_model.specs.Journal.{entry_line}
+use Rattle.desk_model.specs.texts.ReplyTexts.{reply_text}
+use Rattle.desk_model.specs.texts.Journal.{entry_line}
 use Rattle.line_writer.specs.Line.{outcome_line}
 use Rattle.line_writer.specs.Marked.{marked}
 

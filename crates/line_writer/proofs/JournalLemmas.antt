@@ -1,9 +1,9 @@
 -- The journal of a history grows by a line for each entry.
 use Rattle.std.proofs.Common.{◌≡◌, ◌∙◌, List, [], ◌∷◌, ◌++◌, sym, ap, append_assoc, append-nil}
 use Rattle.std.proofs.lemmas.Grind.{flat_map-append}
-use Rattle.desk_model.specs.Entry.{EntryValue}
-use Rattle.desk_model.specs.History.{History, history_of, with_entry}
-use Rattle.desk_model.specs.Journal.{opening_line, entry_line, entry_lines, journal}
+use Rattle.desk_model.specs.statements.Entry.{EntryValue}
+use Rattle.desk_model.specs.histories.History.{History, history_of, with_entry}
+use Rattle.desk_model.specs.texts.Journal.{opening_line, entry_line, entry_lines, journal}
 
 -- entries more are lines more
 pub journal-append : (h : History) (later : List EntryValue) → journal (history_of h.opening (h.entries ++ later)) ≡ journal h ++ entry_lines later

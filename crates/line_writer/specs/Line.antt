@@ -3,7 +3,7 @@ use Rattle.std.specs.Prelude.{◌≡◌, ℕ, true, nat_le, List, [], ◌∷◌,
 use Rattle.std.specs.List.{list_all}
 use Rattle.desk_base.specs.Minute.{minute_text}
 use Rattle.desk_model.specs.declared.reply.Reply.{Reply}
-use Rattle.desk_model.specs.ReplyTexts.{reply_text}
+use Rattle.desk_model.specs.texts.ReplyTexts.{reply_text}
 
 -- each byte is 32 or above, so that none is a line feed or a carriage return
 pub record IsPlain (text : List ℕ) : Type 0 where

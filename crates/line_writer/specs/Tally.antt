@@ -3,12 +3,12 @@ use Rattle.std.specs.Prelude.{◌≡◌, ℕ, Bool, true, false, not, ◌||◌, 
 use Rattle.desk_base.specs.Minute.{minute_text}
 use Rattle.desk_model.specs.declared.reply.Reply.{Reply}
 use Rattle.desk_model.specs.declared.reply.Reply.TheVariants as reply
-use Rattle.desk_model.specs.Entry.{EntryValue}
+use Rattle.desk_model.specs.statements.Entry.{EntryValue}
 use Rattle.line_writer.specs.declared.reply_sort.ReplySort.{ReplySort}
 use Rattle.line_writer.specs.declared.tally.Tally.{Tally}
 use Rattle.line_writer.specs.declared.reply_sort.ReplySort.TheVariants as sort
-use Rattle.desk_model.specs.History.{History, is_done}
-use Rattle.desk_model.specs.Legal.{last_moment}
+use Rattle.desk_model.specs.histories.History.{History, is_done}
+use Rattle.desk_model.specs.histories.Legal.{last_moment}
 
 -- a vacancy was offered
 abbrev pub is_offered : Reply → Bool

@@ -2,7 +2,7 @@
 ghost use Rattle.std.specs.Prelude.{◌≡◌, ◌≤◌, ◌+◌, ◌∷◌, ◌++◌, decimal};
 ghost use Rattle.arrayvec.specs.ArrayVec.{array_vec_len};
 ghost use Rattle.desk_base.specs.Month.{month_text};
-ghost use Rattle.desk_model.specs.BarTexts.{late_text, kept_text, bar_text};
+ghost use Rattle.desk_model.specs.texts.BarTexts.{late_text, kept_text, bar_text};
 
 use crate::line_text::{LineText, put, put_byte, put_number};
 use denial_rules::{Bar, name};

@@ -1,6 +1,6 @@
 //! Entries as lines of the journal.
 ghost use Rattle.std.specs.Prelude.{◌≡◌};
-ghost use Rattle.desk_model.specs.Journal.{entry_line};
+ghost use Rattle.desk_model.specs.texts.Journal.{entry_line};
 
 use crate::line_text::{LineText, put_byte, put_number};
 use crate::outcome_line::put_outcome;

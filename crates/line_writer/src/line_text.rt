@@ -27,7 +27,7 @@ pub fn put_byte(line: &mut LineText, byte: u8)
 }
 
 /// Adds a number in decimal, 10 digits at most.
-pub fn put_number(line: &mut LineText, number: u32)
+pub(crate) fn put_number(line: &mut LineText, number: u32)
     requires { array_vec_len line.old + 10 ≤ 512 }
     ensures text { line.new.items ≡ line.old.items ++ decimal number }
     ensures len { array_vec_len line.new ≤ array_vec_len line.old + 10 }
@@ -36,7 +36,7 @@ pub fn put_number(line: &mut LineText, number: u32)
 }
 
 /// Adds a comma and a field.
-pub fn put_field(line: &mut LineText, field: &[u8])
+pub(crate) fn put_field(line: &mut LineText, field: &[u8])
     requires { array_vec_len line.old + length field.now + 1 ≤ 512 }
     ensures text { line.new.items ≡ line.old.items ++ 44 ∷ field.now }
     ensures len { array_vec_len line.new ≡ array_vec_len line.old + length field.now + 1 }
@@ -46,7 +46,7 @@ pub fn put_field(line: &mut LineText, field: &[u8])
 }
 
 /// Adds a comma and a number in decimal, 10 digits at most.
-pub fn put_number_field(line: &mut LineText, number: u32)
+pub(crate) fn put_number_field(line: &mut LineText, number: u32)
     requires { array_vec_len line.old + 11 ≤ 512 }
     ensures text { line.new.items ≡ line.old.items ++ 44 ∷ decimal number }
     ensures len { array_vec_len line.new ≤ array_vec_len line.old + 11 }

@@ -1,7 +1,7 @@
 //! The journal's first line.
 ghost use Rattle.std.specs.Prelude.{◌≡◌, ◌≤◌, length};
-ghost use Rattle.desk_model.specs.Journal.{opening_line};
-ghost use Rattle.desk_model.specs.Opening.{edition_fields};
+ghost use Rattle.desk_model.specs.texts.Journal.{opening_line};
+ghost use Rattle.desk_model.specs.statements.Opening.{edition_fields};
 ghost use Rattle.line_writer.specs.Marked.{marked};
 
 use crate::line_text::{LineText, put, put_byte, put_number};

@@ -1,7 +1,7 @@
 //! What the desk answered, and bars, as texts of their own.
 ghost use Rattle.std.specs.Prelude.{◌≡◌, ◌≤◌, ◌+◌, ◌++◌};
 ghost use Rattle.arrayvec.specs.ArrayVec.{array_vec_len};
-ghost use Rattle.desk_model.specs.BarTexts.{bar_text};
+ghost use Rattle.desk_model.specs.texts.BarTexts.{bar_text};
 ghost use Rattle.line_writer.specs.Line.{outcome_line};
 
 use crate::bar_line::put_bar;

@@ -1,7 +1,7 @@
 //! Replies as texts.
 ghost use Rattle.std.specs.Prelude.{◌≡◌, ◌≤◌, ◌+◌, ◌++◌, length, decimal};
 ghost use Rattle.arrayvec.specs.ArrayVec.{array_vec_len};
-ghost use Rattle.desk_model.specs.ReplyTexts.{state_text, stage_text, fault_text, reply_text};
+ghost use Rattle.desk_model.specs.texts.ReplyTexts.{state_text, stage_text, fault_text, reply_text};
 
 use crate::bar_line::{put_bar, put_late};
 use crate::line_text::{LineText, put, put_byte, put_number};
@@ -10,7 +10,7 @@ use desk_model::{Reply, VacState};
 use duty_events::{EventFault, Stage};
 
 /// Adds the text of a reply, 48 bytes at most.
-pub fn put_reply(line: &mut LineText, reply: &Reply)
+pub(crate) fn put_reply(line: &mut LineText, reply: &Reply)
     requires { array_vec_len line.old + 48 ≤ 512 }
     ensures text { line.new.items ≡ line.old.items ++ reply_text reply.now }
     ensures len { array_vec_len line.new ≤ array_vec_len line.old + 48 }

@@ -6,7 +6,7 @@ use desk_model::Reply;
 
 /// A sort of answers.
 #[derive(Clone, Copy)]
-pub enum ReplySort {
+pub(crate) enum ReplySort {
     /// It was done.
     Done,
     /// A vacancy was offered.
@@ -23,7 +23,7 @@ pub enum ReplySort {
 
 impl ReplySort {
     /// Whether an answer is of the sort.
-    pub fn has(self, reply: &Reply) -> bool
+    pub(crate) fn has(self, reply: &Reply) -> bool
         ensures { result ≡ is_of self reply.now }
     {
         let is_done = matches!(reply, Reply::Done);

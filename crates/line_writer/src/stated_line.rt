@@ -3,7 +3,7 @@ ghost use Rattle.std.specs.Prelude.{◌≡◌, ◌≤◌, ◌+◌, [], ◌∷◌
 ghost use Rattle.std.specs.List.{join_with_byte};
 ghost use Rattle.arrayvec.specs.ArrayVec.{array_vec_len};
 ghost use Rattle.desk_base.specs.Minute.{minute_text};
-ghost use Rattle.desk_model.specs.StatedTexts.{command_fields, stated_fields, kind_text, event_fields, job_word, job_fields};
+ghost use Rattle.desk_model.specs.texts.StatedTexts.{command_fields, stated_fields, kind_text, event_fields, job_word, job_fields};
 ghost use Rattle.line_writer.specs.Marked.{marked};
 
 use crate::line_text::{LineText, put, put_field, put_number_field};
@@ -13,7 +13,7 @@ use duty_events::{Event, Kind};
 use record_rows::LastMinute;
 
 /// Adds the fields of what is stated, joined by commas, 360 bytes at most.
-pub fn put_stated(line: &mut LineText, last: &mut LastMinute, stated: &Stated)
+pub(crate) fn put_stated(line: &mut LineText, last: &mut LastMinute, stated: &Stated)
     requires { array_vec_len line.old + 360 ≤ 512 }
     ensures text { line.new.items ≡ line.old.items ++ join_with_byte 44 (stated_fields stated.now) }
     ensures len { array_vec_len line.new ≤ array_vec_len line.old + 360 }
@@ -170,7 +170,7 @@ fn put_moment(line: &mut LineText, last: &mut LastMinute, word: &[u8], at: Minut
 }
 
 /// The letter of an interim's kind.
-pub fn kind_text(kind: &Kind) -> &'static [u8]
+pub(crate) fn kind_text(kind: &Kind) -> &'static [u8]
     ensures text { result.now ≡ kind_text kind.now }
     ensures len { length result.now ≡ 1 }
 {

@@ -1,8 +1,8 @@
 //! The tally of a desk.
 ghost use Rattle.std.specs.Prelude.{◌≡◌, ◌≤◌, ◌<◌, ◌+◌, ◌^◌, ◌++◌, ℕ, List, length, if◌then◌else◌};
 ghost use Rattle.arrayvec.specs.ArrayVec.{array_vec_len};
-ghost use Rattle.desk_model.specs.Entry.{EntryValue};
-ghost use Rattle.desk_model.specs.History.{History, opened, with_entry};
+ghost use Rattle.desk_model.specs.statements.Entry.{EntryValue};
+ghost use Rattle.desk_model.specs.histories.History.{History, opened, with_entry};
 ghost use Rattle.line_writer.specs.declared.reply_sort.ReplySort.TheVariants as sort;
 ghost use Rattle.line_writer.specs.Tally.{Counts, tally_text, count_line, count};
 

@@ -1,6 +1,6 @@
 -- What a clock of days in a row stands for.
 use Rattle.std.specs.Prelude.{◌≡◌, ℕ, ◌≤◌, List}
-use Rattle.stretches.specs.Gauge.{Tells}
+use Rattle.duty_events.specs.Gauge.{Tells}
 use Rattle.duty_events.specs.declared.event.Event.{Event}
 use Rattle.duty_events.specs.EndedTours.{last_tour, end_of}
 use Rattle.duty_events.specs.Lists.{last_event, reached}

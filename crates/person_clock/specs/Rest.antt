@@ -1,6 +1,6 @@
 -- What a clock of rest stands for.
 use Rattle.std.specs.Prelude.{◌≡◌, ℕ, ◌-◌, Bool, max, Option, None, Some, List}
-use Rattle.stretches.specs.Gauge.{Tells}
+use Rattle.duty_events.specs.Gauge.{Tells}
 use Rattle.duty_events.specs.declared.limits.TheConstants.{DUTY_LIMIT}
 use Rattle.duty_events.specs.declared.event.Event.{Event}
 use Rattle.duty_events.specs.declared.tour.Tour.{Tour}

@@ -1,6 +1,6 @@
 ghost use Rattle.std.specs.Prelude.{◌≡◌, ◌<◌, ◌≤◌, ◌+◌, ◌^◌, ℕ, Bool, true, false, List, Option, [], ◌∷◌, ◌++◌};
 ghost use Rattle.std.specs.Option.{option_or};
-ghost use Rattle.stretches.specs.Gauge.{Tells};
+ghost use Rattle.duty_events.specs.Gauge.{Tells};
 ghost use Rattle.duty_events.specs.declared.event.Event.{Event};
 ghost use Rattle.duty_events.specs.declared.tour.Tour.{Tour};
 ghost use Rattle.duty_events.specs.EndedTours.{ended, last_begun};
@@ -13,8 +13,7 @@ ghost use Rattle.person_clock.specs.Rest.{end_after};
 
 use consecutive_days::{Run, are_days_ok, days_when_an_event_comes, is_at_home, next_run};
 use desk_base::{Code, Day, Minute};
-use duty_events::{Event, MinuteKind, Stage, Tour, kind_during, place_behind, place_until};
-use stretches::Gauge;
+use duty_events::{Event, Gauge, MinuteKind, Stage, Tour, kind_during, place_behind, place_until};
 
 /// The days in a row on which someone's tours began, whether the last tour ended away from home, how long they have been off
 /// at home in one stretch since then, and where they are.
@@ -28,7 +27,7 @@ pub(crate) struct DaysClock {
 
 impl DaysClock {
     /// Before the first event of someone with this home.
-    pub fn new(home: Code) -> DaysClock
+    pub(crate) fn new(home: Code) -> DaysClock
         ensures { IsDaysOf home result [] }
     {
         DaysClock {
@@ -40,7 +39,13 @@ impl DaysClock {
     }
 
     /// After the next event, which comes at a stage. It may end a tour.
-    pub fn after(self, home: Code, stage: &Stage, event: &Event, tour: &Option<Tour>) -> DaysClock
+    pub(crate) fn after(
+        self,
+        home: Code,
+        stage: &Stage,
+        event: &Event,
+        tour: &Option<Tour>,
+    ) -> DaysClock
         ensures { (es : List Event) → IsLawful es → IsNext es event.now → stage.now ≡ stage_of es
             → tour.now ≡ ended (stage_of es) (last_begun es) event.now
             → IsDaysOf home self es → IsDaysOf home result (es ++ event.now ∷ []) }
@@ -61,21 +66,21 @@ impl DaysClock {
     }
 
     /// How many days in a row they are.
-    pub fn days(&self) -> u32
+    pub(crate) fn days(&self) -> u32
         ensures { result ≡ self.now.run.days }
     {
         self.run.days
     }
 
     /// Where the person is.
-    pub fn place(&self) -> Code
+    pub(crate) fn place(&self) -> Code
         ensures { result ≡ self.now.place }
     {
         self.place
     }
 
     /// Whether they may report at a minute that isn't before the latest. No tour runs.
-    pub fn is_ok(&self, home: Code, report: Minute) -> bool
+    pub(crate) fn is_ok(&self, home: Code, report: Minute) -> bool
         ensures { (es : List Event) → IsLawful es → stage_of es ≡ stage.Off
             → reached (last_event es) ≤ report → IsDaysOf home self.now es
             → result ≡ days_ok es home report }

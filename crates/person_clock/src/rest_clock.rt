@@ -10,9 +10,8 @@ ghost use Rattle.person_clock.specs.Rest.{GaugesOff, IsRestOf, end_after, excess
 
 use crate::minutes::minute_or;
 use desk_base::Minute;
-use duty_events::{DUTY_LIMIT, Event, Stage, Tour, kind_during};
+use duty_events::{DUTY_LIMIT, Event, Gauge, Stage, Tour, kind_during};
 use rest_rules::{REST, excess_when_an_event_comes};
-use stretches::Gauge;
 
 /// Since when someone is off, what their last tour had over twelve hours, and how long they have been off in one stretch since
 /// it ended.
@@ -25,7 +24,7 @@ pub(crate) struct RestClock {
 
 impl RestClock {
     /// Before the first event.
-    pub fn new() -> RestClock
+    pub(crate) fn new() -> RestClock
         ensures { IsRestOf result [] }
     {
         RestClock {
@@ -37,7 +36,7 @@ impl RestClock {
 
     /// After the next event, which comes at a stage and behind a latest minute, and after which the last tour sums up so much. It
     /// may end that tour.
-    pub fn after(
+    pub(crate) fn after(
         self,
         stage: &Stage,
         last: &Option<Minute>,
@@ -99,21 +98,21 @@ impl RestClock {
     }
 
     /// Ten hours after the person's last worked minute.
-    pub fn ten_hours(&self) -> Minute
+    pub(crate) fn ten_hours(&self) -> Minute
         ensures { (es : List Event) → IsRestOf self.now es → IsLawful es → result ≡ off_from es + REST }
     {
         later(self.off_from, REST)
     }
 
     /// What their last tour had over twelve hours.
-    pub fn excess(&self) -> u32
+    pub(crate) fn excess(&self) -> u32
         ensures { result ≡ self.now.excess }
     {
         self.excess
     }
 
     /// Whether they have rested at a minute that isn't before the latest, ten hours and so many minutes more.
-    pub fn is_ok(&self, at: Minute, more: u32) -> bool
+    pub(crate) fn is_ok(&self, at: Minute, more: u32) -> bool
         ensures { (es : List Event) → IsLawful es → stage_of es ≡ stage.Off
             → reached (last_event es) ≤ at → IsRestOf self.now es → result ≡ rest_ok es at more }
     {
@@ -122,7 +121,7 @@ impl RestClock {
     }
 
     /// The minute at which their rest ends.
-    pub fn end(&self) -> Minute
+    pub(crate) fn end(&self) -> Minute
         ensures { (es : List Event) → IsLawful es → IsRestOf self.now es → result ≡ rest_end es }
     {
         end_of_rest(self.off_from, self.excess, self.off.longest())

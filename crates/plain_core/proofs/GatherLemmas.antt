@@ -3,11 +3,11 @@ use Rattle.std.proofs.Common.{◌≡◌, ℕ, ◌+◌, ◌<◌, Bool, cond, Opti
 use Rattle.duty_events.specs.declared.event.Event.{Event}
 use Rattle.duty_events.specs.declared.stage.Stage.{Stage}
 use Rattle.duty_events.specs.Lists.{stage_of, latest, may_follow}
-use Rattle.desk_model.specs.Opening.{OpeningValue}
-use Rattle.desk_model.specs.Entry.{EntryValue}
-use Rattle.desk_model.specs.History.{history_of, opened, steps, said}
-use Rattle.desk_model.specs.Duty.{tells, told, events}
-use Rattle.desk_model.specs.Comes.{kept}
+use Rattle.desk_model.specs.statements.Opening.{OpeningValue}
+use Rattle.desk_model.specs.statements.Entry.{EntryValue}
+use Rattle.desk_model.specs.histories.History.{history_of, opened, steps, said}
+use Rattle.desk_model.specs.histories.Duty.{tells, told, events}
+use Rattle.desk_model.specs.laws.Comes.{kept}
 use Rattle.desk_model.proofs.EventLemmas.{events-snoc}
 use Rattle.plain_core.proofs.PrefixLemmas.{one_more}
 

@@ -8,15 +8,15 @@ use Rattle.desk_base.specs.declared.minute.TheConstants.{YEARS_BEGIN}
 use Rattle.desk_base.specs.Minute.{IsInYears}
 use Rattle.desk_model.specs.declared.offer.Offer.{Offer}
 use Rattle.desk_model.specs.declared.limits.TheConstants.{MEMBER_LIMIT}
-use Rattle.desk_model.specs.Opening.{OpeningValue, IsOpening}
-use Rattle.desk_model.specs.Statement.{StatedValue}
-use Rattle.desk_model.specs.Entry.{EntryValue}
-use Rattle.desk_model.specs.History.{History, history_of, opened, with_entry}
-use Rattle.desk_model.specs.Boards.{order}
-use Rattle.desk_model.specs.Fits.{Fits}
-use Rattle.desk_model.specs.Offers.{open_offer}
-use Rattle.desk_model.specs.Held.{hold_end}
-use Rattle.desk_model.specs.Legal.{next, MayState, IsNext, IsLegal}
+use Rattle.desk_model.specs.statements.Opening.{OpeningValue, IsOpening}
+use Rattle.desk_model.specs.statements.Statement.{StatedValue}
+use Rattle.desk_model.specs.statements.Entry.{EntryValue}
+use Rattle.desk_model.specs.histories.History.{History, history_of, opened, with_entry}
+use Rattle.desk_model.specs.boards.Boards.{order}
+use Rattle.desk_model.specs.statements.Fits.{Fits}
+use Rattle.desk_model.specs.offers.Offers.{open_offer}
+use Rattle.desk_model.specs.offers.Held.{hold_end}
+use Rattle.desk_model.specs.histories.Legal.{next, MayState, IsNext, IsLegal}
 use Rattle.desk_model.proofs.LegalLemmas.{legal-opened, legal-with, IsNext-next}
 use Rattle.desk_model.proofs.BoundLemmas.{length-order}
 use Rattle.desk_model.proofs.FitRegisterLemmas.{open_offer-fits}

@@ -3,11 +3,11 @@ use Rattle.std.proofs.Common.{◌≡◌, ℕ, ◌+◌, ◌<◌, Option, Some, Bo
 use Rattle.std.specs.List.{find}
 use Rattle.std.proofs.lemmas.List.{at_drop_more}
 use Rattle.desk_model.specs.declared.link.Link.{Link}
-use Rattle.desk_model.specs.Opening.{OpeningValue}
-use Rattle.desk_model.specs.Entry.{EntryValue}
-use Rattle.desk_model.specs.History.{History, opened, with_entry, steps, said}
-use Rattle.desk_model.specs.Boards.{sends, order, links}
-use Rattle.desk_model.specs.Comes.{order_by}
+use Rattle.desk_model.specs.statements.Opening.{OpeningValue}
+use Rattle.desk_model.specs.statements.Entry.{EntryValue}
+use Rattle.desk_model.specs.histories.History.{History, opened, with_entry, steps, said}
+use Rattle.desk_model.specs.boards.Boards.{sends, order, links}
+use Rattle.desk_model.specs.laws.Comes.{order_by}
 use Rattle.desk_model.proofs.MovedLemmas.{order-comes}
 
 -- the order after an entry, by whom it sends to the bottom

@@ -1,6 +1,6 @@
 ghost use Rattle.std.specs.Prelude.{◌≡◌, None, fold};
-ghost use Rattle.desk_model.specs.Assigned.{reports};
-ghost use Rattle.desk_model.specs.Comes.{assigned_by, assigned_after};
+ghost use Rattle.desk_model.specs.offers.Assigned.{reports};
+ghost use Rattle.desk_model.specs.laws.Comes.{assigned_by, assigned_after};
 
 use crate::offers::is_of;
 use desk_base::{PersonNo, VacNo};

@@ -1,8 +1,8 @@
 ghost use Rattle.std.specs.Prelude.{◌≡◌, false, length, filter, unwrap_or};
 ghost use Rattle.std.specs.List.{filter_map};
-ghost use Rattle.desk_model.specs.History.{said, last_of};
-ghost use Rattle.desk_model.specs.Register.{sets_up_any};
-ghost use Rattle.desk_model.specs.Boards.{puts};
+ghost use Rattle.desk_model.specs.histories.History.{said, last_of};
+ghost use Rattle.desk_model.specs.histories.Register.{sets_up_any};
+ghost use Rattle.desk_model.specs.boards.Boards.{puts};
 
 use crate::register::sets_up_any;
 use desk_base::{Code, PersonNo};

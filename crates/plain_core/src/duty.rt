@@ -1,8 +1,8 @@
 ghost use Rattle.std.specs.Prelude.{◌≡◌, ◌≤◌, Some, None, is_some, nat_eq, length, vec_capacity, if◌then◌else◌};
 ghost use Rattle.duty_events.specs.Lists.{latest};
-ghost use Rattle.desk_model.specs.Opening.{OpeningValue};
-ghost use Rattle.desk_model.specs.History.{history_of, said, first_of};
-ghost use Rattle.desk_model.specs.Duty.{tells, events, closes};
+ghost use Rattle.desk_model.specs.statements.Opening.{OpeningValue};
+ghost use Rattle.desk_model.specs.histories.History.{history_of, said, first_of};
+ghost use Rattle.desk_model.specs.histories.Duty.{tells, events, closes};
 
 use desk_base::{Minute, PersonNo};
 use desk_model::{Cmd, Entry};

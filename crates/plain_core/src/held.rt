@@ -1,7 +1,7 @@
 ghost use Rattle.std.specs.Prelude.{◌≡◌, ◌<◌, ◌^◌};
-ghost use Rattle.desk_model.specs.Opening.{OpeningValue};
-ghost use Rattle.desk_model.specs.History.{history_of, said};
-ghost use Rattle.desk_model.specs.Held.{is_from, hold_told, hold_end, held};
+ghost use Rattle.desk_model.specs.statements.Opening.{OpeningValue};
+ghost use Rattle.desk_model.specs.histories.History.{history_of, said};
+ghost use Rattle.desk_model.specs.offers.Held.{is_from, hold_told, hold_end, held};
 
 use crate::offers::open_offer;
 use desk_base::{Code, Minute, PersonNo};

@@ -1,7 +1,10 @@
+mod bars;
+mod chains;
+
 ghost use Rattle.std.specs.Prelude.{◌≡◌, ◌≤◌, [], length, vec_len, vec_capacity};
 ghost use Rattle.duty_events.specs.Lists.{IsLawful};
-ghost use Rattle.desk_model.specs.History.{history_of};
-ghost use Rattle.desk_model.specs.Legal.{IsLegal};
+ghost use Rattle.desk_model.specs.histories.History.{history_of};
+ghost use Rattle.desk_model.specs.histories.Legal.{IsLegal};
 
 use crate::assigned::assigned;
 use crate::boards::{count_boards_of, is_on};
@@ -34,13 +37,13 @@ pub(crate) struct Kept {
 
 impl Kept {
     ghost use Rattle.desk_model.specs.declared.limits.TheConstants.{MEMBER_LIMIT};
-    ghost use Rattle.desk_model.specs.History.{History, opened};
-    ghost use Rattle.desk_model.specs.Boards.{order};
-    ghost use Rattle.desk_model.specs.Duty.{events};
+    ghost use Rattle.desk_model.specs.histories.History.{History, opened};
+    ghost use Rattle.desk_model.specs.boards.Boards.{order};
+    ghost use Rattle.desk_model.specs.histories.Duty.{events};
     ghost use Rattle.plain_core.specs.Kept.{IsKept};
 
     /// The history of a desk that was opened so and has answered nothing yet, in a list that has room for its entries.
-    pub fn new(opening: Opening, entries: Vec<Entry>) -> Kept
+    pub(crate) fn new(opening: Opening, entries: Vec<Entry>) -> Kept
         requires { entries.items ≡ [] }
         ensures opening { result.opening ≡ opening }
         ensures entries { result.entries ≡ entries }
@@ -51,7 +54,7 @@ impl Kept {
     }
 
     /// Puts the persons on the board into a list that has room for them, in their order, and nothing else.
-    pub fn fill_members(&self, board: &Code, members: &mut Vec<PersonNo>)
+    pub(crate) fn fill_members(&self, board: &Code, members: &mut Vec<PersonNo>)
         requires { vec_capacity self.now.entries ≤ vec_capacity members.old }
         ensures order { (h : History) → IsKept self.now.opening self.now.entries.items h
             → members.new.items ≡ order h board.now }
@@ -62,7 +65,7 @@ impl Kept {
     }
 
     /// Puts the person's events into a list that has room for them, and nothing else.
-    pub fn fill_events(&self, person: PersonNo, list: &mut Vec<Event>)
+    pub(crate) fn fill_events(&self, person: PersonNo, list: &mut Vec<Event>)
         requires { vec_capacity self.now.entries ≤ vec_capacity list.old }
         ensures events { (h : History) → IsKept self.now.opening self.now.entries.items h
             → list.new.items ≡ events h person }

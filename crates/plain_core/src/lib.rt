@@ -2,9 +2,7 @@
 #![tactic(auto)]
 
 mod assigned;
-mod bars;
 mod boards;
-mod chains;
 mod duty;
 mod held;
 mod kept;

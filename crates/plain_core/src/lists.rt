@@ -16,7 +16,7 @@ impl Lists {
     ghost use Rattle.plain_core.specs.Room.{HasRoom};
 
     /// Lists with room for this many each.
-    pub fn new(alloc: Global, room: usize) -> Result<Lists, NoMemory>
+    pub(crate) fn new(alloc: Global, room: usize) -> Result<Lists, NoMemory>
         ensures { IfOk result (HasRoom room) }
     {
         Ok(Lists {

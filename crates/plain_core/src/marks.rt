@@ -1,6 +1,6 @@
 ghost use Rattle.std.specs.Prelude.{◌≡◌, false, unwrap_or};
-ghost use Rattle.desk_model.specs.History.{said, last_of};
-ghost use Rattle.desk_model.specs.Marks.{marks};
+ghost use Rattle.desk_model.specs.histories.History.{said, last_of};
+ghost use Rattle.desk_model.specs.boards.Marks.{marks};
 
 use desk_base::PersonNo;
 use desk_model::{Cmd, Entry};

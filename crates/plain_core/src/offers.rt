@@ -1,7 +1,7 @@
 ghost use Rattle.std.specs.Prelude.{◌≡◌, None, unwrap_or};
-ghost use Rattle.desk_model.specs.Opening.{OpeningValue};
-ghost use Rattle.desk_model.specs.History.{history_of, said, last_of};
-ghost use Rattle.desk_model.specs.Offers.{asks_for, offer_in, is_of, settles, opens, ends, offer_said, offered_to, is_to};
+ghost use Rattle.desk_model.specs.statements.Opening.{OpeningValue};
+ghost use Rattle.desk_model.specs.histories.History.{history_of, said, last_of};
+ghost use Rattle.desk_model.specs.offers.Offers.{asks_for, offer_in, is_of, settles, opens, ends, offer_said, offered_to, is_to};
 ghost use Rattle.desk_model.proofs.OnOfferLemmas.{while_open};
 
 use desk_base::{PersonNo, VacNo};

@@ -1,10 +1,10 @@
 ghost use Rattle.std.specs.Prelude.{◌≡◌, ◌≤◌, ◌<◌, ◌+◌, Some, None, length, vec_len, vec_capacity, if◌then◌else◌};
 ghost use Rattle.std.specs.Str.{bytes_eq};
-ghost use Rattle.desk_model.specs.Opening.{OpeningValue};
-ghost use Rattle.desk_model.specs.History.{history_of, with_entry, said};
-ghost use Rattle.desk_model.specs.Register.{board_of};
-ghost use Rattle.desk_model.specs.Boards.{is_at, released, declined, sends, order};
-ghost use Rattle.desk_model.specs.Comes.{takes_off, without, sent_last};
+ghost use Rattle.desk_model.specs.statements.Opening.{OpeningValue};
+ghost use Rattle.desk_model.specs.histories.History.{history_of, with_entry, said};
+ghost use Rattle.desk_model.specs.histories.Register.{board_of};
+ghost use Rattle.desk_model.specs.boards.Boards.{is_at, released, declined, sends, order};
+ghost use Rattle.desk_model.specs.laws.Comes.{takes_off, without, sent_last};
 
 use crate::boards::puts;
 use crate::offers::open_offer;

@@ -1,5 +1,5 @@
 ghost use Rattle.std.specs.Prelude.{◌≡◌, ◌≤◌, ◌+◌, vec_len, vec_capacity, IfOk};
-ghost use Rattle.desk_model.specs.History.{History, opened};
+ghost use Rattle.desk_model.specs.histories.History.{History, opened};
 ghost use Rattle.plain_core.specs.Room.{HasRoom};
 
 use crate::kept::Kept;

@@ -1,7 +1,7 @@
 ghost use Rattle.std.specs.Prelude.{◌≡◌, unwrap_or, length};
 ghost use Rattle.std.specs.List.{filter_map};
-ghost use Rattle.desk_model.specs.History.{said, first_of, last_of};
-ghost use Rattle.desk_model.specs.Register.{enrols, enrols_any, gives, sets_up, sets_up_any, makes, makes_any};
+ghost use Rattle.desk_model.specs.histories.History.{said, first_of, last_of};
+ghost use Rattle.desk_model.specs.histories.Register.{enrols, enrols_any, gives, sets_up, sets_up_any, makes, makes_any};
 
 use desk_base::{Code, PersonNo, VacNo};
 use desk_model::{BoardSetup, Cmd, Entry, Job, Person};
@@ -108,7 +108,7 @@ fn makes(entry: &Entry, vac: VacNo) -> Option<Job>
 }
 
 // The vacancy that the entry makes.
-pub(crate) fn makes_any(entry: &Entry) -> Option<VacNo>
+fn makes_any(entry: &Entry) -> Option<VacNo>
     ensures { result ≡ said makes_any entry.now }
 {
     let cmd = entry.accepted()?;

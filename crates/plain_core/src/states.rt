@@ -1,6 +1,6 @@
 ghost use Rattle.std.specs.Prelude.{◌≡◌, fold};
 ghost use Rattle.desk_model.specs.declared.vac_state.VacState.TheVariants.{Vacant};
-ghost use Rattle.desk_model.specs.Comes.{given_up, started, state_by, state_after};
+ghost use Rattle.desk_model.specs.laws.Comes.{given_up, started, state_by, state_after};
 
 use crate::assigned::reports;
 use crate::offers::{asks_for, is_of, offer_in};

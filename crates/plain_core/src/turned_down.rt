@@ -1,8 +1,8 @@
 ghost use Rattle.std.specs.Prelude.{◌≡◌, is_some};
-ghost use Rattle.desk_model.specs.Opening.{OpeningValue};
-ghost use Rattle.desk_model.specs.History.{History, history_of, said};
-ghost use Rattle.desk_model.specs.Assigned.{assigned};
-ghost use Rattle.desk_model.specs.TurnedDown.{turns_down, has_turned_down};
+ghost use Rattle.desk_model.specs.statements.Opening.{OpeningValue};
+ghost use Rattle.desk_model.specs.histories.History.{History, history_of, said};
+ghost use Rattle.desk_model.specs.offers.Assigned.{assigned};
+ghost use Rattle.desk_model.specs.offers.TurnedDown.{turns_down, has_turned_down};
 
 use crate::assigned::assigned_after;
 use crate::offers::is_of;

@@ -4,8 +4,8 @@ use Rattle.std.specs.Bool.{Decides}
 use Rattle.std.proofs.lemmas.Bool.{false≢true, cases_lt, le-leb, and_parts}
 use Rattle.std.proofs.lemmas.Bool.Decides.{nat_tests}
 use Rattle.rest_rules.specs.declared.rest.TheConstants.{REST}
-use Rattle.stretches.specs.Stretch.{Stretch}
-use Rattle.stretches.proofs.StretchLemmas.{has_stretch-decides, stretch-same}
+use Rattle.duty_events.specs.Stretch.{Stretch}
+use Rattle.duty_events.proofs.StretchLemmas.{has_stretch-decides, stretch-same}
 use Rattle.duty_events.specs.declared.event.Event.{Event}
 use Rattle.duty_events.specs.declared.minute_kind.MinuteKind.{MinuteKind}
 use Rattle.duty_events.specs.declared.minute_kind.MinuteKind.TheVariants as minute
@@ -80,16 +80,6 @@ end-taken es some is = let not : nat_eq (off_from es) 0 ≡ false = grind (arith
 
 pub end-owed : (es : List Event) → 0 < off_from es → was_off es (REST + excess es) (off_from es) ≡ false → rest_end es ≡ off_from es + REST + excess es
 end-owed es some is = let not : nat_eq (off_from es) 0 ≡ false = grind (arith, nat_tests, some) in rw (not, is) refl
-
-pub rest_end-some : (es : List Event) (at more : ℕ) → rest_ok es at more ≡ false → 0 < rest_end es
-rest_end-some es at more not = go (was_off es (REST + excess es) (off_from es)) refl
-  where
-    some : 0 < off_from es
-    some = off_from-some es at more not
-
-    go : (b : Bool) → was_off es (REST + excess es) (off_from es) ≡ b → 0 < rest_end es
-    go true is = omega (arith, end-taken es some is)
-    go false is = omega (arith, end-owed es some is)
 
 -- the law of the end of rest
 pub rest_end-law : (es : List Event) → IsLawful es → stage_of es ≡ stage.Off → EndsRest es (rest_end es)

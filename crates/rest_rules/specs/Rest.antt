@@ -2,7 +2,7 @@
 use Rattle.std.specs.Prelude.{◌≡◌, ℕ, ◌+◌, ◌<◌, ◌≤◌, ◌⊎◌, Bool, false, ◌&&◌, ◌||◌, nat_eq, nat_le, if◌then◌else◌, List}
 use Rattle.rest_rules.specs.declared.rest.TheConstants.{REST}
 use Rattle.std.specs.Bool.{Decides}
-use Rattle.stretches.specs.Stretch.{Stretch, has_stretch}
+use Rattle.duty_events.specs.Stretch.{Stretch, has_stretch}
 use Rattle.duty_events.specs.declared.event.Event.{Event}
 use Rattle.duty_events.specs.Lists.{IsLawful}
 use Rattle.duty_events.specs.MinuteKind.{kind_of, is_off_duty}

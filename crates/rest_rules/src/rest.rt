@@ -1,6 +1,6 @@
 ghost use Rattle.std.specs.Prelude.{◌≡◌, ℕ, ◌+◌, false, ◌<◌, ◌≤◌, ◌^◌, ◌⊎◌, nat_le};
 ghost use Rattle.std.specs.Bool.{Decides};
-ghost use Rattle.stretches.specs.Stretch.{has_stretch};
+ghost use Rattle.duty_events.specs.Stretch.{has_stretch};
 ghost use Rattle.duty_events.specs.declared.stage.Stage.TheVariants as stage;
 ghost use Rattle.duty_events.specs.Lists.{IsLawful, stage_of};
 ghost use Rattle.duty_events.specs.EndedTours.{last_tour, end_of};
@@ -8,8 +8,7 @@ ghost use Rattle.rest_rules.specs.Rest.{is_off, was_off, rest_ok, rest_end, Rest
 
 use crate::{excess, off_from};
 use desk_base::Minute;
-use duty_events::{Event, kind_behind, kind_until, last_tour};
-use stretches::Gauge;
+use duty_events::{Event, Gauge, kind_behind, kind_until, last_tour};
 
 /// The minutes off that are a rest: ten hours, 49 USC 21103(a)(3).
 pub const REST: u64 = 600;

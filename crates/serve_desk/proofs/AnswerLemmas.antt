@@ -1,12 +1,12 @@
 -- What follows an answer, from what was said by it and what was put.
 use Rattle.std.proofs.Common.{◌≡◌, ◌≢◌, ℕ, ◌<◌, true, List, [], ◌∷◌, None, Some, map, refl, sym, ap, ◌∙◌, subst}
 use Rattle.std.specs.declared.option.Option.{Option}
-use Rattle.desk_model.specs.Entry.{EntryValue}
-use Rattle.desk_model.specs.History.{History, history_of}
-use Rattle.desk_model.specs.Journal.{entry_line}
-use Rattle.desk_model.specs.Legal.{next}
-use Rattle.desk_model.specs.Opening.{OpeningValue}
-use Rattle.desk_model.specs.Statement.{StatedValue}
+use Rattle.desk_model.specs.statements.Entry.{EntryValue}
+use Rattle.desk_model.specs.histories.History.{History, history_of}
+use Rattle.desk_model.specs.texts.Journal.{entry_line}
+use Rattle.desk_model.specs.histories.Legal.{next}
+use Rattle.desk_model.specs.statements.Opening.{OpeningValue}
+use Rattle.desk_model.specs.statements.Statement.{StatedValue}
 use Rattle.turn_gate.specs.Seats.{SeatValue}
 use Rattle.caller_lines.specs.Given.{Given, GaveLine, GaveTooLong, GaveEnd, GaveFailed}
 use Rattle.caller_lines.specs.Hears.{ReadsAs, Hears}
@@ -168,15 +168,3 @@ Replies-called o heard left before now s seat later receipt ends few some call p
       told = put.told;
       made = Made-one o seat later s receipt call;
     }
-
--- the line was asked, and then replied to
-pub Answers-reply : (o : OpeningValue) (heard left : ℕ) (line later : LineValue) (asked : Option (List LineCall)) (s : Said) (seat after : SeatValue) (ends : Option Why)
-    → Hears line.calls asked s → Replies o heard left asked later.calls s seat after ends → Answers o heard left line later seat after ends
-Answers-reply o heard left line later asked s seat after ends hears reply = record {
-  gave = hears.gave;
-  entries = reply.entries;
-  texts = reply.texts;
-  follows = reply.follows hears.gave hears.reads;
-  told = reply.told ∙ ap (λ xs. with_all xs (map PutText reply.texts)) hears.once ∙ with_last-then line.calls (Asked hears.gave) (map PutText reply.texts);
-  made = reply.made;
-}

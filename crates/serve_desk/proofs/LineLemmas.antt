@@ -4,7 +4,7 @@ use Rattle.std.specs.declared.option.Option.{Option}
 use Rattle.std.specs.List.{All}
 use Rattle.std.proofs.lemmas.List.{append_cancel_left, get_or-map, length-map}
 use Rattle.std.proofs.lemmas.List.Elements.{filter-append}
-use Rattle.desk_model.specs.Entry.{EntryValue}
+use Rattle.desk_model.specs.statements.Entry.{EntryValue}
 use Rattle.turn_gate.specs.Seats.{GateValue, SeatValue, IsSeatOf, new_seat, new_seats}
 use Rattle.turn_gate.specs.Told.{own, IsNumber, IsBookOf}
 use Rattle.turn_gate.specs.Turns.{Knows}

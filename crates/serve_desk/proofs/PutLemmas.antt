@@ -5,8 +5,8 @@ use Rattle.std.proofs.lemmas.List.{map-append, take_more}
 use Rattle.std.proofs.lemmas.List.Elements.{filter_map-append}
 use Rattle.caller_lines.specs.LineCalls.{LineCall, PutText}
 use Rattle.crew_call.specs.CrewCalls.{somes}
-use Rattle.desk_model.specs.Entry.{EntryValue}
-use Rattle.desk_model.specs.Journal.{entry_line}
+use Rattle.desk_model.specs.statements.Entry.{EntryValue}
+use Rattle.desk_model.specs.texts.Journal.{entry_line}
 use Rattle.serve_desk.specs.declared.why.Why.{Why}
 use Rattle.serve_desk.specs.declared.why.Why.TheVariants as why
 use Rattle.serve_desk.specs.Answers.{PutsOn}

@@ -1,11 +1,11 @@
 -- The calls of a seat, one after another.
 use Rattle.std.proofs.Common.{◌≡◌, ℕ, ◌<◌, List, [], ◌∷◌, ◌++◌, length, refl, sym, ap, ◌∙◌, subst, append-nil, append_assoc, length-append, arith}
 use mathlib.Core.List.{IsPrefix}
-use Rattle.desk_model.specs.Entry.{EntryValue}
-use Rattle.desk_model.specs.History.{history_of}
-use Rattle.desk_model.specs.Legal.{IsLegal}
-use Rattle.desk_model.specs.Opening.{OpeningValue}
-use Rattle.desk_model.specs.Statement.{StatedValue}
+use Rattle.desk_model.specs.statements.Entry.{EntryValue}
+use Rattle.desk_model.specs.histories.History.{history_of}
+use Rattle.desk_model.specs.histories.Legal.{IsLegal}
+use Rattle.desk_model.specs.statements.Opening.{OpeningValue}
+use Rattle.desk_model.specs.statements.Statement.{StatedValue}
 use Rattle.turn_gate.specs.Seats.{SeatValue}
 use Rattle.turn_gate.specs.Told.{own}
 use Rattle.crew_call.specs.declared.crew_outcome.CrewOutcome.{CrewOutcome}

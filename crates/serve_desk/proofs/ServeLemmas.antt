@@ -3,14 +3,14 @@ use Rattle.std.proofs.Common.{◌≡◌, ℕ, Option, ◌+◌, ◌<◌, ◌==◌
 use Rattle.std.specs.List.{All}
 use Rattle.std.proofs.lemmas.Grind.{common_steps}
 use Rattle.std.proofs.lemmas.List.Elements.{filter-append}
-use Rattle.desk_model.specs.Entry.{EntryValue}
-use Rattle.desk_model.specs.History.{History, opened}
-use Rattle.desk_model.specs.Journal.{journal}
-use Rattle.desk_model.specs.Legal.{given}
-use Rattle.desk_model.specs.Opening.{OpeningValue, IsOpening}
-use Rattle.desk_model.specs.Statement.{StatedValue}
+use Rattle.desk_model.specs.statements.Entry.{EntryValue}
+use Rattle.desk_model.specs.histories.History.{History, opened}
+use Rattle.desk_model.specs.texts.Journal.{journal}
+use Rattle.desk_model.specs.histories.Legal.{given}
+use Rattle.desk_model.specs.statements.Opening.{OpeningValue, IsOpening}
+use Rattle.desk_model.specs.statements.Statement.{StatedValue}
 use Rattle.command_parser.specs.DayFile.{IsDayFile}
-use Rattle.day_replay.specs.declared.limits.TheConstants.{BYTE_LIMIT}
+use Rattle.day_replay.specs.declared.day_input.TheConstants.{BYTE_LIMIT}
 use Rattle.day_replay.specs.Ends.{WasRead}
 use Rattle.day_replay.specs.Replay.{IsReplay, by_the_day_file, day_history}
 use Rattle.day_replay.proofs.HistoryLemmas.{goes_on-length}

@@ -4,10 +4,10 @@ use mathlib.Core.List.{IsPrefix}
 use Rattle.std.proofs.lemmas.List.{length-take-le}
 use Rattle.board_window.specs.Shows.{spot_of}
 use Rattle.board_window.specs.declared.spot.Spot.{Spot}
-use Rattle.desk_model.specs.Entry.{EntryValue}
-use Rattle.desk_model.specs.History.{history_of}
-use Rattle.desk_model.specs.Legal.{IsLegal}
-use Rattle.desk_model.specs.Opening.{OpeningValue}
+use Rattle.desk_model.specs.statements.Entry.{EntryValue}
+use Rattle.desk_model.specs.histories.History.{history_of}
+use Rattle.desk_model.specs.histories.Legal.{IsLegal}
+use Rattle.desk_model.specs.statements.Opening.{OpeningValue}
 use Rattle.turn_gate.specs.Told.{own}
 use Rattle.serve_desk.specs.Sees.{EndsAt, AreSeen, no_act_yet, a_look, a_call_that_is_shown, a_call_that_is_not_shown, Sees}
 use Rattle.serve_desk.specs.WatchAnswers.{KnowsByCalls, Sight, by_calls, by_calls_behind, by_a_look}

@@ -17,12 +17,12 @@ use Rattle.caller_lines.specs.declared.request.Request.{Request}
 use Rattle.caller_lines.specs.declared.request.Request.TheVariants as request
 use Rattle.crew_call.specs.declared.crew_outcome.CrewOutcome.{CrewOutcome}
 use Rattle.crew_call.specs.CrewCalls.{CrewCall}
-use Rattle.desk_model.specs.Entry.{EntryValue}
-use Rattle.desk_model.specs.History.{History, history_of}
-use Rattle.desk_model.specs.Journal.{entry_line}
-use Rattle.desk_model.specs.Legal.{next}
-use Rattle.desk_model.specs.Opening.{OpeningValue}
-use Rattle.desk_model.specs.Statement.{StatedValue}
+use Rattle.desk_model.specs.statements.Entry.{EntryValue}
+use Rattle.desk_model.specs.histories.History.{History, history_of}
+use Rattle.desk_model.specs.texts.Journal.{entry_line}
+use Rattle.desk_model.specs.histories.Legal.{next}
+use Rattle.desk_model.specs.statements.Opening.{OpeningValue}
+use Rattle.desk_model.specs.statements.Statement.{StatedValue}
 use Rattle.desk_shared.specs.Calls.{Calls}
 use Rattle.desk_shared.specs.Crews.{receipt_of, MakesCalls, CallsCrew}
 use Rattle.desk_shared.specs.Shown.{ShowsTo}

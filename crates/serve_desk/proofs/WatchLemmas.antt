@@ -4,10 +4,10 @@ use Rattle.std.specs.declared.option.Option.{Option}
 use Rattle.caller_lines.specs.Given.{Given}
 use Rattle.caller_lines.specs.LineCalls.{LineCall}
 use Rattle.board_window.specs.Walls.{FrontValue}
-use Rattle.desk_model.specs.Entry.{EntryValue}
-use Rattle.desk_model.specs.History.{history_of}
-use Rattle.desk_model.specs.Legal.{IsLegal}
-use Rattle.desk_model.specs.Opening.{OpeningValue}
+use Rattle.desk_model.specs.statements.Entry.{EntryValue}
+use Rattle.desk_model.specs.histories.History.{history_of}
+use Rattle.desk_model.specs.histories.Legal.{IsLegal}
+use Rattle.desk_model.specs.statements.Opening.{OpeningValue}
 use Rattle.turn_gate.specs.Seats.{SeatValue}
 use Rattle.turn_gate.specs.Told.{own}
 use Rattle.serve_desk.specs.declared.limits.TheConstants.{LINE_LIMIT}

@@ -5,8 +5,8 @@ use Rattle.std.specs.List.{All}
 use Rattle.std.proofs.lemmas.List.{get_or-map, length-map}
 use mathlib.Core.List.{IsPrefix}
 use Rattle.board_window.specs.Walls.{FrontValue}
-use Rattle.desk_model.specs.Entry.{EntryValue}
-use Rattle.desk_model.specs.Opening.{OpeningValue}
+use Rattle.desk_model.specs.statements.Entry.{EntryValue}
+use Rattle.desk_model.specs.statements.Opening.{OpeningValue}
 use Rattle.desk_shared.specs.Shown.{IsViewOf}
 use Rattle.turn_gate.specs.Seats.{GateValue, SeatValue, IsSeatOf, new_seat, new_seats}
 use Rattle.turn_gate.specs.Told.{own, IsBookOf}

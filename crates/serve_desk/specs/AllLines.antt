@@ -2,7 +2,7 @@
 use Rattle.std.specs.Prelude.{◌≡◌, ◌≢◌, ℕ, ◌+◌, ◌<◌, ◌≤◌, List, ◌++◌, length, slice_index_or}
 use Rattle.std.specs.List.{All}
 use Rattle.desk_io.specs.Faults.{Rose}
-use Rattle.desk_model.specs.Entry.{EntryValue}
+use Rattle.desk_model.specs.statements.Entry.{EntryValue}
 use Rattle.turn_gate.specs.Told.{own, IsNumber}
 use Rattle.caller_lines.specs.LineCalls.{LineCall}
 use Rattle.serve_desk.specs.declared.why.Why.{Why}

@@ -2,8 +2,8 @@
 use Rattle.std.specs.Prelude.{ℕ, zero, suc, List, [], ◌∷◌, ◌++◌, map, codes, decimal}
 use Rattle.crew_call.specs.declared.crew_outcome.CrewOutcome.{CrewOutcome}
 use Rattle.crew_call.specs.declared.crew_outcome.CrewOutcome.TheVariants as outcome
-use Rattle.desk_model.specs.Entry.{EntryValue}
-use Rattle.desk_model.specs.Journal.{entry_line}
+use Rattle.desk_model.specs.statements.Entry.{EntryValue}
+use Rattle.desk_model.specs.texts.Journal.{entry_line}
 use Rattle.serve_desk.specs.Texts.{with_feed}
 
 -- both vacancies are offered, to these persons; this vacancy isn't; or the offer of this one was closed by another

@@ -1,9 +1,9 @@
 -- What follows each answer of a line.
 use Rattle.std.specs.Prelude.{◌≡◌, ℕ, ◌<◌, Bool, true, false, List, [], ◌∷◌, None, Some}
 use Rattle.std.specs.declared.option.Option.{Option}
-use Rattle.desk_model.specs.Entry.{EntryValue}
-use Rattle.desk_model.specs.Journal.{entry_line}
-use Rattle.desk_model.specs.Statement.{StatedValue}
+use Rattle.desk_model.specs.statements.Entry.{EntryValue}
+use Rattle.desk_model.specs.texts.Journal.{entry_line}
+use Rattle.desk_model.specs.statements.Statement.{StatedValue}
 use Rattle.command_parser.specs.CommandLine.{IsCommandLine, IsMalformed}
 use Rattle.caller_lines.specs.Given.{Given, GaveLine, GaveTooLong, GaveEnd, GaveFailed}
 use Rattle.serve_desk.specs.declared.limits.TheConstants.{LINE_LIMIT}

@@ -1,17 +1,17 @@
 -- What serving lines behind a day file makes of the source, the lines and the sink.
 use Rattle.std.specs.Prelude.{◌≡◌, ◌⊎◌, ℕ, ◌+◌, ◌<◌, Option, List, length, map, take, drop, slice_index_or}
 use Rattle.std.specs.List.{All}
-use Rattle.desk_model.specs.Entry.{EntryValue}
-use Rattle.desk_model.specs.History.{History}
-use Rattle.desk_model.specs.Journal.{journal}
-use Rattle.desk_model.specs.Legal.{IsLegal, given}
-use Rattle.desk_model.specs.Opening.{OpeningValue, IsOpening}
-use Rattle.desk_model.specs.Statement.{StatedValue}
+use Rattle.desk_model.specs.statements.Entry.{EntryValue}
+use Rattle.desk_model.specs.histories.History.{History}
+use Rattle.desk_model.specs.texts.Journal.{journal}
+use Rattle.desk_model.specs.histories.Legal.{IsLegal, given}
+use Rattle.desk_model.specs.statements.Opening.{OpeningValue, IsOpening}
+use Rattle.desk_model.specs.statements.Statement.{StatedValue}
 use Rattle.desk_model.specs.declared.limits.TheConstants.{LAST_CALLER}
 use Rattle.command_parser.specs.DayFile.{IsDayFile}
 use Rattle.day_replay.specs.Ends.{WasRead}
 use Rattle.day_replay.specs.Replay.{by_the_day_file}
-use Rattle.day_replay.specs.declared.limits.TheConstants.{BYTE_LIMIT}
+use Rattle.day_replay.specs.declared.day_input.TheConstants.{BYTE_LIMIT}
 use Rattle.turn_gate.specs.Told.{own, IsNumber}
 use Rattle.serve_desk.specs.declared.limits.TheConstants.{CALLS_PER_LINE}
 use Rattle.serve_desk.specs.Told.{LineValue}

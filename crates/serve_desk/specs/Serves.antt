@@ -1,7 +1,7 @@
 -- What a session makes of its line and of its seat.
 use Rattle.std.specs.Prelude.{◌≡◌, ℕ, List, length}
-use Rattle.desk_model.specs.Entry.{EntryValue}
-use Rattle.desk_model.specs.Opening.{OpeningValue}
+use Rattle.desk_model.specs.statements.Entry.{EntryValue}
+use Rattle.desk_model.specs.statements.Opening.{OpeningValue}
 use Rattle.turn_gate.specs.Seats.{SeatValue}
 use Rattle.caller_lines.specs.LineCalls.{LineCall}
 use Rattle.serve_desk.specs.declared.why.Why.{Why}

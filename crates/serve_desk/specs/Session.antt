@@ -1,6 +1,6 @@
 -- What a session of a line is.
 use Rattle.std.specs.Prelude.{ℕ, ◌-◌, List, [], ◌∷◌, ◌++◌, length, map, count_by, None, Some}
-use Rattle.desk_model.specs.Entry.{EntryValue}
+use Rattle.desk_model.specs.statements.Entry.{EntryValue}
 use Rattle.caller_lines.specs.Given.{Given}
 use Rattle.caller_lines.specs.LineCalls.{LineCall, Asked, PutText, given_in}
 use Rattle.serve_desk.specs.declared.why.Why.{Why}

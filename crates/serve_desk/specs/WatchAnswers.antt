@@ -9,9 +9,9 @@ use Rattle.caller_lines.specs.Given.{Given}
 use Rattle.caller_lines.specs.LineCalls.{LineCall, PutText}
 use Rattle.caller_lines.specs.Requests.{ReadsRequest}
 use Rattle.caller_lines.specs.declared.request.Request.{Request}
-use Rattle.desk_model.specs.Entry.{EntryValue}
-use Rattle.desk_model.specs.History.{history_of}
-use Rattle.desk_model.specs.Opening.{OpeningValue}
+use Rattle.desk_model.specs.statements.Entry.{EntryValue}
+use Rattle.desk_model.specs.histories.History.{history_of}
+use Rattle.desk_model.specs.statements.Opening.{OpeningValue}
 use Rattle.desk_shared.specs.Shown.{IsViewOf}
 use Rattle.turn_gate.specs.Seats.{GateValue, SeatValue, IsSeatOf}
 use Rattle.turn_gate.specs.Told.{own}

@@ -9,8 +9,8 @@ use Rattle.caller_lines.specs.Requests.{IsNoRequest}
 use Rattle.command_parser.specs.CommandLine.{IsCommandLine}
 use Rattle.crew_call.specs.declared.crew_outcome.CrewOutcome.{CrewOutcome}
 use Rattle.crew_call.specs.CrewCalls.{CrewCall}
-use Rattle.desk_model.specs.Entry.{EntryValue}
-use Rattle.desk_model.specs.Journal.{entry_line}
+use Rattle.desk_model.specs.statements.Entry.{EntryValue}
+use Rattle.desk_model.specs.texts.Journal.{entry_line}
 use Rattle.serve_desk.specs.declared.limits.TheConstants.{LINE_LIMIT}
 use Rattle.serve_desk.specs.declared.why.Why.{Why}
 use Rattle.serve_desk.specs.declared.why.Why.TheVariants as why

@@ -2,7 +2,7 @@
 use Rattle.std.specs.Prelude.{ℕ, ◌-◌, List, [], ◌++◌, length, None, Some}
 use Rattle.caller_lines.specs.Given.{Given}
 use Rattle.caller_lines.specs.LineCalls.{LineCall}
-use Rattle.desk_model.specs.Entry.{EntryValue}
+use Rattle.desk_model.specs.statements.Entry.{EntryValue}
 use Rattle.serve_desk.specs.declared.why.Why.{Why}
 use Rattle.serve_desk.specs.Session.{lines_in, asked_then_put}
 use Rattle.serve_desk.specs.WatchFollows.{Act, FollowsWatched}

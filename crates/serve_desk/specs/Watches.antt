@@ -2,8 +2,8 @@
 use Rattle.std.specs.Prelude.{◌≡◌, ℕ, List, length}
 use Rattle.board_window.specs.Walls.{FrontValue}
 use Rattle.caller_lines.specs.LineCalls.{LineCall}
-use Rattle.desk_model.specs.Entry.{EntryValue}
-use Rattle.desk_model.specs.Opening.{OpeningValue}
+use Rattle.desk_model.specs.statements.Entry.{EntryValue}
+use Rattle.desk_model.specs.statements.Opening.{OpeningValue}
 use Rattle.turn_gate.specs.Seats.{SeatValue}
 use Rattle.turn_gate.specs.Told.{own}
 use Rattle.serve_desk.specs.declared.why.Why.{Why}

@@ -2,15 +2,14 @@
 ghost use Rattle.std.specs.Prelude.{◌≡◌, ◌+◌, ◌*◌, ◌<◌, ◌≤◌, ℕ, length, map, vec_len, IfOk, IsErr, IsSomeAnd, slice_index_or};
 ghost use Rattle.std.specs.List.{All};
 ghost use Rattle.turn_gate.specs.Seats.{IsSeatOf};
-ghost use Rattle.desk_model.specs.Legal.{IsLegal};
+ghost use Rattle.desk_model.specs.histories.Legal.{IsLegal};
 ghost use Rattle.serve_desk.specs.Told.{line_of};
 ghost use Rattle.serve_desk.specs.AllLines.{AreServed};
 ghost use Rattle.serve_desk.specs.Attends.{Attends};
 
 use crate::CALLS_PER_LINE;
 use crate::one_line::session;
-use crate::post::Post;
-use crate::posts::{leave_posts, seat_lines};
+use crate::post::{Post, leave_posts, seat_lines};
 use call_history::Book;
 use caller_lines::CallerLine;
 use desk_base::NoMemory;

@@ -7,9 +7,8 @@ ghost use Rattle.serve_desk.specs.Answers.{Answers, Replies};
 
 use crate::answered::Answered;
 use crate::entry_lines::EntryLines;
-use crate::malformed::write_malformed;
 use crate::put::put_on;
-use crate::texts::{NO_MEMORY, SPENT, TOO_LONG, TOO_MANY};
+use crate::texts::{NO_MEMORY, SPENT, TOO_LONG, TOO_MANY, write_malformed};
 use crate::{LINE_LIMIT, Why};
 use call_history::Book;
 use caller_lines::{CallerLine, Said, hear};
@@ -20,7 +19,7 @@ use std::sync::Wait;
 use turn_gate::Seat;
 
 /// Asks the line once, which gave so many lines before, and does what follows. The reply to a line is put before the next is asked.
-pub fn answer<C: DeskCore, R: Wait>(
+pub(crate) fn answer<C: DeskCore, R: Wait>(
     rt: &R,
     alloc: Global,
     desk: &Desk<C>,

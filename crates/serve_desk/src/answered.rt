@@ -5,7 +5,7 @@ use turn_gate::Seat;
 
 /// A seat after one answer of its line.
 #[derive(Drop)]
-pub struct Answered<C: DeskCore> {
+pub(crate) struct Answered<C: DeskCore> {
     /// The seat.
     pub seat: Seat<Book<C>>,
     /// Why the session ends, where it does.

@@ -5,7 +5,7 @@ use desk_shared::ShownBook;
 use turn_gate::Seat;
 
 /// A seat after one answer of its line, where looks are heard.
-pub struct AnsweredWatched<C: DeskCore> {
+pub(crate) struct AnsweredWatched<C: DeskCore> {
     /// The seat.
     pub seat: Seat<ShownBook<Book<C>>>,
     /// Why the session ends, where it does.

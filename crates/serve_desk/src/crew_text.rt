@@ -9,7 +9,7 @@ use line_writer::{LineText, put, put_byte};
 
 /// The text for what a crew call came to: the persons to whom the vacancies are offered; or the vacancy that is not offered; or the one whose
 /// offer was closed by another.
-pub fn write_crew(told: &CrewOutcome) -> LineText
+pub(crate) fn write_crew(told: &CrewOutcome) -> LineText
     ensures { result.items ≡ crew_text told.now }
 {
     let mut text = LineText::new();
@@ -44,7 +44,7 @@ fn put_outcome(text: &mut LineText, told: &CrewOutcome)
 }
 
 /// The text for a crew call of a seat that has only so many calls left.
-pub fn write_too_few(left: u32) -> LineText
+pub(crate) fn write_too_few(left: u32) -> LineText
     ensures { result.items ≡ too_few left }
 {
     let mut text = LineText::new();

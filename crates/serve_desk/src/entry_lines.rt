@@ -1,6 +1,6 @@
 //! The lines of entries, in one buffer.
 ghost use Rattle.std.specs.Prelude.{◌≡◌};
-ghost use Rattle.desk_model.specs.Journal.{entry_line};
+ghost use Rattle.desk_model.specs.texts.Journal.{entry_line};
 
 use desk_model::Entry;
 use line_writer::{LineText, fill_with_entry};
@@ -8,7 +8,7 @@ use record_rows::LastMinute;
 
 /// Writes the lines of entries, one after another. It keeps what spares work from one to the next.
 #[derive(Drop)]
-pub struct EntryLines {
+pub(crate) struct EntryLines {
     line: LineText,
     stated: LastMinute,
     moment: LastMinute,
@@ -16,7 +16,7 @@ pub struct EntryLines {
 
 impl EntryLines {
     /// None is written yet.
-    pub fn new() -> EntryLines {
+    pub(crate) fn new() -> EntryLines {
         EntryLines {
             line: LineText::new(),
             stated: LastMinute::new(),
@@ -25,7 +25,7 @@ impl EntryLines {
     }
 
     /// The entry's line of the journal, with its line feed.
-    pub fn write(&mut self, entry: &Entry) -> &[u8]
+    pub(crate) fn write(&mut self, entry: &Entry) -> &[u8]
         ensures { result.now ≡ entry_line entry.now }
     {
         fill_with_entry(&mut self.line, &mut self.stated, &mut self.moment, entry);

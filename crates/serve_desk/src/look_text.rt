@@ -9,7 +9,7 @@ use line_writer::{LineText, put, put_byte};
 
 /// The text for a look: how many entries were seen, and the person at the place; or that nobody stands there, with the number of
 /// persons on the board; or that the code is no board.
-pub fn write_look(look: &Look) -> LineText
+pub(crate) fn write_look(look: &Look) -> LineText
     ensures { result.items ≡ look_text look.now.seen look.now.what }
 {
     let mut text = LineText::new();
@@ -38,7 +38,7 @@ fn put_spot(text: &mut LineText, what: Spot)
 }
 
 /// The text that tells how many entries what is shown is behind.
-pub fn write_behind(count: u32) -> LineText
+pub(crate) fn write_behind(count: u32) -> LineText
     ensures { result.items ≡ behind count }
 {
     let mut text = LineText::new();

@@ -12,7 +12,11 @@ use caller_lines::CallerLine;
 
 /// Puts a text on the line, behind which the session ends or goes on as told. Where the line doesn't take it, that is a fault and
 /// ends the session.
-pub fn put_on(line: &mut Box<dyn CallerLine + Send>, text: &[u8], then: Option<Why>) -> Option<Why>
+pub(crate) fn put_on(
+    line: &mut Box<dyn CallerLine + Send>,
+    text: &[u8],
+    then: Option<Why>,
+) -> Option<Why>
     requires { then ≢ Some Why.LineFault }
     ensures puts { PutsOn text.now then (calls line.old) (calls line.new) result }
     ensures later { faults line.old ≤ faults line.new }
@@ -28,7 +32,11 @@ pub fn put_on(line: &mut Box<dyn CallerLine + Send>, text: &[u8], then: Option<W
 
 /// Puts two texts on the line, one behind the other, behind which the session goes on. Where the line doesn't take one, that is a fault
 /// and ends the session.
-pub fn put_both(line: &mut Box<dyn CallerLine + Send>, first: &[u8], second: &[u8]) -> Option<Why>
+pub(crate) fn put_both(
+    line: &mut Box<dyn CallerLine + Send>,
+    first: &[u8],
+    second: &[u8],
+) -> Option<Why>
     ensures puts { PutsAllOn (first.now ∷ second.now ∷ []) (calls line.old) (calls line.new) result }
     ensures later { faults line.old ≤ faults line.new }
     ensures cause { result ≡ Some Why.LineFault → Rose (faults line.old) (faults line.new) }

@@ -5,13 +5,13 @@ ghost use Rattle.std.specs.Io.KnownBytes.{Appends, Keeps};
 ghost use Rattle.desk_io.specs.Faults.{Rose};
 ghost use Rattle.desk_io.specs.Giving.{AddsFront};
 ghost use Rattle.desk_io.specs.Input.{TookMore, TookFront};
-ghost use Rattle.desk_model.specs.Fits.{IsStated};
-ghost use Rattle.desk_model.specs.Opening.{IsOpening};
+ghost use Rattle.desk_model.specs.statements.Fits.{IsStated};
+ghost use Rattle.desk_model.specs.statements.Opening.{IsOpening};
 ghost use Rattle.command_parser.specs.declared.limits.TheConstants.{RECORD_LIMIT};
 ghost use Rattle.command_parser.specs.DayFile.{HasTooMany, HasNoOpening};
 ghost use Rattle.day_replay.specs.Ends.{WasRead, WritesOrFails, writes};
 ghost use Rattle.day_replay.specs.Replay.{FindsWrong, EndsByTheDay, day_history};
-ghost use Rattle.day_replay.specs.declared.limits.TheConstants.{BYTE_LIMIT};
+ghost use Rattle.day_replay.specs.declared.day_input.TheConstants.{BYTE_LIMIT};
 ghost use Rattle.serve_desk.specs.Told.{line_of};
 ghost use Rattle.serve_desk.specs.Serve.{IsNoNumberOfLines, ServesBehind, ServesDay, ServesHistory};
 

@@ -1,15 +1,14 @@
 //! All lines served at one desk with looks.
 ghost use Rattle.std.specs.Prelude.{◌≡◌, ◌+◌, ◌*◌, ◌<◌, ◌≤◌, ℕ, length, map, vec_len, None, Some, IfOk, IsErr, IsSome, slice_index_or};
 ghost use Rattle.std.specs.List.{All};
-ghost use Rattle.desk_model.specs.Legal.{IsLegal};
+ghost use Rattle.desk_model.specs.histories.Legal.{IsLegal};
 ghost use Rattle.serve_desk.specs.AllLines.{AreAllServed};
 ghost use Rattle.serve_desk.specs.Told.{line_of};
 ghost use Rattle.serve_desk.specs.WatchLines.{IsManned, AttendsWatched, watched};
 
 use crate::CALLS_PER_LINE;
 use crate::ended_watched::EndedWatched;
-use crate::post::Post;
-use crate::posts::{leave_posts, seat_lines};
+use crate::post::{Post, leave_posts, seat_lines};
 use crate::watch_line::session_watched;
 use board_window::View;
 use call_history::Book;

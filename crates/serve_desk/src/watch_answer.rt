@@ -3,7 +3,7 @@ ghost use Rattle.std.specs.Prelude.{◌≡◌, ◌≢◌, ℕ, ◌-◌, ◌<◌,
 ghost use mathlib.Core.List.{IsPrefix};
 ghost use Rattle.desk_io.specs.Faults.{Rose};
 ghost use Rattle.turn_gate.specs.Seats.{SeatValue};
-ghost use Rattle.desk_model.specs.Journal.{entry_line};
+ghost use Rattle.desk_model.specs.texts.Journal.{entry_line};
 ghost use Rattle.serve_desk.specs.Looks.{behind};
 ghost use Rattle.serve_desk.specs.Told.{line_of};
 ghost use Rattle.serve_desk.specs.Answers.{PutsOn};
@@ -12,9 +12,8 @@ ghost use Rattle.serve_desk.specs.WatchAnswers.{IsCallerOf, PutsAllOn, RepliesWa
 use crate::answered_watched::AnsweredWatched;
 use crate::entry_lines::EntryLines;
 use crate::look_text::{write_behind, write_look};
-use crate::malformed::write_malformed;
 use crate::put::{put_both, put_on};
-use crate::texts::{NO_MEMORY, SPENT, TOO_LONG, TOO_MANY};
+use crate::texts::{NO_MEMORY, SPENT, TOO_LONG, TOO_MANY, write_malformed};
 use crate::watch_crew::crew;
 use crate::{LINE_LIMIT, Why};
 use board_window::{Showing, View};
@@ -29,7 +28,7 @@ use turn_gate::{Seat, what_one_entry_more_makes_known};
 
 /// Asks the line once, which gave so many lines before, and does what follows: a look is answered from the view, without a turn and
 /// without an entry, and a crew call by up to three. What is shown after a call is learnt before its reply is put, and the reply to a line is put before the next is asked.
-pub fn answer_watched<C: DeskCore, R: Wait>(
+pub(crate) fn answer_watched<C: DeskCore, R: Wait>(
     rt: &R,
     alloc: Global,
     desk: &ShownDesk<C>,
@@ -200,7 +199,7 @@ fn call<C: DeskCore, R: Wait>(
 }
 
 /// Learns what is shown, and answers how far that is behind.
-pub fn learn(view: &mut View, showing: Showing) -> u32
+pub(crate) fn learn(view: &mut View, showing: Showing) -> u32
     requires { showing.note.wall ≡ view.old.wall }
     ensures wall { view.new.wall ≡ view.old.wall }
     ensures begins { IsPrefix view.old.entries view.new.entries }

@@ -3,7 +3,7 @@ ghost use Rattle.std.specs.Prelude.{◌≡◌, ◌≢◌, ℕ, ◌-◌, ◌<◌,
 ghost use Rattle.desk_base.specs.Minute.{IsInYears};
 ghost use Rattle.desk_io.specs.Faults.{Rose};
 ghost use Rattle.crew_call.specs.CrewCalls.{somes};
-ghost use Rattle.desk_model.specs.Journal.{entry_line};
+ghost use Rattle.desk_model.specs.texts.Journal.{entry_line};
 ghost use Rattle.serve_desk.specs.Crews.{crew_texts};
 ghost use Rattle.serve_desk.specs.Looks.{behind};
 ghost use Rattle.serve_desk.specs.WatchAnswers.{IsCallerOf, PutsAllOn, RepliesWatched};
@@ -28,7 +28,7 @@ use turn_gate::{Seat, what_one_entry_more_makes_known};
 
 /// Calls two vacancies as one outcome, learns what is shown then, and puts the lines of the entries, what the call came to, and how far
 /// what is shown is behind; or says that the seat has too few calls left.
-pub fn crew<C: DeskCore, R: Wait>(
+pub(crate) fn crew<C: DeskCore, R: Wait>(
     rt: &R,
     desk: &ShownDesk<C>,
     seat: Seat<ShownBook<Book<C>>>,

@@ -4,7 +4,7 @@ use mathlib.Core.Option.{some, some-injective}
 use lib.ListN.{get_elem?}
 use Rattle.std.specs.List.{All}
 use Rattle.std.proofs.lemmas.List.Elements.{All-nil, All-cons}
-use Rattle.desk_model.specs.Entry.{EntryValue}
+use Rattle.desk_model.specs.statements.Entry.{EntryValue}
 use Rattle.turn_gate.specs.declared.note.Note.{Note}
 use Rattle.turn_gate.specs.declared.start.Start.{Start}
 use Rattle.turn_gate.specs.declared.told.Told.{Told}

@@ -9,7 +9,7 @@ use Rattle.std.proofs.lemmas.List.Elements.{All-cons, All-append}
 use Rattle.atomic_table.specs.Table.{State, Me, step, Act, keeps, takes, gives, stepped, put_back, rest, homes_after, carried_after, Valid, Allows, Splits, Joins, Final, Seen}
 use Rattle.atomic_table.specs.Table as table
 use Rattle.atomic_table.proofs.Lists.{at_set, set_else, set_again, at_longer, at_snoc}
-use Rattle.desk_model.specs.Entry.{EntryValue}
+use Rattle.desk_model.specs.statements.Entry.{EntryValue}
 use Rattle.turn_gate.specs.declared.note.Note.{Note}
 use Rattle.turn_gate.specs.declared.phase.Phase.TheVariants.{Idle, Waiting, Turn}
 use Rattle.turn_gate.specs.declared.start.Start.{Start}
@@ -64,14 +64,6 @@ other-at (x ∷ l) m a at = at
 first-at : (l : List Note) (m : ℕ) (a : Note) → get_elem? (first_note l) m ≡ some a → get_elem? l 0 ≡ some a
 first-at [] m a at = absurd (some-ne-none a (sym at))
 first-at (x ∷ l) m a at = ap some (at-single x m a at).1
-
-some-other : (l : List Note) → 0 < length (other_notes l) → 0 < length l
-some-other [] more = absurd (omega arith)
-some-other (x ∷ l) more = omega arith
-
-some-first : (l : List Note) → 0 < length (first_note l) → 0 < length l
-some-first [] more = absurd (omega arith)
-some-first (x ∷ l) more = omega arith
 
 module _ {B : Type 0} (tell : B → Told) (k : Start) where
   abbrev St : Type 0

@@ -5,7 +5,7 @@ use mathlib.Core.Option.{some, some-injective, some-ne-none}
 use lib.ListN.{get_elem?}
 use Rattle.std.proofs.lemmas.Bool.Decides.{nat_tests}
 use Rattle.std.proofs.lemmas.List.Elements.{filter-append}
-use Rattle.desk_model.specs.Entry.{EntryValue}
+use Rattle.desk_model.specs.statements.Entry.{EntryValue}
 use Rattle.turn_gate.specs.declared.note.Note.{Note}
 use Rattle.turn_gate.specs.declared.phase.Phase.{Phase}
 use Rattle.turn_gate.specs.declared.phase.Phase.TheVariants.{Idle, Waiting, Turn}

@@ -1,7 +1,7 @@
 -- What contracts see of a gate, a seat and a turn.
 use Rattle.std.specs.Prelude.{◌≡◌, ℕ, zero, suc, ◌+◌, List, [], ◌∷◌}
 use Rattle.atomic_table.specs.Seated.{TableId}
-use Rattle.desk_model.specs.Entry.{EntryValue}
+use Rattle.desk_model.specs.statements.Entry.{EntryValue}
 use Rattle.turn_gate.specs.declared.note.Note.{Note}
 use Rattle.turn_gate.specs.declared.phase.Phase.TheVariants.{Idle, Turn}
 use Rattle.turn_gate.specs.declared.start.Start.{Start}

@@ -4,9 +4,9 @@ use mathlib.Core.Option.{some}
 use lib.ListN.{get_elem?}
 use Rattle.atomic_table.specs.Table.{Me, Step}
 use Rattle.desk_base.specs.Window.{window_of}
-use Rattle.desk_model.specs.Entry.{EntryValue}
-use Rattle.desk_model.specs.Mark.{no_wall}
-use Rattle.desk_model.specs.Opening.{opening_of}
+use Rattle.desk_model.specs.statements.Entry.{EntryValue}
+use Rattle.desk_model.specs.histories.Mark.{no_wall}
+use Rattle.desk_model.specs.statements.Opening.{opening_of}
 use Rattle.desk_model.specs.declared.edition.Edition.TheVariants.{One}
 use Rattle.turn_gate.specs.declared.note.Note.{Note}
 use Rattle.turn_gate.specs.declared.phase.Phase.TheVariants.{Idle, Waiting, Turn}

@@ -1,9 +1,9 @@
 -- What contracts see of a book and of how a gate began, and what a book keeps that goes through the gate's turns.
 use Rattle.std.specs.Prelude.{◌≡◌, ℕ, ◌+◌, ◌*◌, ◌≤◌, ◌==◌, List, ◌++◌, length, filter}
 use Rattle.std.specs.List.{All}
-use Rattle.desk_model.specs.Entry.{EntryValue}
-use Rattle.desk_model.specs.History.{History}
-use Rattle.desk_model.specs.Mark.{Mark}
+use Rattle.desk_model.specs.statements.Entry.{EntryValue}
+use Rattle.desk_model.specs.histories.History.{History}
+use Rattle.desk_model.specs.histories.Mark.{Mark}
 use Rattle.turn_gate.specs.declared.start.Start.{Start}
 use Rattle.turn_gate.specs.declared.terms.Terms.{Terms}
 use Rattle.turn_gate.specs.declared.told.Told.{Told}

@@ -3,7 +3,7 @@ use Rattle.std.specs.Prelude.{◌≡◌, ◌+◌, ◌<◌, ◌≤◌, List, [], 
 use mathlib.Core.List.{IsPrefix}
 use mathlib.Core.Option.{some}
 use Rattle.atomic_table.specs.Table.{State}
-use Rattle.desk_model.specs.Entry.{EntryValue}
+use Rattle.desk_model.specs.statements.Entry.{EntryValue}
 use Rattle.desk_model.specs.declared.limits.TheConstants.{LAST_CALLER}
 use Rattle.turn_gate.specs.declared.start.Start.{Start}
 use Rattle.turn_gate.specs.declared.told.Told.{Told}

@@ -1,6 +1,6 @@
 ghost use Rattle.std.specs.Prelude.{◌≡◌, ◌≢◌, ℕ, List, [], ◌∷◌, ◌++◌};
 ghost use mathlib.Core.List.{IsPrefix};
-ghost use Rattle.desk_model.specs.Entry.{EntryValue};
+ghost use Rattle.desk_model.specs.statements.Entry.{EntryValue};
 ghost use Rattle.turn_gate.specs.Told.{own};
 
 /// Laws of a list with one entry more: a caller's own entries are one more where it is of this caller, and the same where it is

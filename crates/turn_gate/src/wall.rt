@@ -1,7 +1,7 @@
 ghost use base.Fml.{ftrue};
 ghost use Rattle.std.specs.Coded.{coded_option};
 ghost use Rattle.logbook.specs.Pages.{book_coded};
-ghost use Rattle.desk_model.specs.Mark.{Mark};
+ghost use Rattle.desk_model.specs.histories.Mark.{Mark};
 
 use std::marker::Model;
 

@@ -1,5 +1,5 @@
 use Rattle.std.proofs.Common.{[], ◌∷◌, refl, Some}
-use Rattle.desk_model.specs.History.{step_of, steps}
+use Rattle.desk_model.specs.histories.History.{step_of, steps}
 use Rattle.desk_model.proofs.LegalLemmas.{IsRight}
 use Rattle.desk_model.proofs.SaidLemmas.{steps-snoc}
 use Rattle.std.proofs.lemmas.List.Elements.{All-pop}

@@ -1,4 +1,4 @@
-use Rattle.desk_model.specs.History.{with_entry}
+use Rattle.desk_model.specs.histories.History.{with_entry}
 use Rattle.desk_model.proofs.LegalLemmas.{legal-with}
 use Rattle.board_window.proofs.BoardLemmas.{boards-after}
 use Rattle.board_window.proofs.laws.what_an_entry_makes_of_the_boards.Goals as goal

@@ -1,6 +1,6 @@
 use Rattle.std.proofs.Common.{◌≡◌, [], ◌∷◌, refl, ap, sym, ◌∙◌, subst}
-use Rattle.desk_model.specs.Entry.{EntryValue}
-use Rattle.desk_model.specs.Legal.{IsLegal}
+use Rattle.desk_model.specs.statements.Entry.{EntryValue}
+use Rattle.desk_model.specs.histories.Legal.{IsLegal}
 use Rattle.board_window.specs.Shelves.{after, IsNextChange, IsRight}
 use Rattle.board_window.specs.Walls.{FrontValue, front_of, history_in, longer_by}
 use Rattle.board_window.proofs.WallLemmas.{take-next, next-begins, right-after}

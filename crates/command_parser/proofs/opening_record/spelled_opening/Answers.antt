@@ -1,6 +1,6 @@
 use Rattle.std.proofs.Common.{◌≡◌, arith}
 use Rattle.std.specs.Option.{SomeIff}
-use Rattle.desk_model.specs.Opening.{IsOpening}
+use Rattle.desk_model.specs.statements.Opening.{IsOpening}
 use Rattle.desk_base.proofs.WindowLemmas.{in_years-Holds}
 use Rattle.command_parser.proofs.OpeningLemmas.{SomeIff-yes}
 use Rattle.command_parser.proofs.opening_record.spelled_opening.Goals as goal

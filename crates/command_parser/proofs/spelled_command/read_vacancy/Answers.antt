@@ -1,7 +1,7 @@
 use Rattle.std.proofs.Common.{◌≡◌, ◌∙◌, ◌+◌, ◌<◌, ◌≤◌, ◌^◌, refl, ap, sym, subst, arith, rules, length, ℕ, List, [], Bor, Some, None}
 use Rattle.desk_model.specs.declared.command.Cmd.TheVariants as cmd
 use Rattle.desk_base.specs.Code.{IsCode}
-use Rattle.desk_model.specs.Job.{job_of, IsPlan}
+use Rattle.desk_model.specs.statements.Job.{job_of, IsPlan}
 use Rattle.command_parser.proofs.SpelledLemmas.{SpellsJob, field_at, same, vacancy, vacancy-spelled, job-of}
 use Rattle.command_parser.proofs.spelled_command.read_vacancy.Goals as goal
 

@@ -6,8 +6,8 @@ use Rattle.duty_events.proofs.ListLemmas.{comes, stage_of-push, last_event-push}
 use Rattle.duty_events.proofs.EventLemmas.{follows-reached}
 use Rattle.duty_events.proofs.PlaceLemmas.{place_of-nil, place_of-behind}
 use Rattle.duty_events.specs.Places.{place_behind}
-use Rattle.stretches.specs.Stretch.{has_stretch}
-use Rattle.stretches.specs.Gauge.{Tells}
+use Rattle.duty_events.specs.Stretch.{has_stretch}
+use Rattle.duty_events.specs.Gauge.{Tells}
 use Rattle.consecutive_days.specs.Days.{is_off_at_home}
 use Rattle.consecutive_days.proofs.HomeLemmas.{IsAt, at_home-stays, at_home-until, at_home-own, at_home-behind}
 use Rattle.consecutive_days.proofs.home.longest_at_home.Goals as goal

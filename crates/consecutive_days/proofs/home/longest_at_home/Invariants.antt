@@ -1,6 +1,6 @@
 use Rattle.std.proofs.Common.{◌≡◌, min, take}
 use Rattle.duty_events.specs.Lists.{stage_of, last_event, reached}
-use Rattle.stretches.specs.Gauge.{Tells}
+use Rattle.duty_events.specs.Gauge.{Tells}
 use Rattle.consecutive_days.specs.Days.{is_off_at_home}
 use Rattle.consecutive_days.proofs.HomeLemmas.{IsAt}
 use Rattle.consecutive_days.proofs.home.longest_at_home.Given as goal

@@ -1,6 +1,6 @@
 use Rattle.std.proofs.Common.{◌≡◌, ◌∙◌, ◌+◌, Some, sym, ap, refl, subst, arith}
-use Rattle.desk_model.specs.History.{opened, with_entry}
-use Rattle.desk_model.specs.Legal.{next}
+use Rattle.desk_model.specs.histories.History.{opened, with_entry}
+use Rattle.desk_model.specs.histories.Legal.{next}
 use Rattle.line_writer.specs.Tally.{Counts}
 use Rattle.day_gen.specs.Due.{last_entry}
 use Rattle.day_gen.specs.Day.{day_opening, generated_day}

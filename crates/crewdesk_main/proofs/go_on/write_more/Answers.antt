@@ -1,8 +1,8 @@
 use Rattle.std.proofs.Common.{◌≡◌}
 use Rattle.std.proofs.lemmas.Bool.{OnFalse_from}
 use Rattle.desk_io.specs.Giving.{AddsFront}
-use Rattle.desk_model.specs.History.{History}
-use Rattle.desk_model.specs.Journal.{journal}
+use Rattle.desk_model.specs.histories.History.{History}
+use Rattle.desk_model.specs.texts.Journal.{journal}
 use Rattle.day_replay.specs.Replay.{goes_on}
 use Rattle.crewdesk_main.proofs.ContinueLemmas.{AddsFront-goes_on}
 use Rattle.crewdesk_main.proofs.go_on.write_more.Goals as goal

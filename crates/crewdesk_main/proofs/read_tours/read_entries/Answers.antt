@@ -1,7 +1,7 @@
 use Rattle.std.proofs.Common.{◌+◌, refl, arith}
 use Rattle.std.proofs.lemmas.List.Elements.{All-nil}
-use Rattle.desk_model.specs.Fits.{Fits}
-use Rattle.desk_model.specs.History.{opened}
+use Rattle.desk_model.specs.statements.Fits.{Fits}
+use Rattle.desk_model.specs.histories.History.{opened}
 use Rattle.audit_desk.proofs.FoundLemmas.{some-left}
 use Rattle.crewdesk_main.proofs.TourLemmas.{HasRead-more, HasNoEntry-next, KeepsJournal-all}
 use Rattle.crewdesk_main.proofs.read_tours.read_entries.Goals as goal

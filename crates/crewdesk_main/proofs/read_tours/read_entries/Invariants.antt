@@ -1,7 +1,7 @@
 use Rattle.std.proofs.Common.{◌≤◌, ◌+◌, ◌++◌, length}
-use Rattle.desk_model.specs.Opening.{OpeningValue, IsOpening}
-use Rattle.desk_model.specs.History.{opened}
-use Rattle.desk_model.specs.Journal.{journal}
+use Rattle.desk_model.specs.statements.Opening.{OpeningValue, IsOpening}
+use Rattle.desk_model.specs.histories.History.{opened}
+use Rattle.desk_model.specs.texts.Journal.{journal}
 use Rattle.crewdesk_main.proofs.TourLemmas.{HasRead}
 use Rattle.crewdesk_main.proofs.read_tours.read_entries.Given as goal
 

@@ -1,5 +1,5 @@
 use Rattle.std.proofs.Common.{refl, ap, ◌∙◌}
-use Rattle.desk_model.specs.Legal.{next}
+use Rattle.desk_model.specs.histories.Legal.{next}
 use Rattle.day_gen.specs.Due.{last_entry}
 use Rattle.day_gen.specs.Day.{day_after, generated_day, day_statement}
 use Rattle.day_gen.proofs.KeepLemmas.{last_entry-with}

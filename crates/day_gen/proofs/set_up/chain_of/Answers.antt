@@ -1,7 +1,7 @@
 use Rattle.std.proofs.Common.{◌≡◌, ◌++◌, ◌∷◌, [], ℕ, List, Option, None, Some, refl, ap, subst, ◌∙◌, arith}
 use Rattle.std.specs.Option.{SomeIff}
 use Rattle.qualifications.specs.declared.craft.Craft.{Craft}
-use Rattle.desk_model.specs.Chain.{IsChain}
+use Rattle.desk_model.specs.statements.Chain.{IsChain}
 use Rattle.day_gen.specs.SetUp.{pool_of, extra_of}
 use Rattle.day_gen.specs.Rules.{chain_of}
 use Rattle.day_gen.proofs.OpeningLemmas.{chain_valid}

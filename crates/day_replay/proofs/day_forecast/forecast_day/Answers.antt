@@ -1,4 +1,4 @@
-use Rattle.desk_model.specs.History.{opened}
+use Rattle.desk_model.specs.histories.History.{opened}
 use Rattle.day_replay.proofs.ForecastLemmas.{IsParted-day}
 use Rattle.day_replay.proofs.day_forecast.forecast_day.Goals as goal
 

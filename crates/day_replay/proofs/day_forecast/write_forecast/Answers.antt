@@ -1,7 +1,7 @@
 use Rattle.std.proofs.Common.{◌∙◌, length, subst}
 use Rattle.std.proofs.lemmas.Bool.{OnFalse_at, OnFalse_from}
 use Rattle.desk_io.specs.Giving.{AddsFront}
-use Rattle.desk_model.specs.Journal.{entry_lines}
+use Rattle.desk_model.specs.texts.Journal.{entry_lines}
 use Rattle.day_replay.specs.Forecast.{forecast_lines}
 use Rattle.day_replay.proofs.ForecastLemmas.{Gathers-supposed, AddsFront-answered}
 use Rattle.day_replay.proofs.JournalLemmas.{Gathers-more, AddsFront-gathered, AddsFront-more}

@@ -1,6 +1,6 @@
 use Rattle.std.proofs.Common.{◌≡◌, arith, rules, subst}
 use Rattle.day_replay.specs.Ends.{Tells, WritesOrFails}
-use Rattle.day_replay.specs.declared.limits.TheConstants.{BYTE_LIMIT}
+use Rattle.day_replay.specs.declared.day_input.TheConstants.{BYTE_LIMIT}
 use Rattle.command_parser.specs.declared.day_fault.DayFault.{DayFault}
 use Rattle.command_parser.specs.declared.day_fault.DayFault.TheVariants as fault
 use Rattle.command_parser.specs.DayFile.{IsDayFile, HasFault}

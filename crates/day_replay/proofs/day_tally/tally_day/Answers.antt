@@ -1,5 +1,5 @@
 use Rattle.std.proofs.Common.{sym, subst, arith}
-use Rattle.desk_model.specs.History.{opened}
+use Rattle.desk_model.specs.histories.History.{opened}
 use Rattle.line_writer.specs.Tally.{Counts}
 use Rattle.day_replay.proofs.HistoryLemmas.{goes_on-none, goes_on-next, day_history-few}
 use Rattle.day_replay.proofs.day_tally.tally_day.Goals as goal

@@ -1,5 +1,5 @@
 use Rattle.std.proofs.Common.{◌≤◌, ◌+◌, length, take}
-use Rattle.desk_model.specs.History.{History}
+use Rattle.desk_model.specs.histories.History.{History}
 use Rattle.day_replay.specs.Replay.{goes_on}
 use Rattle.day_replay.proofs.day_when.step_each.Given as goal
 

@@ -1,8 +1,8 @@
 use Rattle.std.proofs.Common.{◌∙◌}
 use Rattle.std.proofs.lemmas.Bool.{OnTrue_at, OnTrue_from, OnFalse_at, OnFalse_from}
 use Rattle.desk_io.specs.Giving.{AddsFront}
-use Rattle.desk_model.specs.History.{history_of}
-use Rattle.desk_model.specs.Journal.{journal}
+use Rattle.desk_model.specs.histories.History.{history_of}
+use Rattle.desk_model.specs.texts.Journal.{journal}
 use Rattle.day_replay.specs.Gathered.{Gathers}
 use Rattle.day_replay.proofs.JournalLemmas.{Gathers-history, AddsFront-history}
 use Rattle.day_replay.proofs.journal.gather_history.Goals as goal

@@ -3,8 +3,8 @@ use Rattle.std.proofs.lemmas.Bool.{OnTrue_at, OnTrue_from, OnFalse_at, OnFalse_f
 use Rattle.std.proofs.lemmas.List.{take_all}
 use Rattle.day_replay.specs.Replay.{goes_on}
 use Rattle.desk_io.specs.Giving.{AddsFront}
-use Rattle.desk_model.specs.History.{History}
-use Rattle.desk_model.specs.Journal.{journal}
+use Rattle.desk_model.specs.histories.History.{History}
+use Rattle.desk_model.specs.texts.Journal.{journal}
 use Rattle.std.specs.Io.KnownBytes.{Appends}
 use Rattle.day_replay.specs.Gathered.{Gathers}
 use Rattle.day_replay.proofs.HistoryLemmas.{goes_on-none, goes_on-next}

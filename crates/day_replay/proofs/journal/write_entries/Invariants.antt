@@ -1,6 +1,6 @@
 use Rattle.std.proofs.Common.{◌≡◌, ◌≤◌, ◌+◌, ℕ, List, Option, length, take, vec_capacity}
-use Rattle.desk_model.specs.History.{History}
-use Rattle.desk_model.specs.Journal.{journal}
+use Rattle.desk_model.specs.histories.History.{History}
+use Rattle.desk_model.specs.texts.Journal.{journal}
 use Rattle.day_replay.specs.Gathered.{Gathers}
 use Rattle.day_replay.specs.Replay.{goes_on}
 use Rattle.day_replay.proofs.JournalLemmas.{Written}

@@ -1,8 +1,8 @@
 use Rattle.std.proofs.Common.{subst}
 use Rattle.std.proofs.lemmas.Bool.{OnFalse_at, OnFalse_from}
 use Rattle.desk_io.specs.Giving.{AddsFront}
-use Rattle.desk_model.specs.History.{history_of}
-use Rattle.desk_model.specs.Journal.{journal}
+use Rattle.desk_model.specs.histories.History.{history_of}
+use Rattle.desk_model.specs.texts.Journal.{journal}
 use Rattle.day_replay.proofs.JournalLemmas.{AddsFront-gathered}
 use Rattle.day_replay.proofs.journal.write_history.Goals as goal
 

@@ -1,5 +1,5 @@
 use Rattle.std.proofs.Common.{◌≡◌, ◌≤◌, ◌++◌, take, vec_capacity}
-use Rattle.desk_model.specs.Journal.{entry_lines}
+use Rattle.desk_model.specs.texts.Journal.{entry_lines}
 use Rattle.day_replay.specs.Gathered.{Gathers}
 use Rattle.day_replay.proofs.lines.gather_lines.Given as goal
 

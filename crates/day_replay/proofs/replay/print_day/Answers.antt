@@ -1,5 +1,5 @@
 use Rattle.std.proofs.Common.{◌∙◌, sym}
-use Rattle.desk_model.specs.History.{opened}
+use Rattle.desk_model.specs.histories.History.{opened}
 use Rattle.day_replay.specs.Replay.{day_history}
 use Rattle.day_replay.proofs.ForecastLemmas.{forecast_text-parted, when_text-told}
 use Rattle.day_replay.proofs.replay.print_day.Goals as goal

@@ -1,5 +1,5 @@
 use Rattle.std.proofs.Common.{ap, ◌∙◌}
-use Rattle.desk_model.specs.Legal.{moment}
+use Rattle.desk_model.specs.histories.Legal.{moment}
 use Rattle.desk_answers.proofs.NextLemmas.{next-is}
 use Rattle.desk_answers.proofs.entry.next_entry.Goals as goal
 

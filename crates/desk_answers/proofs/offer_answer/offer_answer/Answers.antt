@@ -1,6 +1,6 @@
 use Rattle.std.proofs.Common.{rules, sym, ◌∙◌, arith}
-use Rattle.desk_model.specs.Bars.{first_free}
-use Rattle.desk_model.specs.OfferAnswer.{named_answer}
+use Rattle.desk_model.specs.offers.Bars.{first_free}
+use Rattle.desk_model.specs.answers.OfferAnswer.{named_answer}
 use Rattle.desk_answers.proofs.offer_answer.offer_answer.Goals as goal
 
 pub returns-in-Ok-clause-answer : goal.returns-in-Ok-clause-answer

@@ -2,8 +2,8 @@ use Rattle.std.proofs.Common.{ℕ, nat_lt, if◌then◌else◌, rules}
 use Rattle.desk_model.specs.declared.reply.Reply.{Reply}
 use Rattle.desk_model.specs.declared.reply.Reply.TheVariants as reply
 use Rattle.desk_model.specs.declared.offer.Offer.{Offer}
-use Rattle.desk_model.specs.Opening.{OpeningValue}
-use Rattle.desk_model.specs.Offers.{deadline}
+use Rattle.desk_model.specs.statements.Opening.{OpeningValue}
+use Rattle.desk_model.specs.offers.Offers.{deadline}
 use Rattle.desk_answers.proofs.settle_answer.no_answer.Goals as goal
 
 -- what the offer gives

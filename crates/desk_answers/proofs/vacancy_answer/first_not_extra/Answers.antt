@@ -1,6 +1,6 @@
 use Rattle.std.proofs.Common.{not, sym, ap, ◌∙◌}
-use Rattle.desk_model.specs.Register.{board_of}
-use Rattle.desk_model.specs.VacancyAnswer.{is_extra}
+use Rattle.desk_model.specs.histories.Register.{board_of}
+use Rattle.desk_model.specs.answers.VacancyAnswer.{is_extra}
 use Rattle.desk_answers.proofs.FindLemmas.{find-here, find-past}
 use Rattle.desk_answers.proofs.vacancy_answer.first_not_extra.Goals as goal
 

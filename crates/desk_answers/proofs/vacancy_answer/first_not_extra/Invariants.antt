@@ -1,8 +1,8 @@
 use Rattle.std.proofs.Common.{◌≡◌, not, drop}
 use Rattle.std.specs.List.{find}
-use Rattle.desk_model.specs.History.{History}
-use Rattle.desk_model.specs.Register.{board_of}
-use Rattle.desk_model.specs.VacancyAnswer.{is_extra}
+use Rattle.desk_model.specs.histories.History.{History}
+use Rattle.desk_model.specs.histories.Register.{board_of}
+use Rattle.desk_model.specs.answers.VacancyAnswer.{is_extra}
 use Rattle.desk_answers.proofs.vacancy_answer.first_not_extra.Given as goal
 
 abbrev pub invariant-loop-code : goal.invariant-loop-code

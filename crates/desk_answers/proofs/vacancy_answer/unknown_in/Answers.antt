@@ -1,5 +1,5 @@
 use Rattle.std.proofs.Common.{is_none, not, sym, ap, ◌∙◌}
-use Rattle.desk_model.specs.Register.{board_of}
+use Rattle.desk_model.specs.histories.Register.{board_of}
 use Rattle.desk_answers.proofs.FindLemmas.{find-here, find-past}
 use Rattle.desk_answers.proofs.vacancy_answer.unknown_in.Goals as goal
 

@@ -1,6 +1,6 @@
 use Rattle.std.proofs.Common.{◌≡◌, drop}
-use Rattle.desk_model.specs.History.{History}
-use Rattle.desk_model.specs.VacancyAnswer.{unknown_in}
+use Rattle.desk_model.specs.histories.History.{History}
+use Rattle.desk_model.specs.answers.VacancyAnswer.{unknown_in}
 use Rattle.desk_answers.proofs.vacancy_answer.unknown_in.Given as goal
 
 abbrev pub invariant-loop-code : goal.invariant-loop-code

@@ -2,7 +2,7 @@ use Rattle.std.proofs.Common.{◌∙◌, ◌++◌, ◌∷◌, [], map, ap, sym, 
 use Rattle.std.proofs.lemmas.Option.{IfSome_then}
 use Rattle.desk_base.specs.Minute.{minute_text}
 use Rattle.desk_base.specs.Month.{month_text}
-use Rattle.desk_model.specs.Opening.{edition_fields, opening_fields}
+use Rattle.desk_model.specs.statements.Opening.{edition_fields, opening_fields}
 use Rattle.desk_text.proofs.LineLemmas.{opening_inner}
 use Rattle.command_parser.proofs.OpeningLemmas.{few_opening, opening_line-fields}
 use Rattle.desk_text.proofs.SpelledEntryLemmas.{text-of-fields, fields-of-text, before-line_feed}

@@ -1,7 +1,7 @@
 use Rattle.std.proofs.Common.{◌≡◌, ◌+◌, ◌++◌, ◌∷◌, [], sym, subst, take, arith}
 use Rattle.std.proofs.lemmas.Grind.{common_steps}
 use Rattle.std.proofs.lemmas.List.{take_more}
-use Rattle.desk_model.specs.History.{history_of}
+use Rattle.desk_model.specs.histories.History.{history_of}
 use Rattle.duty_record.specs.Kept.{Keeps}
 use Rattle.duty_record.proofs.journal.read_all.Goals as goal
 

@@ -1,6 +1,6 @@
 use Rattle.std.proofs.Common.{take}
-use Rattle.desk_model.specs.Opening.{OpeningValue}
-use Rattle.desk_model.specs.History.{history_of}
+use Rattle.desk_model.specs.statements.Opening.{OpeningValue}
+use Rattle.desk_model.specs.histories.History.{history_of}
 use Rattle.duty_record.specs.Kept.{Keeps}
 use Rattle.duty_record.proofs.journal.read_all.Given as goal
 

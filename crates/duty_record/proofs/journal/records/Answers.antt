@@ -1,4 +1,4 @@
-use Rattle.desk_model.specs.History.{history_of}
+use Rattle.desk_model.specs.histories.History.{history_of}
 use Rattle.duty_record.proofs.journal.records.Goals as goal
 
 pub returns : goal.returns

@@ -4,13 +4,13 @@ use Rattle.std.proofs.lemmas.Map.Keys.{ge_from_not_lt}
 use Rattle.denial_rules.specs.declared.bar.Bar.{Bar}
 use Rattle.desk_model.specs.declared.link.Link.{Link}
 use Rattle.desk_model.specs.declared.person.Person.{Person}
-use Rattle.desk_model.specs.History.{History}
-use Rattle.desk_model.specs.Job.{JobValue}
-use Rattle.desk_model.specs.Register.{person_of, vacancy_of}
-use Rattle.desk_model.specs.Boards.{chain}
-use Rattle.desk_model.specs.Bars.{bar_of}
-use Rattle.desk_model.specs.Legal.{last_moment}
-use Rattle.desk_model.specs.ExplainAnswer.{place_in, place_answer, clear_answer}
+use Rattle.desk_model.specs.histories.History.{History}
+use Rattle.desk_model.specs.statements.Job.{JobValue}
+use Rattle.desk_model.specs.histories.Register.{person_of, vacancy_of}
+use Rattle.desk_model.specs.boards.Boards.{chain}
+use Rattle.desk_model.specs.offers.Bars.{bar_of}
+use Rattle.desk_model.specs.histories.Legal.{last_moment}
+use Rattle.desk_model.specs.answers.ExplainAnswer.{place_in, place_answer, clear_answer}
 use Rattle.earliest_minute.specs.declared.earliest.Earliest.{Earliest}
 use Rattle.earliest_minute.specs.When.{IsJudged, IsToldBy, IsWhen}
 use Rattle.earliest_minute.proofs.clear_search.earliest_clear.Goals as goal

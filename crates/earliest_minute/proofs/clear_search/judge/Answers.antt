@@ -1,11 +1,11 @@
 use Rattle.std.proofs.Common.{◌≡◌, ◌≤◌, ℕ, None, Some, sym, subst, ◌∙◌, arith}
 use Rattle.denial_rules.specs.declared.bar.Bar.{Bar}
 use Rattle.desk_model.specs.declared.person.Person.{Person}
-use Rattle.desk_model.specs.History.{History}
-use Rattle.desk_model.specs.Job.{JobValue}
-use Rattle.desk_model.specs.Register.{vacancy_of}
-use Rattle.desk_model.specs.Bars.{bar_of}
-use Rattle.desk_model.specs.Legal.{last_moment, IsLegal}
+use Rattle.desk_model.specs.histories.History.{History}
+use Rattle.desk_model.specs.statements.Job.{JobValue}
+use Rattle.desk_model.specs.histories.Register.{vacancy_of}
+use Rattle.desk_model.specs.offers.Bars.{bar_of}
+use Rattle.desk_model.specs.histories.Legal.{last_moment, IsLegal}
 use Rattle.desk_answers.specs.Asked.{IsAsked}
 use Rattle.earliest_minute.specs.Least.{StaysGone, IsLeast, IsBarredThroughout}
 use Rattle.earliest_minute.proofs.clear_search.judge.Goals as goal

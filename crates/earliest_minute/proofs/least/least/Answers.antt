@@ -1,8 +1,8 @@
 use Rattle.std.proofs.Common.{◌≤◌, ◌+◌, ℕ, arith}
-use Rattle.desk_model.specs.History.{History}
-use Rattle.desk_model.specs.Job.{JobValue}
+use Rattle.desk_model.specs.histories.History.{History}
+use Rattle.desk_model.specs.statements.Job.{JobValue}
 use Rattle.desk_model.specs.declared.person.Person.{Person}
-use Rattle.desk_model.specs.Legal.{IsLegal}
+use Rattle.desk_model.specs.histories.Legal.{IsLegal}
 use Rattle.earliest_minute.specs.Least.{StaysGone, IsBetween, IsLeast}
 use Rattle.earliest_minute.proofs.least.least.Goals as goal
 

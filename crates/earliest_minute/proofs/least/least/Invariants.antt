@@ -1,5 +1,5 @@
 use Rattle.std.specs.Prelude.{◌≡◌, ◌-◌}
-use Rattle.desk_model.specs.History.{History}
+use Rattle.desk_model.specs.histories.History.{History}
 use Rattle.earliest_minute.specs.Least.{IsBetween}
 use Rattle.earliest_minute.proofs.least.least.Given as goal
 

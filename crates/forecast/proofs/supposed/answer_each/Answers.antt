@@ -1,6 +1,6 @@
 use Rattle.std.proofs.Common.{◌∙◌, [], ◌∷◌, ap, sym, subst, arith, map, length, length-append}
 use Rattle.std.proofs.lemmas.List.{take_all}
-use Rattle.desk_model.specs.Legal.{given}
+use Rattle.desk_model.specs.histories.Legal.{given}
 use Rattle.forecast.specs.Supposed.{by_nobody, with_entries}
 use Rattle.forecast.proofs.SupposedLemmas.{with_entries-none, with_entries-more, stated-more}
 use Rattle.forecast.proofs.supposed.answer_each.Goals as goal

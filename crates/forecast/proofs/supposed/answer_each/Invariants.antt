@@ -1,6 +1,6 @@
 use Rattle.std.proofs.Common.{◌≡◌, ◌≤◌, ◌+◌, length, map, take, vec_capacity}
-use Rattle.desk_model.specs.History.{History}
-use Rattle.desk_model.specs.Legal.{given}
+use Rattle.desk_model.specs.histories.History.{History}
+use Rattle.desk_model.specs.histories.Legal.{given}
 use Rattle.forecast.specs.Supposed.{by_nobody, with_entries}
 use Rattle.forecast.proofs.supposed.answer_each.Given as goal
 

@@ -1,6 +1,6 @@
 use Rattle.std.proofs.Common.{◌++◌, ◌∙◌, sym, ap}
 use Rattle.std.specs.List.{join_with_byte}
-use Rattle.desk_model.specs.StatedTexts.{stated_fields}
+use Rattle.desk_model.specs.texts.StatedTexts.{stated_fields}
 use Rattle.line_writer.proofs.FieldLemmas.{entry_line-pieces}
 use Rattle.line_writer.proofs.entry_line.fill_with_entry.Goals as goal
 

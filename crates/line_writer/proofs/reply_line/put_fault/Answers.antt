@@ -1,5 +1,5 @@
 use Rattle.std.proofs.Common.{append_assoc, codes}
-use Rattle.desk_model.specs.ReplyTexts.{stage_text}
+use Rattle.desk_model.specs.texts.ReplyTexts.{stage_text}
 use Rattle.line_writer.proofs.reply_line.put_fault.Goals as goal
 
 pub returns-in-WrongStage-clause-text : goal.returns-in-WrongStage-clause-text

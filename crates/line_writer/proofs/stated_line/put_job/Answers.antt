@@ -1,4 +1,4 @@
-use Rattle.desk_model.specs.StatedTexts.{job_fields}
+use Rattle.desk_model.specs.texts.StatedTexts.{job_fields}
 use Rattle.line_writer.proofs.FieldLemmas.{added-marked}
 use Rattle.line_writer.proofs.stated_line.put_job.Goals as goal
 

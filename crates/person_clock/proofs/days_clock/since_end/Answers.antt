@@ -1,5 +1,5 @@
 use Rattle.std.proofs.Common.{subst}
-use Rattle.stretches.specs.Gauge.{Tells}
+use Rattle.duty_events.specs.Gauge.{Tells}
 use Rattle.person_clock.proofs.days_clock.since_end.Goals as goal
 
 pub returns-in-Some-clause-tells : goal.returns-in-Some-clause-tells

@@ -1,8 +1,8 @@
 use Rattle.std.proofs.Common.{◌≡◌, ◌≤◌, ◌+◌, false, unwrap_or, length, drop, filter}
 use Rattle.std.specs.List.{filter_map}
-use Rattle.desk_model.specs.History.{said, last_of}
-use Rattle.desk_model.specs.Register.{sets_up_any}
-use Rattle.desk_model.specs.Boards.{puts}
+use Rattle.desk_model.specs.histories.History.{said, last_of}
+use Rattle.desk_model.specs.histories.Register.{sets_up_any}
+use Rattle.desk_model.specs.boards.Boards.{puts}
 use Rattle.plain_core.proofs.boards.count_boards_of.Given as goal
 
 abbrev pub invariant-loop-entry : goal.invariant-loop-entry

@@ -1,7 +1,7 @@
 use Rattle.std.proofs.Common.{◌≡◌, drop}
 use Rattle.std.specs.Option.{option_or}
-use Rattle.desk_model.specs.History.{said, last_of}
-use Rattle.desk_model.specs.Boards.{puts}
+use Rattle.desk_model.specs.histories.History.{said, last_of}
+use Rattle.desk_model.specs.boards.Boards.{puts}
 use Rattle.plain_core.proofs.boards.is_on.Given as goal
 
 abbrev pub invariant-loop-entry : goal.invariant-loop-entry

@@ -6,8 +6,8 @@ use Rattle.duty_events.specs.declared.event.Event.{Event}
 use Rattle.duty_events.specs.declared.stage.Stage.TheVariants as stage
 use Rattle.duty_events.specs.Allowed.{last_minute}
 use Rattle.duty_events.specs.Lists.{stage_after, stage_of, latest}
-use Rattle.desk_model.specs.History.{history_of}
-use Rattle.desk_model.specs.Duty.{events}
+use Rattle.desk_model.specs.histories.History.{history_of}
+use Rattle.desk_model.specs.histories.Duty.{events}
 use Rattle.plain_core.proofs.GatherLemmas.{events-opened, gathered-none, gathered}
 use Rattle.plain_core.proofs.duty.gather.Goals as goal
 

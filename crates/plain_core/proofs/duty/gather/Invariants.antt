@@ -1,8 +1,8 @@
 use Rattle.std.proofs.Common.{◌≡◌, ◌≤◌, take, vec_len, vec_capacity}
 use Rattle.duty_events.specs.Lists.{stage_of, latest}
-use Rattle.desk_model.specs.Opening.{OpeningValue}
-use Rattle.desk_model.specs.History.{history_of}
-use Rattle.desk_model.specs.Duty.{events}
+use Rattle.desk_model.specs.statements.Opening.{OpeningValue}
+use Rattle.desk_model.specs.histories.History.{history_of}
+use Rattle.desk_model.specs.histories.Duty.{events}
 use Rattle.plain_core.proofs.duty.gather.Given as goal
 
 abbrev pub invariant-loop-entry : goal.invariant-loop-entry

@@ -1,6 +1,6 @@
 use Rattle.std.proofs.Common.{◌≡◌, is_some, drop}
-use Rattle.desk_model.specs.History.{said, first_of}
-use Rattle.desk_model.specs.Duty.{closes}
+use Rattle.desk_model.specs.histories.History.{said, first_of}
+use Rattle.desk_model.specs.histories.Duty.{closes}
 use Rattle.plain_core.proofs.duty.is_closed.Given as goal
 
 abbrev pub invariant-loop-entry : goal.invariant-loop-entry

@@ -1,8 +1,8 @@
 use Rattle.std.proofs.Common.{◌≡◌, ℕ, max, unwrap_or, take, refl, sym, ap, ◌∙◌, arith}
 use Rattle.std.proofs.lemmas.List.{take_all}
-use Rattle.desk_model.specs.Opening.{OpeningValue}
-use Rattle.desk_model.specs.History.{history_of, opened, steps, said}
-use Rattle.desk_model.specs.Held.{hold_told, hold_end}
+use Rattle.desk_model.specs.statements.Opening.{OpeningValue}
+use Rattle.desk_model.specs.histories.History.{history_of, opened, steps, said}
+use Rattle.desk_model.specs.offers.Held.{hold_told, hold_end}
 use Rattle.desk_model.proofs.ComesLemmas.{comes}
 use Rattle.plain_core.proofs.PrefixLemmas.{one_more}
 use Rattle.plain_core.proofs.held.hold_end.Goals as goal

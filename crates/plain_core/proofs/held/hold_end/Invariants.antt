@@ -1,7 +1,7 @@
 use Rattle.std.proofs.Common.{◌≡◌, take}
-use Rattle.desk_model.specs.Opening.{OpeningValue}
-use Rattle.desk_model.specs.History.{history_of}
-use Rattle.desk_model.specs.Held.{hold_end}
+use Rattle.desk_model.specs.statements.Opening.{OpeningValue}
+use Rattle.desk_model.specs.histories.History.{history_of}
+use Rattle.desk_model.specs.offers.Held.{hold_end}
 use Rattle.plain_core.proofs.held.hold_end.Given as goal
 
 abbrev pub invariant-loop-i : goal.invariant-loop-i

@@ -1,7 +1,7 @@
 use Rattle.std.proofs.Common.{◌≡◌, drop}
 use Rattle.std.specs.Option.{option_or}
-use Rattle.desk_model.specs.History.{last_of}
-use Rattle.desk_model.specs.Offers.{offered_to}
+use Rattle.desk_model.specs.histories.History.{last_of}
+use Rattle.desk_model.specs.offers.Offers.{offered_to}
 use Rattle.plain_core.proofs.offers.last_offered.Given as goal
 
 abbrev pub invariant-loop-entry : goal.invariant-loop-entry

@@ -1,5 +1,5 @@
 use Rattle.std.proofs.Common.{None, Some, sym, ◌∙◌}
-use Rattle.desk_model.specs.Offers.{offer_said}
+use Rattle.desk_model.specs.offers.Offers.{offer_said}
 use Rattle.plain_core.proofs.PrefixLemmas.{last_of-back}
 use Rattle.plain_core.proofs.offers.open_offer.Goals as goal
 

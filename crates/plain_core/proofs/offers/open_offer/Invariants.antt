@@ -1,6 +1,6 @@
 use Rattle.std.proofs.Common.{◌≡◌, None, unwrap_or, take}
-use Rattle.desk_model.specs.History.{last_of}
-use Rattle.desk_model.specs.Offers.{offer_said}
+use Rattle.desk_model.specs.histories.History.{last_of}
+use Rattle.desk_model.specs.offers.Offers.{offer_said}
 use Rattle.plain_core.proofs.offers.open_offer.Given as goal
 
 abbrev pub invariant-loop-i : goal.invariant-loop-i

@@ -1,9 +1,9 @@
 use Rattle.std.proofs.Common.{refl, sym, ap, ◌∙◌, arith, take}
 use Rattle.std.proofs.lemmas.List.{take_all}
 use Rattle.std.specs.Option.{option_or}
-use Rattle.desk_model.specs.History.{history_of, said}
-use Rattle.desk_model.specs.Register.{sets_up, board_of}
-use Rattle.desk_model.specs.Boards.{order}
+use Rattle.desk_model.specs.histories.History.{history_of, said}
+use Rattle.desk_model.specs.histories.Register.{sets_up, board_of}
+use Rattle.desk_model.specs.boards.Boards.{order}
 use Rattle.desk_model.proofs.ComesLemmas.{comes}
 use Rattle.plain_core.proofs.PrefixLemmas.{one_more}
 use Rattle.plain_core.proofs.MemberLemmas.{order-opened}

@@ -1,8 +1,8 @@
 use Rattle.std.proofs.Common.{◌≡◌, ◌≤◌, take, vec_len, vec_capacity}
-use Rattle.desk_model.specs.Opening.{OpeningValue}
-use Rattle.desk_model.specs.History.{history_of}
-use Rattle.desk_model.specs.Register.{board_of}
-use Rattle.desk_model.specs.Boards.{order}
+use Rattle.desk_model.specs.statements.Opening.{OpeningValue}
+use Rattle.desk_model.specs.histories.History.{history_of}
+use Rattle.desk_model.specs.histories.Register.{board_of}
+use Rattle.desk_model.specs.boards.Boards.{order}
 use Rattle.plain_core.proofs.order.fill.Given as goal
 
 abbrev pub invariant-loop-i : goal.invariant-loop-i

@@ -1,6 +1,6 @@
 use Rattle.std.proofs.Common.{None, Some, false, unwrap_or, sym, ap, ◌∙◌}
-use Rattle.desk_model.specs.History.{history_of}
-use Rattle.desk_model.specs.Comes.{left_by, sent_last}
+use Rattle.desk_model.specs.histories.History.{history_of}
+use Rattle.desk_model.specs.laws.Comes.{left_by, sent_last}
 use Rattle.plain_core.proofs.MemberLemmas.{followed}
 use Rattle.plain_core.proofs.order.follow.Goals as goal
 

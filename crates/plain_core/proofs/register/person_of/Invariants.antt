@@ -1,6 +1,6 @@
 use Rattle.std.proofs.Common.{◌≡◌, drop}
-use Rattle.desk_model.specs.History.{said, first_of}
-use Rattle.desk_model.specs.Register.{enrols}
+use Rattle.desk_model.specs.histories.History.{said, first_of}
+use Rattle.desk_model.specs.histories.Register.{enrols}
 use Rattle.plain_core.proofs.register.person_of.Given as goal
 
 abbrev pub invariant-loop-entry : goal.invariant-loop-entry

@@ -1,10 +1,10 @@
 use Rattle.std.proofs.Common.{◌≡◌, ℕ, ◌||◌, false, take, refl, sym, ap, ◌∙◌}
 use Rattle.std.proofs.lemmas.List.{take_all}
-use Rattle.desk_model.specs.Opening.{OpeningValue}
-use Rattle.desk_model.specs.History.{history_of, opened, steps}
-use Rattle.desk_model.specs.Assigned.{assigned}
-use Rattle.desk_model.specs.Comes.{assigned_after}
-use Rattle.desk_model.specs.TurnedDown.{has_turned_down}
+use Rattle.desk_model.specs.statements.Opening.{OpeningValue}
+use Rattle.desk_model.specs.histories.History.{history_of, opened, steps}
+use Rattle.desk_model.specs.offers.Assigned.{assigned}
+use Rattle.desk_model.specs.laws.Comes.{assigned_after}
+use Rattle.desk_model.specs.offers.TurnedDown.{has_turned_down}
 use Rattle.desk_model.proofs.ComesLemmas.{comes}
 use Rattle.plain_core.proofs.PrefixLemmas.{one_more}
 use Rattle.plain_core.proofs.turned_down.has_turned_down.Goals as goal

@@ -1,8 +1,8 @@
 use Rattle.std.proofs.Common.{◌≡◌, take}
-use Rattle.desk_model.specs.Opening.{OpeningValue}
-use Rattle.desk_model.specs.History.{history_of}
-use Rattle.desk_model.specs.Assigned.{assigned}
-use Rattle.desk_model.specs.TurnedDown.{has_turned_down}
+use Rattle.desk_model.specs.statements.Opening.{OpeningValue}
+use Rattle.desk_model.specs.histories.History.{history_of}
+use Rattle.desk_model.specs.offers.Assigned.{assigned}
+use Rattle.desk_model.specs.offers.TurnedDown.{has_turned_down}
 use Rattle.plain_core.proofs.turned_down.has_turned_down.Given as goal
 
 abbrev pub invariant-loop-entry : goal.invariant-loop-entry

@@ -1,5 +1,5 @@
 use Rattle.std.proofs.Common.{rules, ap, ◌∙◌}
-use Rattle.desk_model.specs.Offers.{is_of}
+use Rattle.desk_model.specs.offers.Offers.{is_of}
 use Rattle.desk_model.proofs.AssignedLemmas.{assigned-has}
 use Rattle.plain_core.proofs.turned_down.turns_down.Goals as goal
 

@@ -1,7 +1,7 @@
 use Rattle.std.proofs.Common.{◌≡◌, nat_le, ◌≤◌, ◌++◌, ◌∷◌, min, [], take, refl, sym, subst, ap, ◌∙◌, arith}
 use Rattle.std.proofs.lemmas.List.{take_all}
-use Rattle.stretches.specs.Stretch.{has_stretch}
-use Rattle.stretches.specs.Gauge.{Tells}
+use Rattle.duty_events.specs.Stretch.{has_stretch}
+use Rattle.duty_events.specs.Gauge.{Tells}
 use Rattle.duty_events.specs.Allowed.{first_minute, last_minute}
 use Rattle.duty_events.specs.Lists.{last_event, reached, stage_of}
 use Rattle.duty_events.specs.MinuteKind.{is_off_duty}

@@ -1,5 +1,5 @@
 use Rattle.std.proofs.Common.{◌≡◌, min, take}
-use Rattle.stretches.specs.Gauge.{Tells}
+use Rattle.duty_events.specs.Gauge.{Tells}
 use Rattle.duty_events.specs.Lists.{last_event, reached}
 use Rattle.rest_rules.specs.Rest.{is_off}
 use Rattle.rest_rules.proofs.rest.longest_off.Given as goal

@@ -1,7 +1,7 @@
 use Rattle.std.proofs.Common.{length, ap, arith}
 use Rattle.std.specs.Io.KnownBytes.{Appends}
 use Rattle.desk_io.specs.Giving.{AddsFront}
-use Rattle.desk_model.specs.History.{opened}
+use Rattle.desk_model.specs.histories.History.{opened}
 use Rattle.day_replay.proofs.HistoryLemmas.{IsReplay-day, goes_on-length}
 use Rattle.serve_desk.specs.Serve.{served}
 use Rattle.serve_desk.proofs.ServeLemmas.{ServesHistory-served}

@@ -1,6 +1,6 @@
 use Rattle.std.proofs.Common.{◌≡◌, None, map, take}
 use Rattle.crew_call.specs.CrewCalls.{somes}
-use Rattle.desk_model.specs.Journal.{entry_line}
+use Rattle.desk_model.specs.texts.Journal.{entry_line}
 use Rattle.serve_desk.specs.WatchAnswers.{PutsAllOn}
 use Rattle.serve_desk.proofs.watch_crew.put_entries.Given as goal
 

@@ -1,7 +1,7 @@
 use Rattle.std.proofs.Common.{rules, refl, arith, subst}
-use Rattle.desk_model.specs.History.{history_of}
-use Rattle.desk_model.specs.Legal.{IsLegal}
-use Rattle.desk_model.specs.Opening.{OpeningValue}
+use Rattle.desk_model.specs.histories.History.{history_of}
+use Rattle.desk_model.specs.histories.Legal.{IsLegal}
+use Rattle.desk_model.specs.statements.Opening.{OpeningValue}
 use Rattle.serve_desk.proofs.SightLemmas.{SeenSoFar-begins}
 use Rattle.serve_desk.proofs.WatchLemmas.{WatchedSoFar-begins, WatchedSoFar-more, AnswersWatched-few, Watches-ends}
 use Rattle.serve_desk.proofs.watch_line.session_watched.Goals as goal

@@ -1,6 +1,6 @@
 use Rattle.std.proofs.Common.{subst}
 use Rattle.std.proofs.Math.Logic.{∥∥₁_elim}
-use Rattle.desk_model.specs.Legal.{IsLegal}
+use Rattle.desk_model.specs.histories.Legal.{IsLegal}
 use Rattle.board_window.specs.Walls.{FrontValue, history_in}
 use Rattle.board_window.proofs.front.Front.count.Goals as goal
 

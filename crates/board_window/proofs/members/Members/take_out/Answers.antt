@@ -1,6 +1,6 @@
 use Rattle.std.proofs.Common.{rules, ap, ◌∙◌}
 use Rattle.std.proofs.lemmas.Fn.{filter_same}
-use Rattle.desk_model.specs.Comes.{without}
+use Rattle.desk_model.specs.laws.Comes.{without}
 use Rattle.board_window.proofs.members.Members.take_out.Goals as goal
 
 pub returns : goal.returns

@@ -1,6 +1,6 @@
 use Rattle.std.proofs.Common.{◌≤◌, List, [], ◌∷◌, ◌++◌, length, take, refl, ap, sym, ◌∙◌, subst, arith, length-append}
 use mathlib.Core.List.{IsPrefix}
-use Rattle.desk_model.specs.Entry.{EntryValue}
+use Rattle.desk_model.specs.statements.Entry.{EntryValue}
 use Rattle.board_window.proofs.FrontLemmas.{prefix_shorter}
 use Rattle.board_window.proofs.WallLemmas.{prefix_trans, take-next, next-begins}
 use Rattle.board_window.proofs.wall.Wall.show_all.Goals as goal

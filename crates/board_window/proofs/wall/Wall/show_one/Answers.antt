@@ -1,7 +1,7 @@
 use Rattle.std.proofs.Common.{◌≡◌, [], ◌∷◌, ◌++◌, ap, sym, ◌∙◌, subst}
 use Rattle.std.proofs.lemmas.List.{append-nil}
-use Rattle.desk_model.specs.Entry.{EntryValue}
-use Rattle.desk_model.specs.Legal.{IsLegal}
+use Rattle.desk_model.specs.statements.Entry.{EntryValue}
+use Rattle.desk_model.specs.histories.Legal.{IsLegal}
 use Rattle.board_window.specs.Shelves.{IsNextChange}
 use Rattle.board_window.specs.Walls.{FrontValue, front_of, history_in, longer_by}
 use Rattle.board_window.specs.declared.shelf.Shelf.{Shelf}

@@ -1,7 +1,7 @@
 use Rattle.std.proofs.Common.{nat_eq, ap, sym, ◌∙◌, subst}
 use Rattle.indexmap.specs.IndexMap.{get, keys}
-use Rattle.desk_model.specs.History.{said}
-use Rattle.desk_model.specs.Legal.{IsLegal}
+use Rattle.desk_model.specs.histories.History.{said}
+use Rattle.desk_model.specs.histories.Legal.{IsLegal}
 use Rattle.board_window.specs.Becomes.{declines_from}
 use Rattle.board_window.specs.Lists.{head_of}
 use Rattle.board_window.specs.Shows.{AreOffers}

@@ -1,7 +1,7 @@
 use Rattle.std.proofs.Common.{List, nat_eq, sym, subst}
 use Rattle.indexmap.specs.IndexMap.{get, keys}
-use Rattle.desk_model.specs.Entry.{EntryValue}
-use Rattle.desk_model.specs.History.{history_of}
+use Rattle.desk_model.specs.statements.Entry.{EntryValue}
+use Rattle.desk_model.specs.histories.History.{history_of}
 use Rattle.board_window.specs.Shows.{AreOffers}
 use Rattle.board_window.proofs.wall_list.WallList.new.Goals as goal
 

@@ -1,7 +1,7 @@
 use Rattle.std.proofs.Common.{sym, subst}
 use Rattle.std.proofs.Props.{props}
 use Rattle.std.proofs.Math.Logic.{∥∥₁_elim}
-use Rattle.desk_model.specs.History.{history_of}
+use Rattle.desk_model.specs.histories.History.{history_of}
 use Rattle.call_history.proofs.BookLemmas.{stands-next}
 use Rattle.call_history.proofs.book.Book.step.Goals as goal
 

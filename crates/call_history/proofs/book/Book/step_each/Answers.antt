@@ -1,5 +1,5 @@
 use Rattle.std.proofs.Common.{◌∙◌, [], ◌∷◌, ap, arith, length, length-append}
-use Rattle.desk_model.specs.History.{history_of}
+use Rattle.desk_model.specs.histories.History.{history_of}
 use Rattle.call_history.proofs.BookLemmas.{goes-on}
 use Rattle.call_history.proofs.book.Book.step_each.Goals as goal
 

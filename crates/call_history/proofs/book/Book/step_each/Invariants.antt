@@ -1,8 +1,8 @@
 use Rattle.std.proofs.Common.{◌≡◌, ℕ, ◌+◌, ◌<◌, List, length, take, Some}
 use Rattle.std.specs.List.{slice_get}
-use Rattle.desk_model.specs.Statement.{StatedValue}
-use Rattle.desk_model.specs.History.{history_of}
-use Rattle.desk_model.specs.Legal.{history_from}
+use Rattle.desk_model.specs.statements.Statement.{StatedValue}
+use Rattle.desk_model.specs.histories.History.{history_of}
+use Rattle.desk_model.specs.histories.Legal.{history_from}
 use Rattle.call_history.proofs.book.Book.step_each.Given as goal
 
 -- the book goes on with the first commands

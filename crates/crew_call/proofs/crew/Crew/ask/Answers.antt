@@ -1,5 +1,5 @@
 use Rattle.std.proofs.Common.{rules, ◌≡◌, Option, None, Some, IsNone, IfSome, refl, sym, ◌∙◌}
-use Rattle.desk_model.specs.Statement.{StatedValue}
+use Rattle.desk_model.specs.statements.Statement.{StatedValue}
 use Rattle.crew_call.specs.declared.crew_outcome.CrewOutcome.{CrewOutcome}
 use Rattle.crew_call.specs.CrewCalls.{CrewValue, AsksNext, IsOver}
 use Rattle.crew_call.specs.Course.{IsFront, stated_after}

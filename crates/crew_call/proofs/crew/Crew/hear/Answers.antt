@@ -1,5 +1,5 @@
 use Rattle.std.proofs.Common.{◌≡◌, ℕ, List, Some, subst, sym}
-use Rattle.desk_model.specs.Entry.{EntryValue}
+use Rattle.desk_model.specs.statements.Entry.{EntryValue}
 use Rattle.crew_call.specs.CrewCalls.{CrewValue, AsksNext, crew_of}
 use Rattle.crew_call.specs.Course.{IsFront, entries_of, stated_after}
 use Rattle.crew_call.proofs.CourseLemmas.{asked, few-of, front-more}

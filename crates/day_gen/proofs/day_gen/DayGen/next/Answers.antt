@@ -1,7 +1,7 @@
 use Rattle.std.proofs.Common.{◌≡◌, ◌<◌, refl, sym, ap, subst, ◌∙◌, arith}
 use Rattle.std.specs.Option.{option_copied, option_or}
-use Rattle.desk_model.specs.Fits.{IsStated}
-use Rattle.desk_model.specs.Statement.{stated_of}
+use Rattle.desk_model.specs.statements.Fits.{IsStated}
+use Rattle.desk_model.specs.statements.Statement.{stated_of}
 use Rattle.day_gen.specs.Due.{plans}
 use Rattle.day_gen.proofs.NextLemmas.{most_few, day-room, turn-is, due-is, stated-is, kept-on}
 use Rattle.day_gen.proofs.day_gen.DayGen.next.Goals as goal

@@ -2,7 +2,7 @@ use Rattle.std.proofs.Common.{◌≡◌, ℕ, List, [], ◌++◌, ◌∷◌, Som
 use Rattle.std.specs.Option.{option_copied}
 use Rattle.std.proofs.lemmas.List.Splits.{join_with_byte-slice_split}
 use Rattle.desk_base.specs.Parts.{parts_by, parts_after}
-use Rattle.desk_model.specs.Chain.{IsChain, chain_text}
+use Rattle.desk_model.specs.statements.Chain.{IsChain, chain_text}
 use Rattle.desk_model.proofs.ChainLemmas.{boards_are, next_code, next_chain}
 use Rattle.desk_model.proofs.chain.Chain.read.Goals as goal
 use Rattle.desk_model.proofs.chain.Chain.read.Goals.{After-split_once-in-Some, In_default}

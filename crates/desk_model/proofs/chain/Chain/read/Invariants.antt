@@ -1,7 +1,7 @@
 use Rattle.std.proofs.Common.{◌≡◌, ◌+◌, ℕ, Option, Some, None, List, ◌++◌, length, Bor}
 use Rattle.std.specs.Option.{option_copied}
 use Rattle.desk_base.specs.Parts.{parts_by, parts_after}
-use Rattle.desk_model.specs.Chain.{IsChain}
+use Rattle.desk_model.specs.statements.Chain.{IsChain}
 use Rattle.desk_model.proofs.chain.Chain.read.Given as goal
 
 -- the bytes that are left, and one more where a part is left

@@ -1,5 +1,5 @@
 use Rattle.std.proofs.Common.{◌≡◌, take}
-use Rattle.desk_model.specs.Chain.{chain_text}
+use Rattle.desk_model.specs.statements.Chain.{chain_text}
 use Rattle.desk_model.proofs.chain.Chain.write.Given as goal
 
 abbrev pub invariant-loop-code : goal.invariant-loop-code

@@ -1,7 +1,7 @@
 use Rattle.std.proofs.Common.{◌≡◌, false, sym, ap, ◌∙◌, nat_eq, subst}
 use Rattle.std.specs.Str.{bytes_eq}
 use Rattle.indexmap.specs.IndexMap.{get, keys}
-use Rattle.desk_model.specs.History.{is_done, with_entry}
+use Rattle.desk_model.specs.histories.History.{is_done, with_entry}
 use Rattle.desk_register.specs.Persons.{ArePersons}
 use Rattle.desk_register.specs.Vacancies.{AreVacancies}
 use Rattle.desk_register.specs.TurnedDown.{turned_at}

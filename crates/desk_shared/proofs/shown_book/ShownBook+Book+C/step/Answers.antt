@@ -1,6 +1,6 @@
 use Rattle.std.proofs.Common.{List, [], ◌∷◌, ap, sym, ◌∙◌, subst}
 use mathlib.Core.List.{IsPrefix}
-use Rattle.desk_model.specs.Entry.{EntryValue}
+use Rattle.desk_model.specs.statements.Entry.{EntryValue}
 use Rattle.desk_shared.proofs.FrontLemmas.{front-begins}
 use Rattle.desk_shared.proofs.shown_book.«ShownBook+Book+C».step.Goals as goal
 

@@ -1,6 +1,6 @@
 use Rattle.std.proofs.Common.{List, ap, sym, subst}
 use Rattle.std.specs.List.{All}
-use Rattle.desk_model.specs.Entry.{EntryValue}
+use Rattle.desk_model.specs.statements.Entry.{EntryValue}
 use Rattle.turn_gate.specs.Turns.{Knows}
 use Rattle.desk_shared.proofs.shown_desk.ShownDesk.close.Goals as goal
 

@@ -1,7 +1,7 @@
 use Rattle.std.proofs.Common.{◌≡◌, ◌∙◌, ℕ, ◌+◌, Option, Some, [], ◌∷◌, ◌++◌, length, ap, subst, sym, arith, length-append}
 use Rattle.board_window.specs.declared.showing.Showing.{Showing}
 use Rattle.crew_call.specs.CrewCalls.{CrewValue, crew_of}
-use Rattle.desk_model.specs.Entry.{EntryValue}
+use Rattle.desk_model.specs.statements.Entry.{EntryValue}
 use Rattle.turn_gate.specs.Seats.{GateValue, SeatValue, IsSeatOf}
 use Rattle.desk_shared.specs.Crews.{IsCall, MakesCalls}
 use Rattle.desk_shared.specs.Shown.{ShowsTo}

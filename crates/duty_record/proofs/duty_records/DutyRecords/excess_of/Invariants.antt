@@ -1,6 +1,6 @@
 use Rattle.std.proofs.Common.{◌≡◌, take}
 use Rattle.std.specs.List.{flat_map}
-use Rattle.desk_model.specs.History.{History}
+use Rattle.desk_model.specs.histories.History.{History}
 use Rattle.duty_record.specs.Tours.{excess_of}
 use Rattle.duty_record.specs.Kept.{Keeps}
 use Rattle.duty_record.proofs.duty_records.DutyRecords.excess_of.Given as goal

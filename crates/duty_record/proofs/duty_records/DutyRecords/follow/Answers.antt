@@ -1,9 +1,9 @@
 use Rattle.std.proofs.Common.{◌∙◌, sym}
 use Rattle.std.proofs.lemmas.Result.{MatchResult-weaker}
 use Rattle.desk_model.specs.declared.command.Cmd.TheVariants as cmd
-use Rattle.desk_model.specs.Assigned.{assigned}
+use Rattle.desk_model.specs.offers.Assigned.{assigned}
 use Rattle.duty_record.specs.Deeds.{deeds}
-use Rattle.desk_model.specs.Register.{vacancy_of}
+use Rattle.desk_model.specs.histories.Register.{vacancy_of}
 use Rattle.duty_record.proofs.ReadLemmas.{keeps-done, follows-past, follows-report, follows-event, follows-accept, follows-drop, follows-annul, follows-made, follows-other}
 use Rattle.duty_record.proofs.duty_records.DutyRecords.follow.Goals as goal
 

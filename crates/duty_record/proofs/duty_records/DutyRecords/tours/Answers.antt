@@ -1,6 +1,6 @@
 use Rattle.std.proofs.Common.{◌≡◌, Some, None, nat_eq, rules, subst, sym, ap, ◌∙◌, map}
 use Rattle.indexmap.specs.IndexMap.{get}
-use Rattle.desk_model.specs.Register.{vacancy_of}
+use Rattle.desk_model.specs.histories.Register.{vacancy_of}
 use Rattle.duty_record.specs.Deeds.{deeds}
 use Rattle.duty_record.specs.EndedTours.{ended_tours}
 use Rattle.duty_record.specs.Tours.{tours}

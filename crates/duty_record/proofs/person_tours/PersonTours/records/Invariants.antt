@@ -1,5 +1,5 @@
 use Rattle.std.proofs.Common.{◌≡◌, ℕ, Option, List, map, take}
-use Rattle.desk_model.specs.Job.{JobValue}
+use Rattle.desk_model.specs.statements.Job.{JobValue}
 use Rattle.duty_record.specs.Deeds.{Deed}
 use Rattle.duty_record.specs.EndedTours.{ended_tours}
 use Rattle.duty_record.specs.Kept.{marked_record, IsOf, AreMarks}

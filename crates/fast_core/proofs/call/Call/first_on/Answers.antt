@@ -1,7 +1,7 @@
 use Rattle.std.proofs.Common.{sym, ap, ◌∙◌}
 use Rattle.std.specs.List.{find}
-use Rattle.desk_model.specs.Boards.{links}
-use Rattle.desk_model.specs.Bars.{is_free}
+use Rattle.desk_model.specs.boards.Boards.{links}
+use Rattle.desk_model.specs.offers.Bars.{is_free}
 use Rattle.fast_core.proofs.PlaceLemmas.{order-nowhere}
 use Rattle.fast_core.proofs.SearchLemmas.{call-first, call-steps, found-some, found-none}
 use Rattle.fast_core.proofs.call.Call.first_on.Goals as goal

@@ -1,5 +1,5 @@
 use Rattle.std.proofs.Common.{sym}
-use Rattle.desk_model.specs.Bars.{facts_of}
+use Rattle.desk_model.specs.offers.Bars.{facts_of}
 use Rattle.fast_core.proofs.candidate.Candidate.busy_bar.Goals as goal
 
 pub returns : goal.returns

@@ -1,9 +1,9 @@
 use Rattle.std.proofs.Common.{◌≡◌, Some, sym, ap, subst, ◌∙◌}
 use Rattle.std.proofs.lemmas.Option.{same_Some}
-use Rattle.desk_model.specs.Register.{persons}
+use Rattle.desk_model.specs.histories.Register.{persons}
 use Rattle.desk_register.specs.Among.{place_among}
 use Rattle.desk_register.specs.Persons.{IsPerson, person_numbers, person_under}
-use Rattle.desk_duty.specs.Clocks.{IsClock}
+use Rattle.desk_state.specs.Clocks.{IsClock}
 use Rattle.fast_core.proofs.crew.Crew.candidate.Goals as goal
 
 pub returns : goal.returns

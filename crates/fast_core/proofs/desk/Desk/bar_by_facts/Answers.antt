@@ -3,8 +3,8 @@ use Rattle.std.specs.Option.{option_or}
 use Rattle.denial_rules.specs.declared.bar.Bar.{Bar}
 use Rattle.denial_rules.specs.declared.facts.Facts.{Facts}
 use Rattle.denial_rules.specs.Table.{first_bar, without_law}
-use Rattle.desk_model.specs.Held.{held}
-use Rattle.desk_model.specs.Bars.{facts_of}
+use Rattle.desk_model.specs.offers.Held.{held}
+use Rattle.desk_model.specs.offers.Bars.{facts_of}
 use Rattle.fast_core.proofs.desk.Desk.bar_by_facts.Goals as goal
 
 -- what is found by the facts that are known but for the law is found before the law's bar

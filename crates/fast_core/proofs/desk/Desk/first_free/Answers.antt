@@ -1,8 +1,8 @@
 use Rattle.std.proofs.Common.{sym, ap, ◌∙◌, arith}
 use Rattle.std.specs.List.{find}
 use Rattle.std.proofs.Math.ListN.{drop_of_length-le}
-use Rattle.desk_model.specs.Boards.{chain}
-use Rattle.desk_model.specs.Bars.{is_free}
+use Rattle.desk_model.specs.boards.Boards.{chain}
+use Rattle.desk_model.specs.offers.Bars.{is_free}
 use Rattle.desk_answers.proofs.ChainLemmas.{find-chain-here, find-chain-past}
 use Rattle.fast_core.specs.Search.{chain_steps}
 use Rattle.fast_core.proofs.SearchLemmas.{chain_steps-next, searched-more}

@@ -1,8 +1,8 @@
 use Rattle.std.proofs.Common.{◌≡◌, ◌≤◌, ◌+◌, drop}
 use Rattle.std.specs.List.{find}
-use Rattle.desk_model.specs.History.{History}
-use Rattle.desk_model.specs.Boards.{chain}
-use Rattle.desk_model.specs.Bars.{is_free}
+use Rattle.desk_model.specs.histories.History.{History}
+use Rattle.desk_model.specs.boards.Boards.{chain}
+use Rattle.desk_model.specs.offers.Bars.{is_free}
 use Rattle.fast_core.specs.Desk.{Tells}
 use Rattle.fast_core.specs.Judged.{IsJobAsked}
 use Rattle.fast_core.specs.Search.{HasSearched, chain_steps}

@@ -1,6 +1,6 @@
 use Rattle.std.proofs.Common.{◌≡◌, ◌+◌, ◌∷◌, drop, sym, ap, ◌∙◌, arith}
 use Rattle.std.proofs.lemmas.List.{at_drop_more}
-use Rattle.desk_model.specs.Held.{hold_end}
+use Rattle.desk_model.specs.offers.Held.{hold_end}
 use Rattle.fast_core.proofs.desk.Desk.hold_end.Goals as goal
 
 pub loop-board-preserved : goal.loop-board-preserved

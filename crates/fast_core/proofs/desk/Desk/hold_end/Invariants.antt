@@ -1,7 +1,7 @@
 use Rattle.std.proofs.Common.{◌≡◌, ℕ, Some, max, drop}
-use Rattle.desk_model.specs.History.{History}
-use Rattle.desk_model.specs.Held.{hold_end}
-use Rattle.desk_model.specs.Register.{persons}
+use Rattle.desk_model.specs.histories.History.{History}
+use Rattle.desk_model.specs.offers.Held.{hold_end}
+use Rattle.desk_model.specs.histories.Register.{persons}
 use Rattle.desk_register.specs.Among.{place_among}
 use Rattle.fast_core.specs.Desk.{Tells}
 use Rattle.fast_core.proofs.desk.Desk.hold_end.Given as goal

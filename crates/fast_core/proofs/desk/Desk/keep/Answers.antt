@@ -1,9 +1,9 @@
 use Rattle.std.proofs.Common.{◌≡◌, ℕ, Some, sym, ap, ◌∙◌}
-use Rattle.desk_model.specs.History.{with_entry, said}
-use Rattle.desk_model.specs.Register.{persons}
+use Rattle.desk_model.specs.histories.History.{with_entry, said}
+use Rattle.desk_model.specs.histories.Register.{persons}
 use Rattle.desk_model.proofs.LegalLemmas.{legal-with}
 use Rattle.desk_register.specs.Among.{place_among}
-use Rattle.desk_lists.specs.Lists.{mover}
+use Rattle.desk_state.specs.Lists.{mover}
 use Rattle.fast_core.proofs.KeepLemmas.{decliner-mover, persons-moved}
 use Rattle.fast_core.proofs.desk.Desk.keep.Goals as goal
 

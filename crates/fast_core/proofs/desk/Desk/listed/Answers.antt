@@ -1,5 +1,5 @@
 use Rattle.std.proofs.Common.{◌≤◌, length, ap, arith}
-use Rattle.desk_model.specs.Boards.{chain}
+use Rattle.desk_model.specs.boards.Boards.{chain}
 use Rattle.desk_answers.proofs.ChainLemmas.{length-chain-next}
 use Rattle.fast_core.proofs.desk.Desk.listed.Goals as goal
 

@@ -1,6 +1,6 @@
 use Rattle.std.proofs.Common.{◌≡◌, ◌+◌, length, drop}
-use Rattle.desk_model.specs.History.{History}
-use Rattle.desk_model.specs.Boards.{chain}
+use Rattle.desk_model.specs.histories.History.{History}
+use Rattle.desk_model.specs.boards.Boards.{chain}
 use Rattle.fast_core.specs.Desk.{Tells}
 use Rattle.fast_core.proofs.desk.Desk.listed.Given as goal
 

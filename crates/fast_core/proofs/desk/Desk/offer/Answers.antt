@@ -2,9 +2,9 @@ use Rattle.std.proofs.Common.{◌+◌, sym, ap, subst, ◌∙◌}
 use Rattle.std.specs.List.{slice_get}
 use Rattle.std.specs.Option.{option_copied}
 use Rattle.desk_register.specs.Boards.{board_codes}
-use Rattle.desk_model.specs.Register.{boards}
-use Rattle.desk_model.specs.Offers.{open_offer}
-use Rattle.desk_offers.specs.OpenOffers.{IsOffer}
+use Rattle.desk_model.specs.histories.Register.{boards}
+use Rattle.desk_model.specs.offers.Offers.{open_offer}
+use Rattle.desk_state.specs.OpenOffers.{IsOffer}
 use Rattle.fast_core.proofs.OfferLemmas.{offer-is, made-some}
 use Rattle.fast_core.proofs.desk.Desk.offer.Goals as goal
 

@@ -1,6 +1,6 @@
 use Rattle.std.proofs.Common.{nat_eq, sym, ap, ◌∙◌}
-use Rattle.desk_model.specs.Boards.{chain}
-use Rattle.desk_model.specs.ExplainAnswer.{place_in}
+use Rattle.desk_model.specs.boards.Boards.{chain}
+use Rattle.desk_model.specs.answers.ExplainAnswer.{place_in}
 use Rattle.desk_answers.proofs.ChainLemmas.{find-chain-here, find-chain-past}
 use Rattle.fast_core.proofs.desk.Desk.place_in.Goals as goal
 

@@ -1,7 +1,7 @@
 use Rattle.std.proofs.Common.{◌≡◌, drop}
-use Rattle.desk_model.specs.ExplainAnswer.{place_in}
-use Rattle.desk_model.specs.History.{History}
-use Rattle.desk_model.specs.Boards.{chain}
+use Rattle.desk_model.specs.answers.ExplainAnswer.{place_in}
+use Rattle.desk_model.specs.histories.History.{History}
+use Rattle.desk_model.specs.boards.Boards.{chain}
 use Rattle.fast_core.specs.Desk.{Tells}
 use Rattle.fast_core.proofs.desk.Desk.place_in.Given as goal
 

@@ -1,8 +1,8 @@
 use Rattle.std.proofs.Common.{◌≡◌, ℕ, None, false, nat_eq, List, sym, ◌∙◌}
 use Rattle.std.specs.List.{find}
-use Rattle.desk_model.specs.History.{History}
-use Rattle.desk_model.specs.Boards.{is_on, links, order}
-use Rattle.desk_model.specs.Rank.{IsByRank}
+use Rattle.desk_model.specs.histories.History.{History}
+use Rattle.desk_model.specs.boards.Boards.{is_on, links, order}
+use Rattle.desk_model.specs.boards.Rank.{IsByRank}
 use Rattle.fast_core.proofs.PlaceLemmas.{off-nobody, off-nowhere, not-linked}
 use Rattle.fast_core.proofs.desk.Desk.place_on.Goals as goal
 

@@ -1,4 +1,4 @@
-use Rattle.desk_model.specs.History.{with_entry}
+use Rattle.desk_model.specs.histories.History.{with_entry}
 use Rattle.fast_core.proofs.CoreLemmas.{answered-next, some-later}
 use Rattle.fast_core.proofs.fast_core.FastCore.step_counted.Goals as goal
 

@@ -1,6 +1,6 @@
 use Rattle.std.proofs.Common.{◌≡◌, ◌+◌, ◌≤◌, ◌<◌, ◌^◌, [], ◌∷◌, ◌++◌, refl, sym, subst, ap, ◌∙◌, arith}
 use Rattle.std.specs.Option.{option_or}
-use Rattle.stretches.specs.Gauge.{Tells}
+use Rattle.duty_events.specs.Gauge.{Tells}
 use Rattle.desk_base.specs.Day.{day_of}
 use Rattle.duty_events.specs.Allowed.{first_minute, last_minute}
 use Rattle.duty_events.specs.EndedTours.{last_tour, end_of}
@@ -15,7 +15,7 @@ use Rattle.duty_events.proofs.PlaceLemmas.{place_of-behind}
 use Rattle.consecutive_days.specs.Days.{is_away, is_off_at_home}
 use Rattle.consecutive_days.proofs.HomeLemmas.{at_home-stays, at_home-until, at_home-own}
 use Rattle.person_clock.specs.Rest.{end_after}
-use Rattle.stretches.proofs.GaugeLemmas.{tells-same}
+use Rattle.duty_events.proofs.GaugeLemmas.{tells-same}
 use Rattle.person_clock.proofs.RestLemmas.{last_end-push}
 use Rattle.person_clock.proofs.DaysLemmas.{counts-push, end-within}
 use Rattle.person_clock.proofs.days_clock.DaysClock.after.Goals as goal

@@ -1,7 +1,7 @@
 use Rattle.std.proofs.Common.{◌≡◌, nat_le, refl, subst, ◌∙◌, arith}
 use Rattle.duty_events.specs.EndedTours.{last_tour, end_of}
-use Rattle.stretches.specs.Gauge.{Tells}
-use Rattle.stretches.specs.Stretch.{has_stretch}
+use Rattle.duty_events.specs.Gauge.{Tells}
+use Rattle.duty_events.specs.Stretch.{has_stretch}
 use Rattle.consecutive_days.specs.Days.{is_off_at_home, TellsOffAtHome}
 use Rattle.duty_events.proofs.OffLemmas.{off-behind}
 use Rattle.consecutive_days.proofs.HomeLemmas.{at_home-behind}

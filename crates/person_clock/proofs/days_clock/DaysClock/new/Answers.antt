@@ -1,5 +1,5 @@
 use Rattle.std.proofs.Common.{[], refl, sym, ap, subst}
-use Rattle.stretches.specs.Gauge.{Tells}
+use Rattle.duty_events.specs.Gauge.{Tells}
 use Rattle.duty_events.specs.EndedTours.{end_of}
 use Rattle.duty_events.proofs.EndedTourLemmas.{last_tour-nil}
 use Rattle.duty_events.proofs.PlaceLemmas.{place_of-nil}

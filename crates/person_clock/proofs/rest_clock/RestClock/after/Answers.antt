@@ -12,7 +12,7 @@ use Rattle.rest_rules.specs.OffFrom.{off_from, end_after}
 use Rattle.rest_rules.specs.Rest.{is_off}
 use Rattle.rest_rules.proofs.OffFromLemmas.{off_from-is, off_from-most, off_from-push}
 use Rattle.person_clock.specs.Rest.{GaugesOff, excess_after}
-use Rattle.stretches.proofs.GaugeLemmas.{tells-same}
+use Rattle.duty_events.proofs.GaugeLemmas.{tells-same}
 use Rattle.person_clock.specs.Clock.{minute_of}
 use Rattle.person_clock.proofs.RestLemmas.{minute_of-latest, off-known, worked-not_off, after-least, idle-until, last_end-most, last_end-push, ended-late, excess-push}
 use Rattle.person_clock.proofs.rest_clock.RestClock.after.Goals as goal

@@ -1,7 +1,7 @@
 use Rattle.std.proofs.Common.{◌≡◌, ◌+◌, nat_le, refl, ap, ◌∙◌, arith}
 use Rattle.duty_events.specs.EndedTours.{last_tour, end_of}
 use Rattle.duty_events.proofs.EventLemmas.{reached-years}
-use Rattle.stretches.specs.Stretch.{has_stretch}
+use Rattle.duty_events.specs.Stretch.{has_stretch}
 use Rattle.rest_rules.specs.declared.rest.TheConstants.{REST}
 use Rattle.rest_rules.specs.Excess.{excess}
 use Rattle.rest_rules.specs.OffFrom.{off_from}

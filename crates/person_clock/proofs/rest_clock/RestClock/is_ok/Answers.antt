@@ -1,8 +1,8 @@
 use Rattle.std.proofs.Common.{◌≡◌, ◌+◌, nat_le, refl, subst, ◌∙◌, arith}
 use Rattle.duty_events.specs.EndedTours.{last_tour, end_of}
 use Rattle.duty_events.proofs.OffLemmas.{off-unless_worked}
-use Rattle.stretches.specs.Gauge.{Tells}
-use Rattle.stretches.specs.Stretch.{has_stretch}
+use Rattle.duty_events.specs.Gauge.{Tells}
+use Rattle.duty_events.specs.Stretch.{has_stretch}
 use Rattle.rest_rules.specs.declared.rest.TheConstants.{REST}
 use Rattle.rest_rules.specs.Rest.{is_off, was_off}
 use Rattle.rest_rules.proofs.OffFromLemmas.{off_from-is, off_from-most}

@@ -1,5 +1,5 @@
 use Rattle.std.proofs.Common.{◌≤◌, subst, arith}
-use Rattle.stretches.specs.Gauge.{Tells}
+use Rattle.duty_events.specs.Gauge.{Tells}
 use Rattle.person_clock.proofs.rest_clock.RestClock.with_end.Goals as goal
 
 pub returns-in-Some-clause-gauges : goal.returns-in-Some-clause-gauges

@@ -1,7 +1,7 @@
 use Rattle.std.proofs.Common.{◌≡◌, ◌≤◌, ◌+◌, ◌*◌, length, drop, vec_capacity}
 use Rattle.desk_model.specs.declared.limits.TheConstants.{MEMBER_LIMIT}
-use Rattle.desk_model.specs.History.{History}
-use Rattle.desk_model.specs.Boards.{chain}
+use Rattle.desk_model.specs.histories.History.{History}
+use Rattle.desk_model.specs.boards.Boards.{chain}
 use Rattle.plain_core.specs.Kept.{IsKept}
 use Rattle.plain_core.specs.Room.{HasRoom}
 use Rattle.plain_core.proofs.kept.Kept.count_listed.Given as goal

@@ -1,6 +1,6 @@
 use Rattle.std.proofs.Common.{◌<◌, ◌^◌, sym, subst}
-use Rattle.desk_model.specs.History.{history_of}
-use Rattle.desk_model.specs.Held.{hold_end}
+use Rattle.desk_model.specs.histories.History.{history_of}
+use Rattle.desk_model.specs.offers.Held.{hold_end}
 use Rattle.plain_core.proofs.KeptLemmas.{hold_end-kept}
 use Rattle.plain_core.proofs.kept.Kept.facts_of.Goals as goal
 

@@ -1,7 +1,7 @@
 use Rattle.std.proofs.Common.{◌≡◌, sym, ap, subst, ◌∙◌}
 use Rattle.duty_events.specs.Lists.{IsLawful}
-use Rattle.desk_model.specs.History.{history_of}
-use Rattle.desk_model.specs.Duty.{events}
+use Rattle.desk_model.specs.histories.History.{history_of}
+use Rattle.desk_model.specs.histories.Duty.{events}
 use Rattle.desk_model.proofs.EventLemmas.{lawful-events}
 use Rattle.plain_core.proofs.kept.Kept.fill_events.Goals as goal
 use Rattle.plain_core.proofs.kept.Kept.fill_events.Goals.{After-gather}

@@ -1,6 +1,6 @@
 use Rattle.std.proofs.Common.{◌≡◌, sym, ap, ◌∙◌, arith, length}
-use Rattle.desk_model.specs.History.{history_of}
-use Rattle.desk_model.specs.Boards.{order}
+use Rattle.desk_model.specs.histories.History.{history_of}
+use Rattle.desk_model.specs.boards.Boards.{order}
 use Rattle.plain_core.proofs.KeptLemmas.{length-kept}
 use Rattle.plain_core.proofs.kept.Kept.fill_members.Goals as goal
 use Rattle.plain_core.proofs.kept.Kept.fill_members.Goals.{After-fill}

@@ -1,8 +1,8 @@
 use Rattle.std.proofs.Common.{sym, ap, ◌∙◌, arith}
 use Rattle.std.specs.List.{find}
 use Rattle.desk_model.specs.declared.link.Link.{Link}
-use Rattle.desk_model.specs.Boards.{links, chain}
-use Rattle.desk_model.specs.Bars.{is_free}
+use Rattle.desk_model.specs.boards.Boards.{links, chain}
+use Rattle.desk_model.specs.offers.Bars.{is_free}
 use Rattle.desk_answers.proofs.ChainLemmas.{find-chain-here, find-chain-past}
 use Rattle.plain_core.proofs.kept.Kept.first_free_in.Goals as goal
 

@@ -1,6 +1,6 @@
 use Rattle.std.proofs.Common.{sym, ◌∙◌, arith}
 use Rattle.desk_model.specs.declared.link.Link.{Link}
-use Rattle.desk_model.specs.Bars.{is_free}
+use Rattle.desk_model.specs.offers.Bars.{is_free}
 use Rattle.plain_core.proofs.MemberLemmas.{find-links-here, find-links-past}
 use Rattle.plain_core.proofs.kept.Kept.first_free_on.Goals as goal
 

@@ -1,8 +1,8 @@
 use Rattle.std.proofs.Common.{◌≡◌, ◌+◌, drop, vec_capacity}
 use Rattle.std.specs.List.{find}
-use Rattle.desk_model.specs.History.{History}
-use Rattle.desk_model.specs.Boards.{links}
-use Rattle.desk_model.specs.Bars.{is_free}
+use Rattle.desk_model.specs.histories.History.{History}
+use Rattle.desk_model.specs.boards.Boards.{links}
+use Rattle.desk_model.specs.offers.Bars.{is_free}
 use Rattle.plain_core.specs.Kept.{IsKept}
 use Rattle.plain_core.proofs.kept.Kept.first_free_on.Given as goal
 

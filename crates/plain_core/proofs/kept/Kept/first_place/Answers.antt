@@ -1,6 +1,6 @@
 use Rattle.std.proofs.Common.{nat_eq, sym, ap, ◌∙◌, arith}
-use Rattle.desk_model.specs.Boards.{links, chain}
-use Rattle.desk_model.specs.ExplainAnswer.{place_in}
+use Rattle.desk_model.specs.boards.Boards.{links, chain}
+use Rattle.desk_model.specs.answers.ExplainAnswer.{place_in}
 use Rattle.desk_answers.proofs.ChainLemmas.{find-chain-here, find-chain-past}
 use Rattle.plain_core.proofs.kept.Kept.first_place.Goals as goal
 

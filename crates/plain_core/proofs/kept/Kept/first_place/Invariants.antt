@@ -1,7 +1,7 @@
 use Rattle.std.proofs.Common.{◌≡◌, drop, vec_capacity}
-use Rattle.desk_model.specs.ExplainAnswer.{place_in}
-use Rattle.desk_model.specs.History.{History}
-use Rattle.desk_model.specs.Boards.{chain}
+use Rattle.desk_model.specs.answers.ExplainAnswer.{place_in}
+use Rattle.desk_model.specs.histories.History.{History}
+use Rattle.desk_model.specs.boards.Boards.{chain}
 use Rattle.plain_core.specs.Kept.{IsKept}
 use Rattle.plain_core.specs.Room.{HasRoom}
 use Rattle.plain_core.proofs.kept.Kept.first_place.Given as goal

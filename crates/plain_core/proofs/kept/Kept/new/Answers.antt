@@ -1,6 +1,6 @@
 use Rattle.std.proofs.Common.{sym, subst}
-use Rattle.desk_model.specs.History.{history_of, opened}
-use Rattle.desk_model.specs.Legal.{IsLegal}
+use Rattle.desk_model.specs.histories.History.{history_of, opened}
+use Rattle.desk_model.specs.histories.Legal.{IsLegal}
 use Rattle.desk_model.proofs.LegalLemmas.{legal-opened}
 use Rattle.plain_core.specs.Kept.{IsKept}
 use Rattle.plain_core.proofs.KeptLemmas.{kept-opened}

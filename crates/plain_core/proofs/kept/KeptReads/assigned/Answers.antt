@@ -1,7 +1,7 @@
 use Rattle.std.proofs.Common.{fold, None, refl, sym, ap, ◌∙◌}
-use Rattle.desk_model.specs.History.{History}
-use Rattle.desk_model.specs.Assigned.{assigned}
-use Rattle.desk_model.specs.Comes.{assigned_after}
+use Rattle.desk_model.specs.histories.History.{History}
+use Rattle.desk_model.specs.offers.Assigned.{assigned}
+use Rattle.desk_model.specs.laws.Comes.{assigned_after}
 use Rattle.desk_model.proofs.AssignedLemmas.{assigned-comes}
 use Rattle.plain_core.proofs.PrefixLemmas.{is-fold}
 use Rattle.plain_core.proofs.kept.KeptReads.assigned.Goals as goal

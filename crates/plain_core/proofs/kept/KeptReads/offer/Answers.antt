@@ -1,7 +1,7 @@
 use Rattle.std.proofs.Common.{None, IfSome, unwrap_or, sym, ap, subst, ◌∙◌}
 use Rattle.desk_base.specs.Minute.{IsInYears}
-use Rattle.desk_model.specs.History.{last_of}
-use Rattle.desk_model.specs.Offers.{offer_said}
+use Rattle.desk_model.specs.histories.History.{last_of}
+use Rattle.desk_model.specs.offers.Offers.{offer_said}
 use Rattle.plain_core.proofs.KeptLemmas.{made-kept}
 use Rattle.plain_core.proofs.kept.KeptReads.offer.Goals as goal
 

@@ -1,6 +1,6 @@
 use Rattle.std.proofs.Common.{sym, ap, ◌∙◌}
-use Rattle.desk_model.specs.Offers.{offered_to}
-use Rattle.desk_model.specs.History.{history_of, last_of}
+use Rattle.desk_model.specs.offers.Offers.{offered_to}
+use Rattle.desk_model.specs.histories.History.{history_of, last_of}
 use Rattle.desk_model.proofs.OnOfferLemmas.{while_open, on_offer-last}
 use Rattle.plain_core.proofs.kept.KeptReads.on_offer.Goals as goal
 

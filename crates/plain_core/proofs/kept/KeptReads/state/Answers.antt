@@ -1,7 +1,7 @@
 use Rattle.std.proofs.Common.{fold, sym, ap, ◌∙◌}
 use Rattle.desk_model.specs.declared.vac_state.VacState.TheVariants as state
-use Rattle.desk_model.specs.History.{History}
-use Rattle.desk_model.specs.Comes.{state_after}
+use Rattle.desk_model.specs.histories.History.{History}
+use Rattle.desk_model.specs.laws.Comes.{state_after}
 use Rattle.desk_model.proofs.StateStepLemmas.{state_of-fold}
 use Rattle.plain_core.proofs.kept.KeptReads.state.Goals as goal
 

@@ -1,6 +1,6 @@
 use Rattle.std.proofs.Common.{sym, subst, arith}
-use Rattle.desk_model.specs.History.{history_of, with_entry}
-use Rattle.desk_model.specs.Legal.{IsLegal, MayState}
+use Rattle.desk_model.specs.histories.History.{history_of, with_entry}
+use Rattle.desk_model.specs.histories.Legal.{IsLegal, MayState}
 use Rattle.plain_core.specs.Kept.{IsKept}
 use Rattle.plain_core.specs.Room.{HasRoom}
 use Rattle.plain_core.proofs.KeptLemmas.{known-next, kept-next}

@@ -1,5 +1,0 @@
-use Rattle.audit_desk.proofs.OneLemmas.{Finds-one}
-use Rattle.audit_desk.proofs.laws.an_audit_finds_one_verdict.Goals as goal
-
-pub returns : goal.returns
-returns c = Finds-one c.a_legal_history_fits.ensures

@@ -1,4 +1,0 @@
-use Rattle.board_cases.proofs.fill_tests.found.Given as goal
-
-abbrev pub ghosts-first_of : goal.ghosts-first_of
-ghosts-first_of a = record { name = a.blank.name; parts = a.blank.parts }

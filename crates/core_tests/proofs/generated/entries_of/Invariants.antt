@@ -1,0 +1,18 @@
+use Rattle.std.proofs.Common.{◌≡◌, ◌≤◌, ◌+◌, ◌-◌}
+use Rattle.day_gen.specs.Due.{last_entry}
+use Rattle.day_gen.specs.Day.{generated_day}
+use Rattle.core_tests.proofs.generated.entries_of.Given as goal
+
+abbrev pub invariant-loop-stated : goal.invariant-loop-stated
+invariant-loop-stated g l = record {
+  edition : l.day.edition ≡ l.fn.day.edition;
+  number : l.day.number ≡ l.fn.day.number;
+  commands : l.day.commands ≡ l.fn.day.commands;
+  few : l.day.given ≤ l.day.commands;
+  room : l.day.commands ≤ l.day.given + g.C.DeskCore.room l.core;
+  last : l.last ≡ last_entry (generated_day l.day.edition l.day.number l.day.given);
+  stands : g.C.DeskCore.stands l.core (generated_day l.day.edition l.day.number l.day.given);
+}
+
+abbrev pub decreases-loop-stated : goal.decreases-loop-stated
+decreases-loop-stated g l = l.day.commands - l.day.given

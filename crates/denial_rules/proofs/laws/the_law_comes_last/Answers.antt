@@ -1,5 +1,0 @@
-use Rattle.denial_rules.proofs.TableLemmas.{first_bar-law}
-use Rattle.denial_rules.proofs.laws.the_law_comes_last.Goals as goal
-
-pub returns : goal.returns
-returns c = first_bar-law

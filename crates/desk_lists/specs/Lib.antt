@@ -1,4 +1,0 @@
-pub mod Places
-pub mod Changes
-pub mod Lists
-pub mod Laws

@@ -1,7 +1,0 @@
-use Rattle.desk_model.specs.Denials.{OffersRightly}
-use Rattle.desk_model.proofs.LegalLemmas.{each-step}
-use Rattle.desk_model.proofs.OfferLemmas.{offers-rightly}
-use Rattle.desk_model.proofs.laws.each_offer_is_right.Goals as goal
-
-pub returns : goal.returns
-returns c h legal = each-step OffersRightly (offers-rightly c.no_bar_where_the_law_is_kept.ensures c.who_is_rested_was_off_ten_hours.ensures) h legal

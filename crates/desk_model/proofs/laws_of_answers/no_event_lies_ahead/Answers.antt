@@ -1,5 +1,0 @@
-use Rattle.desk_model.proofs.AheadLemmas.{latest-over}
-use Rattle.desk_model.proofs.laws_of_answers.no_event_lies_ahead.Goals as goal
-
-pub returns : goal.returns
-returns c = latest-over

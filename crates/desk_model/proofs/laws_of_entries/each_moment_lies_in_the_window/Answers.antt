@@ -1,5 +1,0 @@
-use Rattle.desk_model.proofs.ToldLemmas.{entry-within}
-use Rattle.desk_model.proofs.laws_of_entries.each_moment_lies_in_the_window.Goals as goal
-
-pub returns : goal.returns
-returns c = entry-within

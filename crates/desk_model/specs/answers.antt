@@ -1,0 +1,14 @@
+pub mod BoardAnswer
+pub mod EnrolAnswer
+pub mod EventAnswer
+pub mod ExplainAnswer
+pub mod GiveUpAnswer
+pub mod HoursAnswer
+pub mod ListAnswer
+pub mod LookAnswer
+pub mod MarkAnswer
+pub mod NextAnswer
+pub mod OfferAnswer
+pub mod SettleAnswer
+pub mod UnlistAnswer
+pub mod VacancyAnswer

@@ -1,0 +1,5 @@
+pub mod Duty
+pub mod History
+pub mod Legal
+pub mod Mark
+pub mod Register

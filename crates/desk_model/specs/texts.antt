@@ -1,0 +1,4 @@
+pub mod BarTexts
+pub mod Journal
+pub mod ReplyTexts
+pub mod StatedTexts

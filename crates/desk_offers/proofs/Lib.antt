@@ -1,5 +1,0 @@
-mod PlaceLemmas
-mod HearLemmas
-mod HoldLemmas
-mod FlightLemmas
-mod KeepLemmas

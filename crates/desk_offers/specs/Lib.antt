@@ -1,4 +1,0 @@
-pub mod Told
-pub mod OpenOffers
-pub mod Holds
-pub mod Keeps

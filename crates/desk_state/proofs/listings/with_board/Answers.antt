@@ -1,0 +1,16 @@
+use Rattle.std.proofs.Common.{sym, ◌∙◌}
+use Rattle.std.proofs.lemmas.Bool.{false≢true}
+use Rattle.desk_state.proofs.BitLemmas.{set-board, clear-board, clear-lesser}
+use Rattle.desk_state.proofs.listings.with_board.Goals as goal
+
+pub returns-then-on-clause-has : goal.returns-then-on-clause-has
+returns-then-on-clause-has c j = rw c.if-on.true (set-board c.args.word c.args.board j c.requires)
+
+pub returns-then-on-clause-lesser : goal.returns-then-on-clause-lesser
+returns-then-on-clause-lesser c = λ off has. absurd (false≢true (sym off ∙ c.if-on.true))
+
+pub returns-else-on-clause-has : goal.returns-else-on-clause-has
+returns-else-on-clause-has c j = rw c.if-on.false (clear-board c.args.word c.args.board j c.requires)
+
+pub returns-else-on-clause-lesser : goal.returns-else-on-clause-lesser
+returns-else-on-clause-lesser c = λ off has. clear-lesser c.args.word c.args.board c.requires has

@@ -1,0 +1,10 @@
+pub mod DutyTold
+pub mod Clocks
+pub mod OfferTold
+pub mod OpenOffers
+pub mod Holds
+pub mod Keeps
+pub mod Places
+pub mod Changes
+pub mod Lists
+pub mod Laws

@@ -1,0 +1,80 @@
+ghost use Rattle.std.specs.Prelude.{◌*◌, ◌≤◌, length, vec_capacity, ◌≡◌, ◌<◌, ◌&&◌, ℕ, nat_eq, max, if◌then◌else◌, IfOk, slice_index};
+ghost use Rattle.desk_model.specs.declared.limits.TheConstants.{PERSON_LIMIT, BOARD_LIMIT};
+
+use desk_base::{Minute, NoMemory};
+use desk_model::{BOARD_LIMIT, PERSON_LIMIT};
+use std::alloc::Global;
+
+// Until when each of 1,000 persons is held by each of 64 boards, by their places: the boards of one person after those of
+// another, up to the last place at which somebody is held. There is memory for all.
+#[derive(Drop)]
+pub(crate) struct Holds {
+    pub(crate) ends: Vec<Minute>,
+    ghost few: { length ends.items ≤ PERSON_LIMIT * BOARD_LIMIT },
+    ghost room: { PERSON_LIMIT * BOARD_LIMIT ≤ vec_capacity ends },
+}
+
+impl Holds {
+    ghost use Rattle.desk_state.specs.Holds.{end_at};
+
+    /// No holds; `NoMemory` where there is none for those of 1,000 persons by 64 boards.
+    pub(crate) fn new(alloc: Global) -> Result<Holds, NoMemory>
+        ensures { IfOk result (λ x. (person board : ℕ) → end_at x person board ≡ 0) }
+    {
+        let ends = Vec::with_capacity(alloc, PERSON_LIMIT * BOARD_LIMIT)?;
+        Ok(Holds { ends })
+    }
+
+    /// The same holds again; `NoMemory` where there is none for those of 1,000 persons by 64 boards.
+    pub(crate) fn copy(&self, alloc: Global) -> Result<Holds, NoMemory>
+        ensures { IfOk result (λ x. end_at x ≡ end_at self.now) }
+    {
+        let mut ends = Vec::with_capacity(alloc, PERSON_LIMIT * BOARD_LIMIT)?;
+        ends.extend_from_slice(&self.ends)?;
+        Ok(Holds { ends })
+    }
+
+    /// Until when the person at this place is held by the board at this one; the first minute of all where they aren't, or have
+    /// no such places.
+    pub(crate) fn end(&self, person: usize, board: usize) -> Minute
+        ensures { result ≡ end_at self.now person board }
+    {
+        if person >= PERSON_LIMIT || board >= BOARD_LIMIT {
+            return Minute::FIRST;
+        }
+        match self.ends.get(person * BOARD_LIMIT + board) {
+            Some(end) => *end,
+            None => Minute::FIRST,
+        }
+    }
+
+    // Keeps the ends up to a place, of which those that were not kept are the first minute of all.
+    fn reach(&mut self, place: usize)
+        requires { place < PERSON_LIMIT * BOARD_LIMIT }
+        ensures reached { place < length self.new.ends.items }
+        ensures same { (i : ℕ) → slice_index self.new.ends.items i ≡ slice_index self.old.ends.items i }
+    {
+        if self.ends.len() <= place {
+            let _reached = self.ends.resize(place + 1, Minute::FIRST);
+        }
+    }
+
+    /// Holds the person at this place until then by the board at this one, where they aren't held for longer. Of places that there are
+    /// not nothing is kept.
+    pub(crate) fn hold(&mut self, person: usize, board: usize, until: Minute)
+        ensures held { person < PERSON_LIMIT → board < BOARD_LIMIT → (i j : ℕ) → end_at self.new i j
+            ≡ (if nat_eq person i && nat_eq board j then max (end_at self.old i j) until else end_at self.old i j) }
+        ensures no_person { PERSON_LIMIT ≤ person → self.new ≡ self.old }
+        ensures no_board { BOARD_LIMIT ≤ board → self.new ≡ self.old }
+    {
+        if person >= PERSON_LIMIT || board >= BOARD_LIMIT {
+            return;
+        }
+        let place = person * BOARD_LIMIT + board;
+        self.reach(place);
+        let now = self.ends[place];
+        if now < until {
+            self.ends[place] = until;
+        }
+    }
+}

@@ -1,5 +1,0 @@
-use Rattle.desk_text.proofs.ReplyApartLemmas.{reply_text-one}
-use Rattle.desk_text.proofs.different_replies.different_replies_have_different_texts.Goals as goal
-
-pub returns : goal.returns
-returns c = reply_text-one

@@ -1,2 +1,0 @@
-pub mod StretchLemmas
-pub mod GaugeLemmas

@@ -1,5 +1,0 @@
-use Rattle.stretches.proofs.StretchLemmas.{has_stretch-decides, has_stretch-none}
-use Rattle.stretches.proofs.laws.a_stretch_is_found_where_there_is_one.Goals as goal
-
-pub returns : goal.returns
-returns c = record { found = has_stretch-decides; none = has_stretch-none }

@@ -1,2 +1,0 @@
-pub mod Gauge
-pub mod Stretch
