@@ -78,6 +78,7 @@ outcomes begins ended o known _ later t v w _ legal stand (the_first_is_withdraw
 outcomes begins ended o known _ later t v w _ legal stand (the_first_was_closed e f g p one two stated replied) =
     record {
       before = known ++ stand.0;
+      knew = (stand.0, refl);
       first = e;
       between = stand.1.0 ++ f ∷ stand.1.1.0;
       last = g;

@@ -1,5 +1,5 @@
 -- Crew calls: two vacancies that are called as one outcome.
-use Rattle.std.specs.Prelude.{◌≡◌, ◌≢◌, ℕ, Option, None, Some, List, [], ◌∷◌, ◌++◌}
+use Rattle.std.specs.Prelude.{◌≡◌, ◌≢◌, ⊤, ℕ, Option, None, Some, List, [], ◌∷◌, ◌++◌}
 use Rattle.std.specs.List.{filter_map}
 use Rattle.desk_model.specs.declared.command.Cmd.TheVariants as cmd
 use Rattle.desk_model.specs.declared.reply.Reply.{Reply}
@@ -51,3 +51,9 @@ pub record AsksNext (c : CrewValue) (s : StatedValue) : Type 0 where
 -- those that are there
 abbrev pub somes : List (Option EntryValue) → List EntryValue
 somes entries = filter_map (λ entry. entry) entries
+
+-- it is filled from the front: behind one that isn't there none is
+abbrev pub IsFilled : List (Option EntryValue) → Type 0
+IsFilled [] = ⊤
+IsFilled (Some e ∷ rest) = IsFilled rest
+IsFilled (None ∷ rest) = somes rest ≡ []

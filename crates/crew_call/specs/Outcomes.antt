@@ -1,6 +1,7 @@
 -- What the outcome of a crew call says of the history that its entries stand in.
 use Rattle.std.specs.Prelude.{◌≡◌, ℕ, ⊤, None, Some, List, [], ◌∷◌, ◌++◌}
 use Rattle.std.specs.List.{All}
+use mathlib.Core.List.{IsPrefix}
 use Rattle.desk_model.specs.statements.Opening.{OpeningValue}
 use Rattle.desk_model.specs.statements.Entry.{EntryValue}
 use Rattle.desk_model.specs.histories.History.{history_of}
@@ -20,10 +21,11 @@ StandIn known (e ∷ es) later = (others : List EntryValue) × StandIn ((known +
 abbrev pub IsClosedAt : OpeningValue → List EntryValue → EntryValue → Type 0
 IsClosedAt o later e = (u q : ℕ) → asks_for e.stated.cmd ≡ Some u → person_offered e.reply ≡ Some q → open_offer (history_of o later) u ≡ None
 
--- between the call's first entry, which offered the vacancy to the person, and its last, which could not withdraw that, another entry
--- has ended the offer
-pub record EndedIn (o : OpeningValue) (es later : List EntryValue) (v p : ℕ) : Type 0 where
+-- behind what was known came the call's first entry, which offered the vacancy to the person, and between it and the call's last, which
+-- could not withdraw that, another entry has ended the offer
+pub record EndedIn (o : OpeningValue) (known es later : List EntryValue) (v p : ℕ) : Type 0 where
   pub before : List EntryValue
+  pub knew : IsPrefix known before
   pub first : EntryValue
   pub between : List EntryValue
   pub last : EntryValue
@@ -35,11 +37,11 @@ pub record EndedIn (o : OpeningValue) (es later : List EntryValue) (v p : ℕ) :
 
 -- both were offered by the call's entries, as they show; no offer that the call made is open at its last entry; the first offer was
 -- ended by an entry between
-abbrev pub Says : OpeningValue → List EntryValue → List EntryValue → CrewOutcome → Type 0
-Says o es later (outcome.Both p q) = ⊤
-Says o es later (outcome.Neither u reply) = All (IsClosedAt o later) es
-Says o es later (outcome.Between v p) = EndedIn o es later v p
+abbrev pub Says : OpeningValue → List EntryValue → List EntryValue → List EntryValue → CrewOutcome → Type 0
+Says o known es later (outcome.Both p q) = ⊤
+Says o known es later (outcome.Neither u reply) = All (IsClosedAt o later) es
+Says o known es later (outcome.Between v p) = EndedIn o known es later v p
 
 abbrev pub OutcomesInWords : Type 0
 OutcomesInWords = (o : OpeningValue) (known es later : List EntryValue) (t v w : ℕ) (told : CrewOutcome) → IsLegal (history_of o later) → StandIn known es later
-    → CrewCall t v w es told → Says o es later told
+    → CrewCall t v w es told → Says o known es later told

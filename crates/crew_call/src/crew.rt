@@ -1,7 +1,7 @@
 ghost use Rattle.std.specs.Prelude.{◌≡◌, ◌↔◌, ◌<◌, [], ◌∷◌, ◌++◌, Some, IfSome, IsNone, length};
 ghost use Rattle.desk_base.specs.Minute.{IsInYears};
 ghost use Rattle.crew_call.specs.declared.crew_outcome.CrewOutcome.{CrewOutcome as CrewOutcomeValue};
-ghost use Rattle.crew_call.specs.CrewCalls.{AsksNext, IsOver, crew_of, person_offered, somes};
+ghost use Rattle.crew_call.specs.CrewCalls.{AsksNext, IsFilled, IsOver, crew_of, person_offered, somes};
 ghost use Rattle.crew_call.specs.Course.{IsFront, outcome_after, stated_after};
 
 use crate::crew_outcome::CrewOutcome;
@@ -150,7 +150,8 @@ impl Crew {
 
     /// Its entries so far, filled from the front.
     pub fn entries(&self) -> [Option<Entry>; 3]
-        ensures { somes result ≡ self.now.heard }
+        ensures some { somes result ≡ self.now.heard }
+        ensures front { IsFilled result }
     {
         self.heard.entries()
     }

@@ -1,5 +1,5 @@
 ghost use Rattle.std.specs.Prelude.{◌≡◌, ◌<◌, [], ◌∷◌, ◌++◌, length};
-ghost use Rattle.crew_call.specs.CrewCalls.{somes};
+ghost use Rattle.crew_call.specs.CrewCalls.{IsFilled, somes};
 ghost use Rattle.crew_call.specs.Course.{entries_of};
 
 use desk_model::Entry;
@@ -29,7 +29,8 @@ impl Heard {
 
     /// The entries, filled from the front.
     pub(crate) fn entries(&self) -> [Option<Entry>; 3]
-        ensures { somes result ≡ entries_of self.now }
+        ensures some { somes result ≡ entries_of self.now }
+        ensures front { IsFilled result }
     {
         match self {
             Heard::Nothing => [None, None, None],

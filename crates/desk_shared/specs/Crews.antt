@@ -40,4 +40,4 @@ pub record CallsCrew (o : OpeningValue) (seat later : SeatValue) (t v w : ℕ) (
   pub called : HasCalled seat later es
   pub legal : IsLegal (history_of o later.known)
   pub call : CrewCall t v w es told
-  pub says : Says o es later.known told
+  pub says : Says o seat.known es later.known told

@@ -4,7 +4,7 @@ ghost use Rattle.turn_gate.specs.Told.{told, start_of, IsBookOf};
 ghost use Rattle.turn_gate.specs.Seats.{IsSeatOf, new_seats};
 ghost use Rattle.turn_gate.specs.Turns.{Knows};
 ghost use Rattle.desk_base.specs.Minute.{IsInYears};
-ghost use Rattle.crew_call.specs.CrewCalls.{somes};
+ghost use Rattle.crew_call.specs.CrewCalls.{IsFilled, somes};
 ghost use Rattle.desk_shared.specs.Calls.{Calls};
 ghost use Rattle.desk_shared.specs.Crews.{IsCall, CallsCrew};
 ghost use Rattle.desk_shared.specs.Shown.{IsViewOf, ShowsTo};
@@ -162,6 +162,7 @@ impl<C: DeskCore> ShownDesk<C> {
         requires minute { IsInYears minute }
         ensures calls { IfOk result.outcome
             (λ told. CallsCrew self.now.start.book.opening seat result.seat minute first second (somes result.entries) told) }
+        ensures front { IsFilled result.entries }
         ensures enough { IfOk result.outcome (λ told. seat.calls + 3 ≤ self.now.start.quota) }
         ensures few { IfErr result.outcome (λ few. (few.left < 3) × (seat.calls + few.left ≡ self.now.start.quota)) }
         ensures same { IfErr result.outcome (λ few. (result.seat ≡ seat) × (somes result.entries ≡ [])) }

@@ -35,4 +35,4 @@ pub returns-clause-calls : goal.returns-clause-calls
 returns-clause-calls g c =
     let was = c.loop-stated.invariant.0 in
     CallsCrew-over c.what_an_outcome_says.ensures c.args.self.now.start.book.opening c.args.seat c.loop-stated.seat c.args.minute c.args.first c.args.second c.loop-stated.crew _
-    c.in-Some-outcome.outcome was.minute was.first was.second c.entries.ensures was.made ((c.outcome.ensures c.in-Some-outcome.outcome).1 c.in-Some-outcome.is)
+    c.in-Some-outcome.outcome was.minute was.first was.second c.entries.ensures.some was.made ((c.outcome.ensures c.in-Some-outcome.outcome).1 c.in-Some-outcome.is)
