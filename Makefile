@@ -1,6 +1,6 @@
 # make        proves what the program stands on, a line for each crate, and leaves the program at build/crewdesk
 # make run    does so where needed, and replays an example
-# make try    replays the same example in seconds, for who only wants to look: it proves nothing, and says so
+# make try    replays the same example after a minute, for who only wants to look: it proves nothing, and says so
 # make memory refuses runs of the program each request for memory in turn; it proves nothing, and takes a C compiler
 # make test   the gate: proofs, must-fail edits, tests, examples and other runs, and the tables of promises
 # make costs  what the gate costs from nothing, by crate, in as long as the gate takes
