@@ -15,17 +15,17 @@ use fast_core::FastCore;
 use std::alloc::Global;
 
 /// How many bytes a journal may have.
-pub const BYTE_LIMIT: usize = 268_435_456;
+pub const JOURNAL_BYTES: usize = 268_435_456;
 
 /// How many bytes a journal may have. It does nothing: its clause is the law.
 pub fn the_most_bytes_of_a_journal()
-    ensures { BYTE_LIMIT ≡ 268_435_456 }
+    ensures { JOURNAL_BYTES ≡ 268_435_456 }
 {}
 
 /// What the audit of a journal of at most 268,435,456 bytes finds: each of its lines is read in turn, and a desk answers what
 /// is stated there.
 pub fn audit(alloc: Global, journal: &[u8]) -> Verdict
-    requires { length journal.now ≤ BYTE_LIMIT }
+    requires { length journal.now ≤ JOURNAL_BYTES }
     ensures found { result ≢ Verdict.NoMemory → Finds journal.now result }
     ensures tells { (verdict : VerdictValue) → Finds journal.now verdict → (result ≡ verdict) ⊎ (result ≡ Verdict.NoMemory) }
 {
@@ -35,7 +35,7 @@ pub fn audit(alloc: Global, journal: &[u8]) -> Verdict
 
 // The same, as it is read.
 fn find(alloc: Global, journal: &[u8]) -> Verdict
-    requires { length journal.now ≤ BYTE_LIMIT }
+    requires { length journal.now ≤ JOURNAL_BYTES }
     ensures { result ≢ Verdict.NoMemory → Finds journal.now result }
 {
     match resume(alloc, journal, 0) {
@@ -47,7 +47,7 @@ fn find(alloc: Global, journal: &[u8]) -> Verdict
 /// The desk as it stands behind a journal of at most 268,435,456 bytes, with so many steps more; where the journal isn't legal,
 /// what an audit finds in it.
 pub fn resume(alloc: Global, journal: &[u8], more: u32) -> Result<Resumed, Verdict>
-    requires { length journal.now ≤ BYTE_LIMIT }
+    requires { length journal.now ≤ JOURNAL_BYTES }
     ensures legal { IfOk result (λ resumed.
         Resumes (⟦<FastCore as DeskCore>⟧.stands resumed.core) journal.now resumed.count) }
     ensures room { IfOk result (λ resumed. more ≤ ⟦<FastCore as DeskCore>⟧.room resumed.core) }

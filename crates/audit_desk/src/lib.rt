@@ -9,7 +9,7 @@ mod resumed;
 mod verdict;
 mod verdict_text;
 
-pub use journal::{BYTE_LIMIT, audit, resume, the_most_bytes_of_a_journal};
+pub use journal::{JOURNAL_BYTES, audit, resume, the_most_bytes_of_a_journal};
 pub use lines::first_line;
 pub use outcome::Outcome;
 pub use resumed::Resumed;

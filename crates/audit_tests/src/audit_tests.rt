@@ -1,5 +1,5 @@
 //! What an audit finds in one journal, in that journal cut anywhere, and in others that are wrong.
-use audit_desk::{BYTE_LIMIT, Outcome, Verdict, audit, resume, write_verdict};
+use audit_desk::{JOURNAL_BYTES, Outcome, Verdict, audit, resume, write_verdict};
 use desk_base::{Code, Minute, PersonNo, VacNo};
 use desk_model::{Cmd, DeskCore, Reply, Stated};
 use std::alloc::Global;
@@ -79,7 +79,7 @@ fn with_last(alloc: Global, last: &[u8]) -> Result<Vec<u8>, Fail> {
 
 // What is found in a journal that isn't too long.
 fn verdict_of(alloc: Global, journal: &[u8]) -> Option<Verdict> {
-    if journal.len() > BYTE_LIMIT {
+    if journal.len() > JOURNAL_BYTES {
         return None;
     }
     Some(audit(alloc, journal))

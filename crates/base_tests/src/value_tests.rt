@@ -1,5 +1,5 @@
 //! The clauses say that texts are those of civil dates; these are dates that another calendar computed.
-use desk_base::{Code, Day, Minute, Month, NoMemory, PersonNo, PlaceHints, VacNo, Window};
+use desk_base::{Code, Day, Minute, Month, NoMemory, PersonNo, IndexHints, VacNo, Window};
 use std::alloc::AllocError;
 use std::test::Fail;
 
@@ -168,7 +168,7 @@ fn codes_and_numbers(rt: HostRuntime) -> Result<(), Fail> {
 // Two numbers that are 4,096 apart share a hint.
 #[test]
 fn a_hint_is_where_a_number_was_put_last(rt: HostRuntime) -> Result<(), Fail> {
-    let mut hints = PlaceHints::new(rt.alloc(), 12)?;
+    let mut hints = IndexHints::new(rt.alloc(), 12)?;
     assert!(rt; hints.of(7) == 0);
     hints.set(7, 499);
     assert!(rt; hints.of(7) == 499);
@@ -182,7 +182,7 @@ fn a_hint_is_where_a_number_was_put_last(rt: HostRuntime) -> Result<(), Fail> {
 // With 2^13 hints, numbers that are 4,096 apart have one each, and 8,192 apart share one.
 #[test]
 fn more_hints_are_of_fewer_numbers(rt: HostRuntime) -> Result<(), Fail> {
-    let mut hints = PlaceHints::new(rt.alloc(), 13)?;
+    let mut hints = IndexHints::new(rt.alloc(), 13)?;
     hints.set(7, 499);
     hints.set(4_103, 12);
     assert!(rt; hints.of(7) == 499);

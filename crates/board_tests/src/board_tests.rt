@@ -1,7 +1,7 @@
 //! Boards against lists that are changed by hand.
 ghost use Rattle.std.specs.Prelude.{◌≡◌, ◌<◌, ◌≤◌, IfSome, length, vec_len};
 
-use desk_base::{Code, Minute, PersonNo, PlaceHints};
+use desk_base::{Code, Minute, PersonNo, IndexHints};
 use pool_board::{Board, MOST_MEMBERS};
 use slot_tree::Steps;
 use std::alloc::Global;
@@ -21,7 +21,7 @@ fn minute(number: u64) -> Result<Minute, Fail> {
 #[derive(Drop)]
 struct Kept {
     board: Board,
-    hints: PlaceHints,
+    hints: IndexHints,
 }
 
 fn board(alloc: Global) -> Result<Kept, Fail> {
@@ -66,50 +66,50 @@ fn act_on_board(kept: &mut Kept, number: u32, act: Act) -> Result<(), Fail> {
 }
 
 // The same of the list that a board should stand for.
-fn act_on_list(order: &mut Vec<(u32, u64)>, place: usize, act: Act)
-    requires { place < vec_len order.old }
+fn act_on_list(order: &mut Vec<(u32, u64)>, index: usize, act: Act)
+    requires { index < vec_len order.old }
 {
     match act {
         Act::Unlist => {
-            order.remove(place);
+            order.remove(index);
         }
-        Act::ToBottom => order[place..].rotate_left(1),
+        Act::ToBottom => order[index..].rotate_left(1),
         Act::ToBottomReady(ready) => {
-            order[place].1 = ready;
-            order[place..].rotate_left(1);
+            order[index].1 = ready;
+            order[index..].rotate_left(1);
         }
-        Act::Ready(ready) => order[place].1 = ready,
+        Act::Ready(ready) => order[index].1 = ready,
     }
 }
 
-// The first place that is ready, with a count of steps of its own.
-fn ready_of<L: Ledger>(blank: Blank, board: &Board, place: u16, m: Minute) -> Option<u16>
+// The first position that is ready, with a count of steps of its own.
+fn ready_of<L: Ledger>(blank: Blank, board: &Board, position: u16, m: Minute) -> Option<u16>
     requires name { blank.name ≡ L.name }
     requires parts { blank.parts ≡ L.parts }
     requires some { 0 < blank.parts }
-    requires place { 1 ≤ place }
+    requires position { 1 ≤ position }
 {
     let mut steps = Steps::<L>::new(blank);
-    board.ready_from(place, m, &mut steps)
+    board.ready_from(position, m, &mut steps)
 }
 
-fn ready_from(board: &Board, place: u16, m: Minute) -> Option<u16>
-    requires { 1 ≤ place }
+fn ready_from(board: &Board, position: u16, m: Minute) -> Option<u16>
+    requires { 1 ≤ position }
 {
-    ready_of::<Brand>(Blank::new(1), board, place, m)
+    ready_of::<Brand>(Blank::new(1), board, position, m)
 }
 
-// The numbers of the persons, from the first place on.
+// The numbers of the persons, from the first position on.
 fn stands_as(board: &Board, numbers: &[(u32, u64)]) -> bool {
-    let mut place = 0_u16;
+    let mut position = 0_u16;
     for (number, _) in numbers {
-        place = place.saturating_add(1);
-        match board.at(place) {
+        position = position.saturating_add(1);
+        match board.at(position) {
             Some(person) if person.number() == *number => {}
             _ => return false,
         }
     }
-    board.length() == place && board.at(place.saturating_add(1)).is_none()
+    board.length() == position && board.at(position.saturating_add(1)).is_none()
 }
 
 #[test]
@@ -199,8 +199,8 @@ fn drawn(seed: &mut u64, below: u32) -> u32
 }
 
 // Where a person stands in the list, from 0.
-fn place_of(order: &[(u32, u64)], number: u32) -> Option<usize>
-    ensures { IfSome result (λ place. place < length order.now) }
+fn index_of(order: &[(u32, u64)], number: u32) -> Option<usize>
+    ensures { IfSome result (λ index. index < length order.now) }
 {
     for i in 0..order.len() {
         if order[i].0 == number {
@@ -222,28 +222,28 @@ fn drawn_act(seed: &mut u64) -> Act {
 // One change of the board, and of the list that it should stand for.
 fn change(board: &mut Kept, order: &mut Vec<(u32, u64)>, seed: &mut u64) -> Result<(), Fail> {
     let number = 1 + drawn(seed, 30);
-    match place_of(order, number) {
+    match index_of(order, number) {
         None => {
             let ready = u64::from(drawn(seed, 100));
             list(board, number, ready)?;
             order.push((number, ready))?;
         }
-        Some(place) => {
+        Some(index) => {
             let drawn = drawn_act(seed);
             act_on_board(board, number, drawn)?;
-            act_on_list(order, place, drawn);
+            act_on_list(order, index, drawn);
         }
     }
     Ok(())
 }
 
-// The first place of the list, from one on, that is ready.
+// The first position of the list, from one on, that is ready.
 fn scanned(order: &[(u32, u64)], from: u16, m: u64) -> Option<u16> {
-    let mut place = 0_u16;
+    let mut position = 0_u16;
     for (_, ready) in order {
-        place = place.saturating_add(1);
-        if place >= from && *ready <= m {
-            return Some(place);
+        position = position.saturating_add(1);
+        if position >= from && *ready <= m {
+            return Some(position);
         }
     }
     None

@@ -1,9 +1,9 @@
-//! Chains of boards against a reading of them place by place. The judge bars persons of odd numbers; whoever isn't ready has one.
+//! Chains of boards against a reading of them position by position. The judge bars persons of odd numbers; whoever isn't ready has one.
 ghost use Rattle.std.specs.Prelude.{◌≡◌, ◌<◌, ◌≤◌, length};
 ghost use Rattle.std.specs.List.{All};
 
 use denial_rules::Bar;
-use desk_base::{Code, Minute, PersonNo, PlaceHints};
+use desk_base::{Code, Minute, PersonNo, IndexHints};
 use pool_board::Board;
 use slot_tree::Steps;
 use std::alloc::Global;
@@ -35,7 +35,7 @@ fn may_stand(person: PersonNo, ready: Minute, m: Minute) -> bool {
 }
 
 // Puts a person at the bottom who may stand there and isn't listed.
-fn put(board: &mut Board, hints: &mut PlaceHints, person: PersonNo, ready: Minute, m: Minute) {
+fn put(board: &mut Board, hints: &mut IndexHints, person: PersonNo, ready: Minute, m: Minute) {
     if board.position(person, hints).is_none() && may_stand(person, ready, m) {
         match board.list(person, ready, hints) {
             Ok(()) => {}

@@ -147,17 +147,17 @@ fn put_in(tree: &mut SlotTree, list: &mut Vec<(u32, u64)>, seed: &mut u64) -> Re
     Ok(())
 }
 
-// Empties a slot or changes it, and the list at the same place.
+// Empties a slot or changes it, and the list at the same index.
 fn change(
     tree: &mut SlotTree,
     list: &mut Vec<(u32, u64)>,
-    place: usize,
+    index: usize,
     seed: &mut u64,
 ) -> Result<(), Fail> {
-    let Some(kept) = list.get_mut(place) else {
+    let Some(kept) = list.get_mut(index) else {
         return Ok(());
     };
-    let slot = u32::try_from(place).unwrap_or(0).saturating_add(1);
+    let slot = u32::try_from(index).unwrap_or(0).saturating_add(1);
     let slot = tree.nth(slot).ok_or("no such slot")?;
     let ready = u64::from(drawn(seed, 1_000));
     if ready < 500 {
@@ -165,7 +165,7 @@ fn change(
         kept.1 = ready;
     } else {
         clear(tree, slot)?;
-        list.remove(place);
+        list.remove(index);
     }
     Ok(())
 }
@@ -178,8 +178,8 @@ fn searches_as_a_scan(rt: HostRuntime) -> Result<(), Fail> {
     for _ in 0..1_000 {
         put_in(&mut slots, &mut list, &mut seed)?;
         put_in(&mut slots, &mut list, &mut seed)?;
-        let place = drawn(&mut seed, 40) as usize;
-        change(&mut slots, &mut list, place, &mut seed)?;
+        let index = drawn(&mut seed, 40) as usize;
+        change(&mut slots, &mut list, index, &mut seed)?;
         stands_for(&slots, &list)?;
         let from = drawn(&mut seed, 33);
         let m = u64::from(drawn(&mut seed, 1_000));
@@ -190,8 +190,8 @@ fn searches_as_a_scan(rt: HostRuntime) -> Result<(), Fail> {
 
 // The filled slots are those of the list, in its order.
 fn stands_for(slots: &SlotTree, list: &[(u32, u64)]) -> Result<(), Fail> {
-    for (place, held) in list.iter().enumerate() {
-        let number = u32::try_from(place).unwrap_or(0);
+    for (index, held) in list.iter().enumerate() {
+        let number = u32::try_from(index).unwrap_or(0);
         let slot = slots.nth(number.saturating_add(1)).ok_or("no such slot")?;
         if at(slots, slot) != Some(*held) || slots.before(slot) != number {
             return Err("another slot".into());

@@ -29,25 +29,25 @@ found-shown h xs b x are found =
     let code : here.0.code ≡ b = ap (λ s. s.code) same ∙ (bytes_eq-Decides x.code b).0 (find-passes test xs x found) in
     subst (λ s. IsShown h b s) same (subst (λ code. IsShown h code here.0) (sym here.1.1.code ∙ code) here.1.1)
 
-shown-spot : (h : History) (b : List ℕ) (place : ℕ) (x : ShownBoard) → IsShown h b x → spot_of h b place ≡ seen_at (length x.members) (slice_get x.members (place - 1))
-shown-spot h b place x is = rw is.members (go (board_of h b) is.place)
+shown-spot : (h : History) (b : List ℕ) (position : ℕ) (x : ShownBoard) → IsShown h b x → spot_of h b position ≡ seen_at (length x.members) (slice_get x.members (position - 1))
+shown-spot h b position x is = rw is.members (go (board_of h b) is.place)
   where
     go : (known : Option BoardSetup) → option_map (λ setup. setup.place) known ≡ Some x.place
-        → (if is_none known then spot.NoBoard else seen_at (length (order h b)) (slice_get (order h b) (place - 1)))
-        ≡ seen_at (length (order h b)) (slice_get (order h b) (place - 1))
-    go None place = cc
-    go (Some setup) place = refl
+        → (if is_none known then spot.NoBoard else seen_at (length (order h b)) (slice_get (order h b) (position - 1)))
+        ≡ seen_at (length (order h b)) (slice_get (order h b) (position - 1))
+    go None position = cc
+    go (Some setup) position = refl
 
-pub spot-found : (h : History) (xs : List ShownBoard) (b : List ℕ) (place : ℕ) (x : ShownBoard) → AreBoards xs h → find (λ s. bytes_eq s.code b) xs ≡ Some x
-    → seen_at (length x.members) (slice_get x.members (place - 1)) ≡ spot_of h b place
-spot-found h xs b place x are found = sym (shown-spot h b place x (found-shown h xs b x are found))
+pub spot-found : (h : History) (xs : List ShownBoard) (b : List ℕ) (position : ℕ) (x : ShownBoard) → AreBoards xs h → find (λ s. bytes_eq s.code b) xs ≡ Some x
+    → seen_at (length x.members) (slice_get x.members (position - 1)) ≡ spot_of h b position
+spot-found h xs b position x are found = sym (shown-spot h b position x (found-shown h xs b x are found))
 
 -- where nothing is found by a code, it is no board
-pub spot-none : (h : History) (xs : List ShownBoard) (b : List ℕ) (place : ℕ) → AreBoards xs h → find (λ s. bytes_eq s.code b) xs ≡ None → spot.NoBoard ≡ spot_of h b place
-spot-none h xs b place are none = go (board_of h b) refl
+pub spot-none : (h : History) (xs : List ShownBoard) (b : List ℕ) (position : ℕ) → AreBoards xs h → find (λ s. bytes_eq s.code b) xs ≡ None → spot.NoBoard ≡ spot_of h b position
+spot-none h xs b position are none = go (board_of h b) refl
   where
     go : (known : Option BoardSetup) → board_of h b ≡ known
-        → spot.NoBoard ≡ (if is_none known then spot.NoBoard else seen_at (length (order h b)) (slice_get (order h b) (place - 1)))
+        → spot.NoBoard ≡ (if is_none known then spot.NoBoard else seen_at (length (order h b)) (slice_get (order h b) (position - 1)))
     go None is = refl
     go (Some setup) is =
         let among = board-among h b setup is in

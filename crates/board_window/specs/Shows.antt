@@ -4,7 +4,7 @@ use Rattle.std.specs.List.{slice_get}
 use Rattle.std.specs.Option.{option_map}
 use Rattle.desk_model.specs.boards.Boards.{order}
 use Rattle.desk_model.specs.histories.History.{History}
-use Rattle.desk_model.specs.answers.LookAnswer.{member_at}
+use Rattle.desk_model.specs.answers.QuestionAnswer.{member_at}
 use Rattle.desk_model.specs.histories.Register.{board_of, vacancy_of, boards, vacancies}
 use Rattle.board_window.specs.Becomes.{offered_from}
 use Rattle.board_window.specs.declared.shown_board.ShownBoard.{ShownBoard}
@@ -34,6 +34,6 @@ abbrev pub seen_at : ℕ → Option ℕ → Spot
 seen_at count (Some p) = spot.Person p
 seen_at count None = spot.NoOne count
 
--- at a place of a board, from 1, in its order by this history
+-- at a position of a board, from 1, in its order by this history
 abbrev pub spot_of : History → List ℕ → ℕ → Spot
-spot_of h b place = if is_none (board_of h b) then spot.NoBoard else seen_at (length (order h b)) (member_at h b place)
+spot_of h b position = if is_none (board_of h b) then spot.NoBoard else seen_at (length (order h b)) (member_at h b position)

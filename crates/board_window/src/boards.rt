@@ -106,14 +106,14 @@ impl Boards {
         self.shown.iter().find(|shown| shown.code == code)
     }
 
-    /// What stands at a place of a board, from 1.
-    pub(crate) fn look(&self, board: Code, place: u16) -> Spot
-        ensures { (h : History) → AreBoards self.now h → result ≡ spot_of h board place }
+    /// What stands at a position of a board, from 1.
+    pub(crate) fn look(&self, board: Code, position: u16) -> Spot
+        ensures { (h : History) → AreBoards self.now h → result ≡ spot_of h board position }
     {
         let Some(shown) = self.find(board) else {
             return Spot::NoBoard;
         };
-        match shown.members.at(usize::from(place).saturating_sub(1)) {
+        match shown.members.at(usize::from(position).saturating_sub(1)) {
             Some(person) => Spot::Person(person),
             None => Spot::NoOne {
                 length: shown.members.count() as u16,

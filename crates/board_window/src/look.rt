@@ -5,6 +5,6 @@ use crate::spot::Spot;
 pub struct Look {
     /// How many entries of the history were seen.
     pub seen: u32,
-    /// What stands at the place by them.
+    /// What stands at the position by them.
     pub what: Spot,
 }

@@ -1,6 +1,6 @@
 use desk_base::PersonNo;
 
-/// What stands at a place of a board.
+/// What stands at a position of a board.
 #[derive(Clone, Copy, Debug, PartialEq, Eq)]
 pub enum Spot {
     /// This person.

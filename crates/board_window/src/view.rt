@@ -82,20 +82,20 @@ impl View {
         })
     }
 
-    /// What stands at a place of a board, from 1, by the beginning of the list that it stands for then. It waits for nobody and takes no
+    /// What stands at a position of a board, from 1, by the beginning of the list that it stands for then. It waits for nobody and takes no
     /// memory. `None` where the windows have ended; then it stands for the same as before.
-    pub fn look(&mut self, board: Code, place: u16) -> Option<Look>
+    pub fn look(&mut self, board: Code, position: u16) -> Option<Look>
         ensures wall { self.new.wall ≡ self.old.wall }
         ensures later { IsPrefix self.old.entries self.new.entries }
         ensures seen { IfSome result (λ look. look.seen ≡ length self.new.entries) }
-        ensures what { IfSome result (λ look. look.what ≡ spot_of (history_in self.new) board place) }
+        ensures what { IfSome result (λ look. look.what ≡ spot_of (history_in self.new) board position) }
         ensures none { IfNone result (self.new ≡ self.old) }
     {
         let reader = self.reader.take()?;
         match reader.enter_as::<Enter>() {
             Ok(reading) => {
                 let shelf = reading.get();
-                let what = shelf.boards.look(board, place);
+                let what = shelf.boards.look(board, position);
                 let front = shelf.front.again();
                 self.reader = Some(reading.leave());
                 self.see(front, what)

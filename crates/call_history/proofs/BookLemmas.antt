@@ -18,16 +18,16 @@ stands-next Old New h o e old step opening =
 
 -- ---- commands one after another
 
-take-there : {X : Type 0} (xs : List X) (place : ℕ) (x : X) → slice_get xs place ≡ Some x → take (place + 1) xs ≡ take place xs ++ x ∷ []
-take-there xs place x there =
-    let within = slice_get_within xs place x there in
-    take_more xs place x within ∙ ap (λ y. take place xs ++ y ∷ []) (same_Some _ x (sym (slice_get-get_or xs place x within) ∙ there))
+take-there : {X : Type 0} (xs : List X) (index : ℕ) (x : X) → slice_get xs index ≡ Some x → take (index + 1) xs ≡ take index xs ++ x ∷ []
+take-there xs index x there =
+    let within = slice_get_within xs index x there in
+    take_more xs index x within ∙ ap (λ y. take index xs ++ y ∷ []) (same_Some _ x (sym (slice_get-get_or xs index x within) ∙ there))
 
 -- a history that went on with the first commands goes on with the next one
 pub goes-on : ((h : History) (commands : List (ℕ × StatedValue)) (caller : ℕ) (s : StatedValue)
     → history_from h (commands ++ (caller, s) ∷ []) ≡ with_entry (history_from h commands) (next (history_from h commands) caller s))
-    → (h was later : History) (commands : List (ℕ × StatedValue)) (place caller : ℕ) (s : StatedValue) (e : EntryValue) → slice_get commands place ≡ Some (caller, s)
-    → was ≡ history_from h (take place commands) → e ≡ next was caller s → later ≡ with_entry was e → later ≡ history_from h (take (place + 1) commands)
-goes-on law h was later commands place caller s e there so answer kept =
-    kept ∙ ap (with_entry was) answer ∙ ap (λ x. with_entry x (next x caller s)) so ∙ sym (law h (take place commands) caller s)
-    ∙ ap (history_from h) (sym (take-there commands place (caller, s) there))
+    → (h was later : History) (commands : List (ℕ × StatedValue)) (index caller : ℕ) (s : StatedValue) (e : EntryValue) → slice_get commands index ≡ Some (caller, s)
+    → was ≡ history_from h (take index commands) → e ≡ next was caller s → later ≡ with_entry was e → later ≡ history_from h (take (index + 1) commands)
+goes-on law h was later commands index caller s e there so answer kept =
+    kept ∙ ap (with_entry was) answer ∙ ap (λ x. with_entry x (next x caller s)) so ∙ sym (law h (take index commands) caller s)
+    ∙ ap (history_from h) (sym (take-there commands index (caller, s) there))

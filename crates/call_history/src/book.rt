@@ -74,7 +74,7 @@ impl<C: DeskCore> Book<C> {
             ≡ history_from (⟦<Book<C> as Booked>⟧.history self.old) commands.now }
         ensures room { ⟦<Book<C> as Booked>⟧.room self.new ≡ ⟦<Book<C> as Booked>⟧.room self.old }
     {
-        self.step_each(commands.len(), |place| commands[place]);
+        self.step_each(commands.len(), |index| commands[index]);
     }
 
     /// Answers these commands one after another, as `step_all` does, all as one caller, 0 to 63.
@@ -86,26 +86,26 @@ impl<C: DeskCore> Book<C> {
             ≡ history_from (⟦<Book<C> as Booked>⟧.history self.old) (map (λ stated. (caller, stated)) commands.now) }
         ensures room { ⟦<Book<C> as Booked>⟧.room self.new ≡ ⟦<Book<C> as Booked>⟧.room self.old }
     {
-        self.step_each(commands.len(), |place| (caller, commands[place]));
+        self.step_each(commands.len(), |index| (caller, commands[index]));
     }
 
-    // Answers so many commands, the one for each place from 0 on.
+    // Answers so many commands, the one for each index from 0 on.
     fn step_each<F: Fn(usize) -> (u8, Stated)>(&mut self, count: usize, command_at: F)
-        requires told { (place : ℕ) → place < count → F.pre command_at place }
-        requires callers { (place : ℕ) (command : _) → place < count → F.post command_at place command
+        requires told { (index : ℕ) → index < count → F.pre command_at index }
+        requires callers { (index : ℕ) (command : _) → index < count → F.post command_at index command
             → command.0 ≤ LAST_CALLER }
         requires room { length (⟦<Book<C> as Booked>⟧.history self.old).entries + count
             ≤ ⟦<Book<C> as Booked>⟧.room self.old }
         ensures history { (commands : List (ℕ × StatedValue)) → length commands ≡ count
-            → ((place : ℕ) (command : _) → place < count → F.post command_at place command
-            → slice_get commands place ≡ Some command)
+            → ((index : ℕ) (command : _) → index < count → F.post command_at index command
+            → slice_get commands index ≡ Some command)
             → ⟦<Book<C> as Booked>⟧.history self.new
             ≡ history_from (⟦<Book<C> as Booked>⟧.history self.old) commands }
         ensures room { ⟦<Book<C> as Booked>⟧.room self.new ≡ ⟦<Book<C> as Booked>⟧.room self.old }
     {
         a_history_goes_on_with_commands();
-        for place in 0..count {
-            let (caller, stated) = command_at(place);
+        for index in 0..count {
+            let (caller, stated) = command_at(index);
             let Ok(_entry) = self.step(caller, stated) else {
                 unreachable!()
             };

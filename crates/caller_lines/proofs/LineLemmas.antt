@@ -6,7 +6,7 @@ use Rattle.std.proofs.Math.ListN.{get_or-map}
 use Rattle.caller_lines.specs.Given.{GaveLine, GaveTooLong}
 use Rattle.caller_lines.specs.MemoryLine.{first_given}
 
--- where there is a line at a place, it is the first of those that are left from there
+-- where there is a line at a position, it is the first of those that are left from there
 pub drop-map : {L : Type 0} (view : L → List ℕ) (lines : List L) (at : ℕ) (line : L) → at < length lines
     → line ≡ slice_index_or lines at line → drop at (map view lines) ≡ view line ∷ drop (suc at) (map view lines)
 drop-map view lines at line lt is =

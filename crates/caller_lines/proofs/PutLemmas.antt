@@ -40,13 +40,13 @@ puts-more xs ys puts put all from to =
     rw (map-append (λ put. slice_range (xs ++ ys) put.from put.to) puts (put ∷ []))
     (rw (map-slice_range-append xs ys puts all) (rw from (rw (slice_range-last xs ys put.to to) refl)))
 
--- the text of the put at a place is the part of the bytes that is its
-pub slice_get-puts : (bytes part : List ℕ) (puts : List Part) (place : ℕ) (put : Part) → place < length puts
-    → put ≡ slice_index_or puts place put → part ≡ slice_range bytes put.from put.to
-    → slice_get (map (λ put. slice_range bytes put.from put.to) puts) place ≡ Some part
-slice_get-puts bytes part puts place put lt is part_is =
-    slice_get-map (λ put. slice_range bytes put.from put.to) puts place
-    ∙ ap (option_map (λ put. slice_range bytes put.from put.to)) (slice_get-get_or puts place put lt)
+-- the text of the put at a position is the part of the bytes that is its
+pub slice_get-puts : (bytes part : List ℕ) (puts : List Part) (position : ℕ) (put : Part) → position < length puts
+    → put ≡ slice_index_or puts position put → part ≡ slice_range bytes put.from put.to
+    → slice_get (map (λ put. slice_range bytes put.from put.to) puts) position ≡ Some part
+slice_get-puts bytes part puts position put lt is part_is =
+    slice_get-map (λ put. slice_range bytes put.from put.to) puts position
+    ∙ ap (option_map (λ put. slice_range bytes put.from put.to)) (slice_get-get_or puts position put lt)
     ∙ ap (λ put. Some (slice_range bytes put.from put.to)) (sym is) ∙ ap (λ part. Some part) (sym part_is)
 
 -- the texts that were put with some calls and more of them

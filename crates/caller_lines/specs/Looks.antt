@@ -3,24 +3,24 @@ use Rattle.std.specs.Prelude.{◌≡◌, ℕ, ◌≤◌, List, [], ◌∷◌, co
 use Rattle.desk_base.specs.Code.{IsCode}
 use Rattle.record_rows.specs.Rows.{records_of}
 
--- the fields of a look: who stands at this place of the board is asked
+-- the fields of a look: who stands at this position of the board is asked
 abbrev pub look_fields : List ℕ → ℕ → List (List ℕ)
-look_fields board place = codes "look" ∷ board ∷ decimal place ∷ []
+look_fields board position = codes "look" ∷ board ∷ decimal position ∷ []
 
--- the fields are those of a look at place 1 to 9,999 of a board
-pub record IsLookRecord (fields : List (List ℕ)) (board : List ℕ) (place : ℕ) : Type 0 where
+-- the fields are those of a look at position 1 to 9,999 of a board
+pub record IsLookRecord (fields : List (List ℕ)) (board : List ℕ) (position : ℕ) : Type 0 where
   pub code : IsCode board
-  pub some : 1 ≤ place
-  pub most : place ≤ 9_999
-  pub fields_are : fields ≡ look_fields board place
+  pub some : 1 ≤ position
+  pub most : position ≤ 9_999
+  pub fields_are : fields ≡ look_fields board position
 
--- the line is one record, `look,B,k`: who stands at place k of board B, 1 to 9,999, is asked
-pub record IsLookLine (line board : List ℕ) (place : ℕ) : Type 0 where
+-- the line is one record, `look,B,k`: who stands at position k of board B, 1 to 9,999, is asked
+pub record IsLookLine (line board : List ℕ) (position : ℕ) : Type 0 where
   pub code : IsCode board
-  pub some : 1 ≤ place
-  pub most : place ≤ 9_999
-  pub one : records_of line ≡ look_fields board place ∷ []
+  pub some : 1 ≤ position
+  pub most : position ≤ 9_999
+  pub one : records_of line ≡ look_fields board position ∷ []
 
 -- the line asks for no look
 abbrev pub IsNoLook : List ℕ → Type 0
-IsNoLook line = (board : List ℕ) (place : ℕ) → ¬ IsLookLine line board place
+IsNoLook line = (board : List ℕ) (position : ℕ) → ¬ IsLookLine line board position

@@ -17,7 +17,7 @@ IsNoRequest line = IsNoLook line × IsNoCrew line
 
 -- how a line of these bytes is said; memory may be wanting for its reading
 abbrev pub ReadsLineAsRequest : List ℕ → Request → Type 0
-ReadsLineAsRequest bytes (Look board place) = IsLookLine bytes board place
+ReadsLineAsRequest bytes (Look board position) = IsLookLine bytes board position
 ReadsLineAsRequest bytes (Crew minute first second) = IsCrewLine bytes minute first second
 ReadsLineAsRequest bytes (Said NoMemory) = ⊤
 ReadsLineAsRequest bytes (Said said) = IsNoRequest bytes × ReadsLine bytes said

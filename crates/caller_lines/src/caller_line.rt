@@ -20,7 +20,7 @@ pub trait CallerLine: Drop {
     /// Gives the caller's next line, without its line feed, if it has 512 bytes at most.
     fn next(&mut self, into: &mut LineBuf) -> Heard
         ensures asked { calls self.new ≡ with_last (calls self.old) (Asked (answer_of result into.new.items)) }
-        ensures later { faults self.old ≤ faults self.new }
+        ensures faults_grow { faults self.old ≤ faults self.new }
         ensures cause { result ≡ Heard.Failed → Rose (faults self.old) (faults self.new) }
         ensures no_fault { result ≢ Heard.Failed → faults self.new ≡ faults self.old };
 
@@ -28,7 +28,7 @@ pub trait CallerLine: Drop {
     fn put(&mut self, text: &[u8]) -> bool
         ensures puts { OnTrue result (calls self.new ≡ with_last (calls self.old) (PutText text.now)) }
         ensures no_put { OnFalse result (calls self.new ≡ calls self.old) }
-        ensures later { faults self.old ≤ faults self.new }
+        ensures faults_grow { faults self.old ≤ faults self.new }
         ensures cause { OnFalse result (Rose (faults self.old) (faults self.new)) }
         ensures no_fault { OnTrue result (faults self.new ≡ faults self.old) };
 

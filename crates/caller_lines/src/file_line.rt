@@ -73,7 +73,7 @@ impl<R: Read + Drop, W: Write + Drop> CallerLine for FileLine<R, W> {
     ghost calls = { λ _. None };
 
     fn next(&mut self, into: &mut LineBuf) -> Heard
-        ensures later { self.old.faults ≤ self.new.faults }
+        ensures faults_grow { self.old.faults ≤ self.new.faults }
         ensures cause { result ≡ Heard.Failed → Rose self.old.faults self.new.faults }
         ensures no_fault { result ≢ Heard.Failed → self.new.faults ≡ self.old.faults }
         ensures count { result ≡ Heard.Failed → self.new.faults ≡ one_more self.old.faults }
@@ -82,7 +82,7 @@ impl<R: Read + Drop, W: Write + Drop> CallerLine for FileLine<R, W> {
         ensures fault { result ≡ Heard.Failed → Rose self.old.errors self.new.errors ⊎ (HasNoFile self.old
             ⊎ TookUnfed (left_of R.remaining self.old) (left_of R.remaining self.new)) }
         ensures no_error { result ≢ Heard.Failed → self.new.errors ≡ self.old.errors }
-        ensures later_error { self.old.errors ≤ self.new.errors }
+        ensures errors_grow { self.old.errors ≤ self.new.errors }
         ensures no_file { HasNoFile self.old → result ≡ Heard.Failed }
         ensures writer { self.new.writer ≡ self.old.writer }
 
@@ -100,7 +100,7 @@ impl<R: Read + Drop, W: Write + Drop> CallerLine for FileLine<R, W> {
     }
 
     fn put(&mut self, text: &[u8]) -> bool
-        ensures later { self.old.faults ≤ self.new.faults }
+        ensures faults_grow { self.old.faults ≤ self.new.faults }
         ensures cause { OnFalse result (Rose self.old.faults self.new.faults) }
         ensures no_fault { OnTrue result (self.new.faults ≡ self.old.faults) }
         ensures count { OnFalse result (self.new.faults ≡ one_more self.old.faults) }
@@ -108,7 +108,7 @@ impl<R: Read + Drop, W: Write + Drop> CallerLine for FileLine<R, W> {
         // It fails only where the writer gave an error or a file is missing.
         ensures fault { OnFalse result (Rose self.old.errors self.new.errors ⊎ HasNoFile self.old) }
         ensures no_error { OnTrue result (self.new.errors ≡ self.old.errors) }
-        ensures later_error { self.old.errors ≤ self.new.errors }
+        ensures errors_grow { self.old.errors ≤ self.new.errors }
         ensures no_file { HasNoFile self.old → result ≡ false }
 
         // A writer that tells its bytes has the text behind them.
@@ -138,7 +138,7 @@ impl<R: Read, W: Write> FileLine<R, W> {
         ensures fault { result ≡ Heard.Failed → Rose self.old.errors self.new.errors ⊎ (HasNoFile self.old
             ⊎ TookUnfed (left_of R.remaining self.old) (left_of R.remaining self.new)) }
         ensures no_error { result ≢ Heard.Failed → self.new.errors ≡ self.old.errors }
-        ensures later_error { self.old.errors ≤ self.new.errors }
+        ensures errors_grow { self.old.errors ≤ self.new.errors }
         ensures no_file { HasNoFile self.old → result ≡ Heard.Failed }
         ensures takes { Takes (left_of R.remaining self.old) (left_of R.remaining self.new)
             (answer_of result into.new.items) }
@@ -170,7 +170,7 @@ impl<R: Read, W: Write> FileLine<R, W> {
         ensures some { IsSomeBytes result }
         ensures error { result ≡ Gathered.Failed → Rose self.old.errors self.new.errors ⊎ IsNone self.old.reader }
         ensures no_error { result ≢ Gathered.Failed → self.new.errors ≡ self.old.errors }
-        ensures later_error { self.old.errors ≤ self.new.errors }
+        ensures errors_grow { self.old.errors ≤ self.new.errors }
         ensures there { IsNone self.new.reader → IsNone self.old.reader }
         ensures gathers { Gathers (left_of R.remaining self.old) (left_of R.remaining self.new)
             into.old.items into.new.items result }
@@ -216,7 +216,7 @@ impl<R: Read, W: Write> FileLine<R, W> {
     fn fill(&mut self) -> bool
         ensures error { OnFalse result (Rose self.old.errors self.new.errors ⊎ IsNone self.old.reader) }
         ensures no_error { OnTrue result (self.new.errors ≡ self.old.errors) }
-        ensures later_error { self.old.errors ≤ self.new.errors }
+        ensures errors_grow { self.old.errors ≤ self.new.errors }
         ensures there { IsNone self.new.reader → IsNone self.old.reader }
         ensures kept { Consumes (left_of R.remaining self.old) (left_of R.remaining self.new) [] }
         ensures end { OnTrue result (self.new.held ≡ [] → IsAtEnd (left_of R.remaining self.new)) }
@@ -244,7 +244,7 @@ impl<R: Read, W: Write> FileLine<R, W> {
     fn write_text(&mut self, text: &[u8]) -> bool
         ensures fault { OnFalse result (Rose self.old.errors self.new.errors ⊎ HasNoFile self.old) }
         ensures no_error { OnTrue result (self.new.errors ≡ self.old.errors) }
-        ensures later_error { self.old.errors ≤ self.new.errors }
+        ensures errors_grow { self.old.errors ≤ self.new.errors }
         ensures no_file { HasNoFile self.old → result ≡ false }
         ensures bytes { OnTrue result (Wrote W.contents self.old.writer self.new.writer text.now) }
         ensures held { self.new.held ≡ self.old.held }

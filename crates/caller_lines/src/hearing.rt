@@ -21,7 +21,7 @@ use std::alloc::Global;
 /// Asks the line once, and reads what it gives as a command. Memory is wanted only where it gave a line.
 pub fn hear(alloc: Global, line: &mut Box<dyn CallerLine + Send>) -> Said
     ensures hears { Hears (calls line.old) (calls line.new) result }
-    ensures later { faults line.old ≤ faults line.new }
+    ensures faults_grow { faults line.old ≤ faults line.new }
     ensures cause { result ≡ Said.LineFault → Rose (faults line.old) (faults line.new) }
     ensures no_fault { result ≢ Said.LineFault → faults line.new ≡ faults line.old }
 {
@@ -34,7 +34,7 @@ pub fn hear(alloc: Global, line: &mut Box<dyn CallerLine + Send>) -> Said
 /// it gave a line.
 pub fn hear_request(alloc: Global, line: &mut Box<dyn CallerLine + Send>) -> Request
     ensures hears { HearsRequest (calls line.old) (calls line.new) result }
-    ensures later { faults line.old ≤ faults line.new }
+    ensures faults_grow { faults line.old ≤ faults line.new }
     ensures cause { result ≡ Request.Said Said.LineFault → Rose (faults line.old) (faults line.new) }
     ensures no_fault { result ≢ Request.Said Said.LineFault → faults line.new ≡ faults line.old }
 {
@@ -46,7 +46,7 @@ pub fn hear_request(alloc: Global, line: &mut Box<dyn CallerLine + Send>) -> Req
 // Asks the line for its next.
 fn ask(line: &mut Box<dyn CallerLine + Send>, into: &mut LineBuf) -> Heard
     ensures asked { calls line.new ≡ with_last (calls line.old) (Asked (answer_of result into.new.items)) }
-    ensures later { faults line.old ≤ faults line.new }
+    ensures faults_grow { faults line.old ≤ faults line.new }
     ensures cause { result ≡ Heard.Failed → Rose (faults line.old) (faults line.new) }
     ensures no_fault { result ≢ Heard.Failed → faults line.new ≡ faults line.old }
 {
@@ -99,7 +99,7 @@ fn read_line_or_request(alloc: Global, bytes: &[u8]) -> Request
     match read_look(alloc, bytes) {
         Ok(Some(look)) => Request::Look {
             board: look.board,
-            place: look.place,
+            position: look.position,
         },
         Ok(None) => read_line_or_crew(alloc, bytes),
         Err(NoMemory) => Request::Said(Said::NoMemory),

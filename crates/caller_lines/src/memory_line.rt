@@ -93,7 +93,7 @@ impl CallerLine for MemoryLine {
 
     fn next(&mut self, into: &mut LineBuf) -> Heard
         ensures asked { Some self.new.told ≡ with_last (Some self.old.told) (Asked (answer_of result into.new.items)) }
-        ensures later { self.old.faults ≤ self.new.faults }
+        ensures faults_grow { self.old.faults ≤ self.new.faults }
         ensures cause { result ≡ Heard.Failed → Rose self.old.faults self.new.faults }
         ensures no_fault { result ≢ Heard.Failed → self.new.faults ≡ self.old.faults }
 
@@ -108,7 +108,7 @@ impl CallerLine for MemoryLine {
     fn put(&mut self, text: &[u8]) -> bool
         ensures puts { OnTrue result (Some self.new.told ≡ with_last (Some self.old.told) (PutText text.now)) }
         ensures no_put { OnFalse result (Some self.new.told ≡ Some self.old.told) }
-        ensures later { self.old.faults ≤ self.new.faults }
+        ensures faults_grow { self.old.faults ≤ self.new.faults }
         ensures cause { OnFalse result (Rose self.old.faults self.new.faults) }
         ensures no_fault { OnTrue result (self.new.faults ≡ self.old.faults) }
 
@@ -153,7 +153,7 @@ impl MemoryLine {
     fn take_line(&mut self, into: &mut LineBuf) -> Heard
         ensures answer { answer_of result into.new.items ≡ next_given self.old }
         ensures after { self.new ≡ after_take self.old }
-        ensures later { self.old.faults ≤ self.new.faults }
+        ensures faults_grow { self.old.faults ≤ self.new.faults }
     {
         self.calls = self.calls.saturating_add(1);
         if is_listed(&self.failing, self.calls) {

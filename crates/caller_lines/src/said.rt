@@ -5,7 +5,7 @@ use desk_model::Stated;
 pub enum Said {
     /// The command that the line states, with its minute.
     Command(Stated),
-    /// The place of the line's first wrong field, from 1; 0 where it isn't just one record.
+    /// The number of the line's first wrong field, from 1; 0 where it isn't just one record.
     Malformed(u8),
     /// A line of more than 512 bytes.
     TooLong,

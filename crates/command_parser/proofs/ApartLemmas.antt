@@ -94,7 +94,7 @@ pub month_text-one : (a b : ℕ) → month_text a ≡ month_text b → a ≡ b
 month_text-one a b e =
     let s = month_text_spells (month_text b) a (sym e) in
     let t = month_text_spells (month_text b) b refl in
-    omega (arith, s.year, s.place, t.year, t.place)
+    omega (arith, s.year, s.number, t.year, t.number)
 
 pub event_fields-one : (a b : Event) → event_fields a ≡ event_fields b → a ≡ b
 event_fields-one (event.Ride t) (event.Ride t') e = ap event.Ride (minute_text-one t t' (ap (λ l. get_or l 1 []) e))

@@ -16,7 +16,7 @@ use Rattle.desk_model.specs.statements.Fits.{IsStated}
 use Rattle.desk_model.specs.texts.StatedTexts.{stated_fields}
 use Rattle.record_rows.specs.declared.rows.Rows.{Rows}
 use Rattle.record_rows.specs.Rows.{HasLeft, records_of}
-use Rattle.command_parser.specs.declared.wrong_place.WrongPlace.{WrongPlace}
+use Rattle.command_parser.specs.declared.wrong_field.WrongField.{WrongField}
 use Rattle.command_parser.specs.DayCommands.{StatesOrWrong}
 use Rattle.command_parser.specs.RecordForms.{IsWrongAt}
 use Rattle.command_parser.specs.Spelled.{StatesCommand}
@@ -45,13 +45,13 @@ HasWrong-more first records fields record_no field has = record {
 }
 
 -- the same of what is told where a wrong place is
-pub StatesOrWrong-more : (first : ℕ) (wrong : Option WrongPlace) (commands : List StatedValue) (records : List (List (List ℕ))) (fields : List (List ℕ))
+pub StatesOrWrong-more : (first : ℕ) (wrong : Option WrongField) (commands : List StatedValue) (records : List (List (List ℕ))) (fields : List (List ℕ))
     → is_some wrong ≡ true → StatesOrWrong first wrong commands records → StatesOrWrong first wrong commands (records ++ fields ∷ [])
 StatesOrWrong-more first None commands records fields e tells = absurd (false≢true e)
 StatesOrWrong-more first (Some place) commands records fields e tells = HasWrong-more first records fields place.record_no place.field tells
 
 -- what a reader has told of the records that it was left with, where the first has this number, and the next this one
-pub record HasRead (first : ℕ) (all : List (List (List ℕ))) (rows : Rows) (wrong : Option WrongPlace) (commands : List StatedValue) (next : ℕ) : Type 0 where
+pub record HasRead (first : ℕ) (all : List (List (List ℕ))) (rows : Rows) (wrong : Option WrongField) (commands : List StatedValue) (next : ℕ) : Type 0 where
   pub read : List (List (List ℕ))
   pub rest : List (List (List ℕ))
   pub parts : all ≡ read ++ rest
@@ -60,8 +60,8 @@ pub record HasRead (first : ℕ) (all : List (List (List ℕ))) (rows : Rows) (w
   pub left : HasLeft rows rest
 
 -- with the next record that is one more
-pub HasRead-more : (first : ℕ) (all : List (List (List ℕ))) (rows : Rows) (wrong : Option WrongPlace) (commands : List StatedValue) (next : ℕ)
-    (has : HasRead first all rows wrong commands next) (fields : List (List ℕ)) (rest : List (List (List ℕ))) (rows' : Rows) (wrong' : Option WrongPlace) (commands' : List StatedValue)
+pub HasRead-more : (first : ℕ) (all : List (List (List ℕ))) (rows : Rows) (wrong : Option WrongField) (commands : List StatedValue) (next : ℕ)
+    (has : HasRead first all rows wrong commands next) (fields : List (List ℕ)) (rest : List (List (List ℕ))) (rows' : Rows) (wrong' : Option WrongField) (commands' : List StatedValue)
     → has.rest ≡ fields ∷ rest → HasLeft rows' rest → StatesOrWrong first wrong' commands' (has.read ++ fields ∷ []) → HasRead first all rows' wrong' commands' (next + 1)
 HasRead-more first all rows wrong commands next has fields rest rows' wrong' commands' parts left tells = record {
   read = has.read ++ fields ∷ [];
@@ -73,7 +73,7 @@ HasRead-more first all rows wrong commands next has fields rest rows' wrong' com
 }
 
 -- and with none left it is all
-pub HasRead-all : (first : ℕ) (all : List (List (List ℕ))) (rows : Rows) (wrong : Option WrongPlace) (commands : List StatedValue) (next : ℕ)
+pub HasRead-all : (first : ℕ) (all : List (List (List ℕ))) (rows : Rows) (wrong : Option WrongField) (commands : List StatedValue) (next : ℕ)
     (has : HasRead first all rows wrong commands next) → has.rest ≡ [] → (next ≡ length all + first) × StatesOrWrong first wrong commands all
 HasRead-all first all rows wrong commands next has none =
     let whole : all ≡ has.read = has.parts ∙ ap (λ list. has.read ++ list) none ∙ append-nil has.read in

@@ -4,7 +4,7 @@ use Rattle.std.proofs.lemmas.Bool.{cases_eq, cases_lt, leb-true}
 use Rattle.std.proofs.lemmas.List.{get_or-map, length-map, get_or-take, length-take}
 use Rattle.std.proofs.lemmas.List.Sums.{AllPass-from_list_all}
 use Rattle.std.proofs.lemmas.List.Elements.{Contains-get_or, at_from_Contains}
-use Rattle.command_parser.specs.declared.form.Form.{Form}
+use Rattle.command_parser.specs.declared.field_form.FieldForm.{FieldForm}
 use Rattle.command_parser.specs.RecordForms.{HasForm, HasForms, record_forms, Begins, IsWrongAt}
 use Rattle.command_parser.proofs.SpelledLemmas.{field_at}
 
@@ -16,7 +16,7 @@ each-next P n below here i lt = elim (cases_eq i n) [
 ]
 
 -- fewer fields have the forms as well
-pub has-fewer : (forms : List Form) (fields : List (List ℕ)) (m n : ℕ) → m ≤ n → HasForms forms fields n → HasForms forms fields m
+pub has-fewer : (forms : List FieldForm) (fields : List (List ℕ)) (m n : ℕ) → m ≤ n → HasForms forms fields n → HasForms forms fields m
 has-fewer forms fields m n le has = record {
   some = omega (arith, le, has.some);
   most = omega (arith, le, has.most);
@@ -24,18 +24,18 @@ has-fewer forms fields m n le has = record {
 }
 
 -- a field that has its form is one of the texts of the fields
-pub has-its-form : (f : Form) (fields : List (Bor (List ℕ))) (i j : ℕ) (d e : Bor (List ℕ)) → j ≡ i - 1 → i < length fields
+pub has-its-form : (f : FieldForm) (fields : List (Bor (List ℕ))) (i j : ℕ) (d e : Bor (List ℕ)) → j ≡ i - 1 → i < length fields
     → HasForm f (get_or fields j d).now (get_or fields i e).now
     → HasForm f (get_or (map (λ field. field.now) fields) (i - 1) []) (get_or (map (λ field. field.now) fields) i [])
 has-its-form f fields i j d e before lt has =
     rw (sym (field_at fields _ (i - 1) d refl (omega (arith, lt))), sym (field_at fields _ i e refl lt), sym before) has
 
 -- the code's table has as many rows as the definition's
-pub length-rows : (rows : List (Bor (List Form))) → map (λ row. row.now) rows ≡ record_forms → length rows ≡ length record_forms
+pub length-rows : (rows : List (Bor (List FieldForm))) → map (λ row. row.now) rows ≡ record_forms → length rows ≡ length record_forms
 length-rows rows same = sym (length-map rows (λ row. row.now)) ∙ ap length same
 
 -- and the same rows
-pub same-row : (rows : List (Bor (List Form))) (i : ℕ) (d : Bor (List Form)) → map (λ row. row.now) rows ≡ record_forms → i < length record_forms
+pub same-row : (rows : List (Bor (List FieldForm))) (i : ℕ) (d : Bor (List FieldForm)) → map (λ row. row.now) rows ≡ record_forms → i < length record_forms
     → (get_or rows i d).now ≡ get_or record_forms i []
 same-row rows i d same lt = sym (get_or-map (λ row. row.now) rows i d [] (rw (length-rows rows same) lt)) ∙ ap (λ list. get_or list i []) same
 
@@ -45,7 +45,7 @@ pub record HasTried (fields : List (List ℕ)) (rows most : ℕ) : Type 0 where
   pub none : (i : ℕ) → i < rows → ¬ HasForms (get_or record_forms i []) fields (most + 1)
 
 -- and with that row
-pub tried-next : (rows : List (Bor (List Form))) (i : ℕ) (d : Bor (List Form)) (fields : List (List ℕ)) (m n r : ℕ)
+pub tried-next : (rows : List (Bor (List FieldForm))) (i : ℕ) (d : Bor (List FieldForm)) (fields : List (List ℕ)) (m n r : ℕ)
     → map (λ row. row.now) rows ≡ record_forms → i < length record_forms
     → HasForms (get_or rows i d).now fields n → ¬ HasForms (get_or rows i d).now fields (n + 1)
     → m ≤ r → n ≤ r → (m < n → r ≡ n) → (n ≤ m → r ≡ m) → HasTried fields i m → HasTried fields (i + 1) r

@@ -1,7 +1,7 @@
 pub mod FormLemmas
 pub mod RowLemmas
 pub mod RowCommandLemmas
-pub mod PlaceLemmas
+pub mod PositionLemmas
 pub mod SpelledLemmas
 pub mod ApartLemmas
 pub mod OpeningLemmas

@@ -14,8 +14,8 @@ use Rattle.desk_model.specs.statements.Job.{job_of}
 use Rattle.desk_model.specs.statements.Statement.{stated_of}
 use Rattle.desk_model.specs.statements.Fits.{IsEvent}
 use Rattle.desk_model.specs.texts.StatedTexts.{job_word, event_fields}
-use Rattle.command_parser.specs.declared.form.Form.{Form}
-use Rattle.command_parser.specs.declared.form.Form.TheVariants as form
+use Rattle.command_parser.specs.declared.field_form.FieldForm.{FieldForm}
+use Rattle.command_parser.specs.declared.field_form.FieldForm.TheVariants as form
 use Rattle.command_parser.specs.declared.word.Word.{Word}
 use Rattle.command_parser.specs.declared.word.Word.TheVariants as word
 use Rattle.command_parser.specs.declared.event_word.EventWord.{EventWord}
@@ -26,7 +26,7 @@ use Rattle.command_parser.specs.RecordForms.{HasForm, record_forms, HasRow}
 use Rattle.command_parser.proofs.RowLemmas.{Fit, none, next, fit-each, before-at}
 
 -- fields that fit the forms state a command
-abbrev States : List Form → Type 0
+abbrev States : List FieldForm → Type 0
 States forms = (before : List ℕ) (fields : List (List ℕ)) → Fit forms before fields → StatesSome fields
 
 -- a minute, and behind it the fields of a command
@@ -52,7 +52,7 @@ code-row w about spells _ _ (next at (next is (next (n, h, e) (next {field = cod
     stated _ _ (about n code) at (rw (is, e) (spells n code h h'))
 
 -- or an event
-abbrev Tells : List Form → Type 0
+abbrev Tells : List FieldForm → Type 0
 Tells forms = (before : List ℕ) (fields : List (List ℕ)) → Fit forms before fields → (e : Event) × SpellsEvent fields e
 
 event-states : (w : Word) (about : ℕ → Event → Cmd) → ((n : ℕ) (e : Event) → IsNumber n → IsEvent e → Spells w (decimal n ∷ event_fields e) (about n e))
@@ -61,11 +61,11 @@ event-states : (w : Word) (about : ℕ → Event → Cmd) → ((n : ℕ) (e : Ev
 event-states w about spells m x y fields at is (n, h, e) (event, told) =
     stated _ _ (about n event) at (rw (is, e, told.fields_are) (spells n event h told.valid))
 
-past-row : (forms : List Form) → Tells forms → States (form.Minute ∷ form.Word word.Past ∷ form.Number ∷ forms)
+past-row : (forms : List FieldForm) → Tells forms → States (form.Minute ∷ form.Word word.Past ∷ form.Number ∷ forms)
 past-row forms tells _ _ (next at (next is (next has fit))) =
     event-states word.Past cmd.Past (λ n e h h'. record { valid = (h, h'); fields_are = refl }) _ _ _ _ at is has (tells _ _ fit)
 
-happened-row : (forms : List Form) → Tells forms → States (form.Minute ∷ form.Word word.Event ∷ form.Number ∷ forms)
+happened-row : (forms : List FieldForm) → Tells forms → States (form.Minute ∷ form.Word word.Event ∷ form.Number ∷ forms)
 happened-row forms tells _ _ (next at (next is (next has fit))) =
     event-states word.Event cmd.Happened (λ n e h h'. record { valid = (h, h'); fields_are = refl }) _ _ _ _ at is has (tells _ _ fit)
 
@@ -110,17 +110,17 @@ hours-row : States (form.Minute ∷ form.Word word.Hours ∷ form.Number ∷ for
 hours-row _ _ (next at (next is (next (n, h, e) (next (month, hm, em) none)))) =
     stated _ _ (cmd.Hours n month) at record { valid = (h, hm); fields_are = rw (is, e, em) refl }
 
-at-row : States (form.Minute ∷ form.Word word.At ∷ form.Code ∷ form.Place ∷ [])
+at-row : States (form.Minute ∷ form.Word word.At ∷ form.Code ∷ form.Position ∷ [])
 at-row _ _ (next at (next is (next {field = board} hb (next (place, some, most, e) none)))) =
     stated _ _ (cmd.At board place) at record { valid = (hb, some, most); fields_are = rw (is, e) refl }
 
 -- each of these rows is that of some command
 infixr 40 ◌also◌
-data Each : List (List Form) → Type 0 where
+data Each : List (List FieldForm) → Type 0 where
   nothing : Each []
-  ◌also◌ : {forms : List Form} {rows : List (List Form)} → States forms → Each rows → Each (forms ∷ rows)
+  ◌also◌ : {forms : List FieldForm} {rows : List (List FieldForm)} → States forms → Each rows → Each (forms ∷ rows)
 
-All-each : (rows : List (List Form)) → Each rows → All States rows
+All-each : (rows : List (List FieldForm)) → Each rows → All States rows
 All-each [] nothing = All-nil States
 All-each (forms ∷ rows) (states also each) = All-cons States forms rows states (All-each rows each)
 

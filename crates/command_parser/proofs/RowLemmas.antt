@@ -11,8 +11,8 @@ use Rattle.desk_model.specs.statements.Job.{JobValue}
 use Rattle.desk_model.specs.statements.Statement.{StatedValue}
 use Rattle.desk_model.specs.statements.Fits.{IsEvent, IsJob, IsCommand}
 use Rattle.desk_model.specs.texts.StatedTexts.{event_fields, job_word, job_fields, command_fields}
-use Rattle.command_parser.specs.declared.form.Form.{Form}
-use Rattle.command_parser.specs.declared.form.Form.TheVariants as form
+use Rattle.command_parser.specs.declared.field_form.FieldForm.{FieldForm}
+use Rattle.command_parser.specs.declared.field_form.FieldForm.TheVariants as form
 use Rattle.command_parser.specs.declared.word.Word.{Word}
 use Rattle.command_parser.specs.declared.word.Word.TheVariants as word
 use Rattle.command_parser.specs.declared.event_word.EventWord.TheVariants as event_word
@@ -21,22 +21,22 @@ use Rattle.command_parser.specs.Spelled.{StatesCommand}
 use Rattle.command_parser.specs.RecordForms.{HasForm, record_forms, HasRow}
 
 -- the fields have the forms one by one, behind that field
-pub data Fit : List Form → List ℕ → List (List ℕ) → Type 0 where
+pub data Fit : List FieldForm → List ℕ → List (List ℕ) → Type 0 where
   none : {before : List ℕ} → Fit [] before []
-  next : {f : Form} {forms : List Form} {before field : List ℕ} {fields : List (List ℕ)}
+  next : {f : FieldForm} {forms : List FieldForm} {before field : List ℕ} {fields : List (List ℕ)}
       → HasForm f before field → Fit forms field fields → Fit (f ∷ forms) before (field ∷ fields)
 
-Fit-length : {forms : List Form} {before : List ℕ} {fields : List (List ℕ)} → Fit forms before fields → length forms ≡ length fields
+Fit-length : {forms : List FieldForm} {before : List ℕ} {fields : List (List ℕ)} → Fit forms before fields → length forms ≡ length fields
 Fit-length none = refl
 Fit-length (next has fit) = ap suc (Fit-length fit)
 
-Fit-each : {forms : List Form} {before : List ℕ} {fields : List (List ℕ)} → Fit forms before fields
+Fit-each : {forms : List FieldForm} {before : List ℕ} {fields : List (List ℕ)} → Fit forms before fields
     → (i : ℕ) → i < length fields → HasForm (get_or forms i form.Minute) (get_or (before ∷ fields) i []) (get_or fields i [])
 Fit-each none i lt = absurd (omega (arith, lt))
 Fit-each (next has fit) zero lt = has
 Fit-each (next has fit) (suc i) lt = Fit-each fit i (omega (arith, lt))
 
-pub fit-each : (forms : List Form) (before : List ℕ) (fields : List (List ℕ)) → length forms ≡ length fields
+pub fit-each : (forms : List FieldForm) (before : List ℕ) (fields : List (List ℕ)) → length forms ≡ length fields
     → ((i : ℕ) → i < length fields → HasForm (get_or forms i form.Minute) (get_or (before ∷ fields) i []) (get_or fields i []))
     → Fit forms before fields
 fit-each [] before [] same each = none
@@ -64,7 +64,7 @@ row n fields lt fit = record {
 }
 
 -- the forms of an event's fields
-abbrev event_forms : Event → List Form
+abbrev event_forms : Event → List FieldForm
 event_forms (event.Ride t) = form.Event event_word.Ride ∷ form.Minute ∷ []
 event_forms (event.Duty t) = form.Event event_word.Duty ∷ form.Minute ∷ []
 event_forms (event.Interim t kind place) = form.Event event_word.Interim ∷ form.Minute ∷ form.Kind ∷ form.Code ∷ []
@@ -86,7 +86,7 @@ event-fit (event.Other span place) h =
     next refl (next (span.from, h.0, refl) (next (span.from, span.to, h.0, h.1, h.2, refl, refl) (next h.3 none)))
 
 -- the fields of a command's record fit the row of its word, where what it is about fits the forms behind the word
-said : {t : ℕ} {w : Word} {forms : List Form} {before : List ℕ} {about : List (List ℕ)} → IsInYears t → Fit forms (word_text w) about
+said : {t : ℕ} {w : Word} {forms : List FieldForm} {before : List ℕ} {about : List (List ℕ)} → IsInYears t → Fit forms (word_text w) about
     → Fit (form.Minute ∷ form.Word w ∷ forms) before (minute_text t ∷ word_text w ∷ about)
 said h fit = next (_, h, refl) (next refl fit)
 
@@ -103,7 +103,7 @@ told : {before : List ℕ} (person : ℕ) (e : Event) → IsNumber person × IsE
 told person e h = next (person, h.0, refl) (event-fit e h.1)
 
 -- the forms of a record that tells an event
-abbrev event_row : Word → Event → List Form
+abbrev event_row : Word → Event → List FieldForm
 event_row w e = form.Minute ∷ form.Word w ∷ form.Number ∷ event_forms e
 
 -- the place of an event's row behind the word `past`; that behind the word `event` stands eight rows on

@@ -11,14 +11,14 @@ use Rattle.qualifications.specs.Craft.{craft_text}
 use Rattle.qualifications.specs.Quals.{quals_text}
 use Rattle.desk_model.specs.statements.Chain.{IsChain, chain_text}
 use Rattle.desk_model.specs.texts.StatedTexts.{sort_text, kind_text}
-use Rattle.command_parser.specs.declared.form.Form.{Form}
-use Rattle.command_parser.specs.declared.form.Form.TheVariants as form
+use Rattle.command_parser.specs.declared.field_form.FieldForm.{FieldForm}
+use Rattle.command_parser.specs.declared.field_form.FieldForm.TheVariants as form
 use Rattle.command_parser.specs.declared.word.Word.TheVariants as word
 use Rattle.command_parser.specs.declared.event_word.EventWord.TheVariants as event_word
 use Rattle.command_parser.specs.Word.{word_text, event_word_text}
 
 -- the field has the form, where that field stands before it
-abbrev pub HasForm : Form → List ℕ → List ℕ → Type 0
+abbrev pub HasForm : FieldForm → List ℕ → List ℕ → Type 0
 HasForm (form.Word w) before field = field ≡ word_text w
 HasForm (form.Event w) before field = field ≡ event_word_text w
 HasForm form.Minute before field = (t : ℕ) × IsInYears t × (field ≡ minute_text t)
@@ -33,10 +33,10 @@ HasForm form.Kind before field = (kind : Kind) × (field ≡ kind_text kind)
 HasForm form.Chain before field = (chain : List (List ℕ)) × IsChain chain × (field ≡ chain_text chain)
 HasForm form.Duty before field = (minutes : ℕ) × (1 ≤ minutes) × (minutes ≤ 9_999) × (field ≡ decimal minutes)
 HasForm form.Limbo before field = (minutes : ℕ) × (minutes ≤ 999) × (field ≡ decimal minutes)
-HasForm form.Place before field = (place : ℕ) × (1 ≤ place) × (place ≤ 9_999) × (field ≡ decimal place)
+HasForm form.Position before field = (position : ℕ) × (1 ≤ position) × (position ≤ 9_999) × (field ≡ decimal position)
 
 -- the forms of the fields of each record that states a command
-abbrev pub record_forms : List (List Form)
+abbrev pub record_forms : List (List FieldForm)
 record_forms =
     (form.Minute ∷ form.Word word.Enrol ∷ form.Number ∷ form.Craft ∷ form.Code ∷ form.Quals ∷ [])
     ∷ (form.Minute ∷ form.Word word.Board ∷ form.Code ∷ form.Sort ∷ form.Code ∷ [])
@@ -72,20 +72,20 @@ record_forms =
     ∷ (form.Minute ∷ form.Word word.Annul ∷ form.Number ∷ [])
     ∷ (form.Minute ∷ form.Word word.Drop ∷ form.Number ∷ [])
     ∷ (form.Minute ∷ form.Word word.Hours ∷ form.Number ∷ form.Month ∷ [])
-    ∷ (form.Minute ∷ form.Word word.At ∷ form.Code ∷ form.Place ∷ [])
+    ∷ (form.Minute ∷ form.Word word.At ∷ form.Code ∷ form.Position ∷ [])
     ∷ (form.Minute ∷ form.Word word.Explain ∷ form.Number ∷ form.Number ∷ [])
     ∷ (form.Minute ∷ form.Word word.Vac ∷ form.Number ∷ [])
     ∷ []
 
 -- the first fields, so many, have the first forms
-pub record HasForms (forms : List Form) (fields : List (List ℕ)) (count : ℕ) : Type 0 where
+pub record HasForms (forms : List FieldForm) (fields : List (List ℕ)) (count : ℕ) : Type 0 where
   pub some : count ≤ length forms
   pub most : count ≤ length fields
   pub each : (i : ℕ) → i < count → HasForm (get_or forms i form.Minute) (get_or fields (i - 1) []) (get_or fields i [])
 
 -- the first fields, so many, are those of some record
 pub record Begins (fields : List (List ℕ)) (count : ℕ) : Type 0 where
-  pub forms : List Form
+  pub forms : List FieldForm
   pub among : Contains record_forms forms
   pub has : HasForms forms fields count
 
@@ -98,7 +98,7 @@ pub record IsWrongAt (fields : List (List ℕ)) (place : ℕ) : Type 0 where
 
 -- the fields are as many as those of some record, and have their forms
 pub record HasRow (fields : List (List ℕ)) : Type 0 where
-  pub forms : List Form
+  pub forms : List FieldForm
   pub among : Contains record_forms forms
   pub as_many : length forms ≡ length fields
   pub has : HasForms forms fields (length fields)

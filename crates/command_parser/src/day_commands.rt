@@ -4,7 +4,7 @@ ghost use Rattle.record_rows.specs.Rows.{HasLeft, row_fields};
 ghost use Rattle.command_parser.specs.DayCommands.{StatesOrWrong};
 
 use crate::record_row::read_row;
-use crate::wrong_place::WrongPlace;
+use crate::wrong_field::WrongField;
 use desk_base::NoMemory;
 use desk_model::Stated;
 use record_rows::{LastMinute, Row, Rows};
@@ -16,7 +16,7 @@ pub(crate) struct DayCommands {
     /// The commands, in their order.
     pub commands: Vec<Stated>,
     /// Where that record is wrong, if there is one.
-    pub wrong: Option<WrongPlace>,
+    pub wrong: Option<WrongField>,
 }
 
 impl DayCommands {
@@ -30,7 +30,7 @@ impl DayCommands {
         if self.wrong.is_none() {
             match read_row(last, row) {
                 Ok(stated) => self.commands.push(stated)?,
-                Err(field) => self.wrong = Some(WrongPlace { record_no, field }),
+                Err(field) => self.wrong = Some(WrongField { record_no, field }),
             }
         }
         Ok(())

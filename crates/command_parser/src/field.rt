@@ -31,16 +31,16 @@ pub fn read_count(text: &[u8]) -> Option<u16>
     u16::try_from(read_decimal(text)?).ok()
 }
 
-/// The place of a board, 1 to 9,999, that a field spells in decimal.
-pub fn read_place(text: &[u8]) -> Option<u16>
-    ensures some { IfSome result (λ place. (1 ≤ place) × (place ≤ 9_999)
-        × (text.now ≡ decimal place)) }
-    ensures only { (place : ℕ) → 1 ≤ place → place ≤ 9_999 → text.now ≡ decimal place
-        → result ≡ Some place }
+/// The position of a board, 1 to 9,999, that a field spells in decimal.
+pub fn read_position(text: &[u8]) -> Option<u16>
+    ensures some { IfSome result (λ position. (1 ≤ position) × (position ≤ 9_999)
+        × (text.now ≡ decimal position)) }
+    ensures only { (position : ℕ) → 1 ≤ position → position ≤ 9_999 → text.now ≡ decimal position
+        → result ≡ Some position }
 {
-    let place = u16::try_from(read_decimal(text)?).ok()?;
-    if place >= 1 && place <= 9_999 {
-        Some(place)
+    let position = u16::try_from(read_decimal(text)?).ok()?;
+    if position >= 1 && position <= 9_999 {
+        Some(position)
     } else {
         None
     }

@@ -1,7 +1,7 @@
 ghost use Rattle.std.specs.Prelude.{◌+◌, map};
 ghost use Rattle.command_parser.specs.RecordForms.{HasForms, IsWrongAt};
 
-use crate::form::Form;
+use crate::field_form::FieldForm;
 use crate::record_forms::record_rows;
 
 /// The place, from 1, of a wrong record's first field that is missing, one too many or none that may stand there.
@@ -16,7 +16,7 @@ pub(crate) fn wrong_field(fields: &[&[u8]]) -> u8
 }
 
 // How many fields have the forms, one after another.
-fn allowed_front(forms: &[Form], fields: &[&[u8]]) -> usize
+fn allowed_front(forms: &[FieldForm], fields: &[&[u8]]) -> usize
     ensures some { HasForms forms.now (map (λ field. field.now) fields.now) result }
     ensures most { ¬ HasForms forms.now (map (λ field. field.now) fields.now) (result + 1) }
 {

@@ -10,7 +10,7 @@ mod day_file;
 mod event_word;
 mod field;
 mod first_wrong;
-mod form;
+mod field_form;
 mod limits;
 mod more_commands;
 mod more_fault;
@@ -24,13 +24,13 @@ mod spelled_offer;
 mod spelled_person;
 mod table_of_records;
 mod word;
-mod wrong_place;
+mod wrong_field;
 
 pub use command_line::read_command;
 pub use command_record::{a_record_states_one_command, read_record, stated_by};
 pub use day_fault::DayFault;
 pub use day_file::{DayFile, bytes_are_one_day_file, read_day};
-pub use field::{read_count, read_person, read_place, read_vac};
+pub use field::{read_count, read_person, read_position, read_vac};
 pub use limits::{RECORD_LIMIT, the_most_records_of_a_day_file};
 pub use more_commands::{bytes_state_one_list_of_commands, read_more};
 pub use more_fault::MoreFault;
@@ -38,5 +38,5 @@ pub use opening_record::opening_of;
 pub use read_fail::ReadFail;
 pub use spelled_event::read_kind;
 pub use table_of_records::{
-    a_record_is_wrong_at_one_place, the_table_has_just_the_records_of_commands,
+    a_record_is_wrong_at_one_field, the_table_has_just_the_records_of_commands,
 };

@@ -5,7 +5,7 @@ ghost use Rattle.command_parser.specs.declared.word.Word.TheVariants as word;
 ghost use Rattle.desk_model.specs.texts.StatedTexts.{job_word};
 ghost use Rattle.command_parser.specs.Spelled.{Spells, SpellsCommand};
 
-use crate::field::{read_count, read_extra, read_place, read_vac};
+use crate::field::{read_count, read_extra, read_position, read_vac};
 use desk_base::{Code, Minute};
 use desk_model::{Chain, Cmd, Job};
 use qualifications::{Craft, Quals};
@@ -90,7 +90,7 @@ pub(crate) fn read_at(about: &[&[u8]]) -> Option<Cmd>
     };
     Some(Cmd::At {
         board: Code::read(board)?,
-        place: read_place(place)?,
+        place: read_position(place)?,
     })
 }
 

@@ -16,7 +16,7 @@ pub fn the_table_has_just_the_records_of_commands()
 /// that is missing, and where fields stand behind a command's record that of the first of these; so of a command's record
 /// itself it is the place behind its last field. No command's record begins with the fields up to a wrong one. It does
 /// nothing: its clauses are the law.
-pub fn a_record_is_wrong_at_one_place()
+pub fn a_record_is_wrong_at_one_field()
     ensures one { (fields : List (List ℕ)) (p q : ℕ) → IsWrongAt fields p → IsWrongAt fields q
         → p ≡ q }
     ensures missing { (fields more : List (List ℕ)) (s : StatedValue)

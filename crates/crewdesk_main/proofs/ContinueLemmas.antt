@@ -16,7 +16,7 @@ use Rattle.desk_model.specs.histories.Legal.{next, history_from, MayState, IsLeg
 use Rattle.command_parser.specs.MoreCommands.{AreCommands, HasMoreFault}
 use Rattle.command_parser.specs.declared.more_fault.MoreFault.{MoreFault}
 use Rattle.command_parser.specs.declared.more_fault.MoreFault.TheVariants as fault
-use Rattle.audit_desk.specs.declared.journal.TheConstants.{BYTE_LIMIT}
+use Rattle.audit_desk.specs.declared.journal.TheConstants.{JOURNAL_BYTES}
 use Rattle.audit_desk.specs.declared.verdict.Verdict.{Verdict}
 use Rattle.audit_desk.specs.declared.verdict.Verdict.TheVariants as verdict
 use Rattle.audit_desk.specs.Found.{Finds}
@@ -161,32 +161,32 @@ EndsByTheText-found one result text found few finds other only =
 
 -- ---- the same of what was taken from a source
 
-pub FindsVerdict-TookAll : (before after : Option (List ℕ)) (bytes seen : List ℕ) (status : Status) (Writes : List ℕ → Type 0) → TookAll before after bytes → length bytes ≤ BYTE_LIMIT → seen ≡ bytes
-    → FindsVerdict (λ P. P seen) status Writes → FindsVerdict (WasRead BYTE_LIMIT before after) status Writes
+pub FindsVerdict-TookAll : (before after : Option (List ℕ)) (bytes seen : List ℕ) (status : Status) (Writes : List ℕ → Type 0) → TookAll before after bytes → length bytes ≤ JOURNAL_BYTES → seen ≡ bytes
+    → FindsVerdict (λ P. P seen) status Writes → FindsVerdict (WasRead JOURNAL_BYTES before after) status Writes
 FindsVerdict-TookAll before after bytes seen status Writes took within same finds = record {
   found = finds.found;
-  read = WasRead-TookAll BYTE_LIMIT before after bytes (λ text. IsAudited (journal_of text) finds.found) took within
+  read = WasRead-TookAll JOURNAL_BYTES before after bytes (λ text. IsAudited (journal_of text) finds.found) took within
       (subst (λ text. IsAudited (journal_of text) finds.found) same finds.read);
   ends = finds.ends;
   written = finds.written;
 }
 
-pub FindsWrongCommand-TookAll : (before after : Option (List ℕ)) (bytes seen : List ℕ) (Writes : List ℕ → Type 0) → TookAll before after bytes → length bytes ≤ BYTE_LIMIT → seen ≡ bytes
-    → FindsWrongCommand (λ P. P seen) Writes → FindsWrongCommand (WasRead BYTE_LIMIT before after) Writes
+pub FindsWrongCommand-TookAll : (before after : Option (List ℕ)) (bytes seen : List ℕ) (Writes : List ℕ → Type 0) → TookAll before after bytes → length bytes ≤ JOURNAL_BYTES → seen ≡ bytes
+    → FindsWrongCommand (λ P. P seen) Writes → FindsWrongCommand (WasRead JOURNAL_BYTES before after) Writes
 FindsWrongCommand-TookAll before after bytes seen Writes took within same finds =
     let cause = fault.Unreadable finds.record_no finds.field in
     record {
       record_no = finds.record_no;
       field = finds.field;
-      read = WasRead-TookAll BYTE_LIMIT before after bytes (λ text. HasCommandFault text cause) took within (subst (λ text. HasCommandFault text cause) same finds.read);
+      read = WasRead-TookAll JOURNAL_BYTES before after bytes (λ text. HasCommandFault text cause) took within (subst (λ text. HasCommandFault text cause) same finds.read);
       written = finds.written;
     }
 
-at-seen : (before after : Option (List ℕ)) (bytes seen : List ℕ) (P : List ℕ → Type 0) → TookAll before after bytes → seen ≡ bytes → Tells BYTE_LIMIT before P → P seen
+at-seen : (before after : Option (List ℕ)) (bytes seen : List ℕ) (P : List ℕ → Type 0) → TookAll before after bytes → seen ≡ bytes → Tells JOURNAL_BYTES before P → P seen
 at-seen before after bytes seen P took same tells = subst P (TookAll-told before after bytes tells.bytes took tells.told ∙ sym same) tells.has
 
 pub EndsByTheText-TookAll : (result : Status) (before after : Option (List ℕ)) (bytes seen : List ℕ) → TookAll before after bytes → seen ≡ bytes
-    → EndsByTheText result (λ P. P seen) → EndsByTheText result (Tells BYTE_LIMIT before)
+    → EndsByTheText result (λ P. P seen) → EndsByTheText result (Tells JOURNAL_BYTES before)
 EndsByTheText-TookAll result before after bytes seen took same ends = record {
   too_long = λ tells. ends.too_long (at-seen before after bytes seen IsTooLong took same tells);
   verdict = λ found tells. ends.verdict found (at-seen before after bytes seen (λ text. IsAudited (journal_of text) found) took same tells);

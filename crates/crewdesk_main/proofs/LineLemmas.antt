@@ -30,8 +30,8 @@ begins_behind-last begins b (c ∷ later) = begins_behind-last (b == 10) c later
 pub line_count-last : (text : List ℕ) (last : ℕ) → Some last ≡ slice_get text (length text - 1) → line_count text + (if last == 10 then 1 else 0) ≡ fed text + 1
 line_count-last [] last is = absurd (none-some last (sym is))
 line_count-last (b ∷ later) last is =
-    let place : length (b ∷ later) - 1 ≡ length later = omega arith in
-    let here = get_or_from_slice_get (b ∷ later) (length later) last 0 (ap (slice_get (b ∷ later)) (sym place) ∙ sym is) in
+    let index : length (b ∷ later) - 1 ≡ length later = omega arith in
+    let here = get_or_from_slice_get (b ∷ later) (length later) last 0 (ap (slice_get (b ∷ later)) (sym index) ∙ sym is) in
     omega (arith, lines_from-fed true (b ∷ later), ap one (begins_behind-last true b later), ap (λ x. one (x == 10)) here)
 
 -- and one without has none
@@ -39,5 +39,5 @@ pub line_count-none : (text : List ℕ) → None ≡ slice_get text (length text
 unfolding lines_from
 line_count-none [] is = refl
 line_count-none (b ∷ later) is =
-    let place : length (b ∷ later) - 1 ≡ length later = omega arith in
-    absurd (none-some _ (is ∙ ap (slice_get (b ∷ later)) place ∙ slice_get-get_or (b ∷ later) (length later) 0 (omega arith)))
+    let index : length (b ∷ later) - 1 ≡ length later = omega arith in
+    absurd (none-some _ (is ∙ ap (slice_get (b ∷ later)) index ∙ slice_get-get_or (b ∷ later) (length later) 0 (omega arith)))

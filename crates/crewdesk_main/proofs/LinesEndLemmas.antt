@@ -5,7 +5,7 @@ use Rattle.desk_io.specs.Input.{TookMore}
 use Rattle.desk_io.specs.declared.status.Status.{Status}
 use Rattle.desk_io.specs.declared.status.Status.TheVariants.{Fine, Usage, ReadFault, WriteFault, TooLong, NoMemory, AuditWrong, NoOpening, Unreadable}
 use Rattle.desk_model.specs.histories.History.{History}
-use Rattle.audit_desk.specs.declared.journal.TheConstants.{BYTE_LIMIT}
+use Rattle.audit_desk.specs.declared.journal.TheConstants.{JOURNAL_BYTES}
 use Rattle.audit_desk.specs.Found.{HasNoOpening}
 use Rattle.day_replay.specs.Ends.{WasRead, TellsMore, EndsAs}
 use Rattle.crewdesk_main.specs.Lines.{HasTooManyLines, HasFewLines}
@@ -42,20 +42,20 @@ ends-so NoMemory status fine fault long opening line form wrong = λ a b. absurd
 
 module _ (result : Status) (left left' : Option (List ℕ)) (text : History → List ℕ) (Whole Front : List ℕ → Type 0) (Line : List ℕ → Type 0)
     (fine : result ≡ Fine → Tells left left' text Whole) (fault : result ≡ WriteFault → Tells left left' text Front)
-    (long : result ≡ TooLong → TookMore left left' BYTE_LIMIT ⊎ WasRead BYTE_LIMIT left left' HasTooManyLines)
-    (opening : result ≡ NoOpening → WasRead BYTE_LIMIT left left' (λ bytes. HasFewLines bytes × HasNoOpening bytes))
+    (long : result ≡ TooLong → TookMore left left' JOURNAL_BYTES ⊎ WasRead JOURNAL_BYTES left left' HasTooManyLines)
+    (opening : result ≡ NoOpening → WasRead JOURNAL_BYTES left left' (λ bytes. HasFewLines bytes × HasNoOpening bytes))
     (unread : result ≡ Unreadable → TellsLine left left' Line) (form : result ≢ Usage) (wrong : result ≢ AuditWrong) where
   -- more bytes than the limit were not read
-  all-within : (P : List ℕ → Type 0) → TellsMore BYTE_LIMIT left → ¬ WasRead BYTE_LIMIT left left' P
-  all-within P more read = omega (arith, more.more, (was-told BYTE_LIMIT left left' more.bytes P more.told read).0)
+  all-within : (P : List ℕ → Type 0) → TellsMore JOURNAL_BYTES left → ¬ WasRead JOURNAL_BYTES left left' P
+  all-within P more read = omega (arith, more.more, (was-told JOURNAL_BYTES left left' more.bytes P more.told read).0)
 
   -- what has few lines is not too long
-  few-long : (bytes : List ℕ) → left ≡ Some bytes → length bytes ≤ BYTE_LIMIT → HasFewLines bytes → result ≢ TooLong
+  few-long : (bytes : List ℕ) → left ≡ Some bytes → length bytes ≤ JOURNAL_BYTES → HasFewLines bytes → result ≢ TooLong
   few-long bytes told within few is = go (long is)
     where
-      go : TookMore left left' BYTE_LIMIT ⊎ WasRead BYTE_LIMIT left left' HasTooManyLines → ⊥
-      go (inl took) = more-told BYTE_LIMIT left left' bytes told within took
-      go (inr read) = omega (arith, few, (was-told BYTE_LIMIT left left' bytes HasTooManyLines told read).1)
+      go : TookMore left left' JOURNAL_BYTES ⊎ WasRead JOURNAL_BYTES left left' HasTooManyLines → ⊥
+      go (inl took) = more-told JOURNAL_BYTES left left' bytes told within took
+      go (inr read) = omega (arith, few, (was-told JOURNAL_BYTES left left' bytes HasTooManyLines told read).1)
 
   pub EndsByTheLines-causes : EndsByTheLines result left
   EndsByTheLines-causes = record {

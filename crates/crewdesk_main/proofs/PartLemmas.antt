@@ -3,10 +3,10 @@ use Rattle.std.proofs.Common.{◌≡◌, ℕ, ◌+◌, ◌<◌, ◌≤◌, ◌==
 use Rattle.std.proofs.lemmas.List.{drop_all, at_drop_more, take_more, take_all}
 use Rattle.crewdesk_main.specs.Parts.{is_plus, before_plus, behind_plus, journal_of, more_of}
 
--- the parts of a text, whose bytes before a place were passed
-pub record Passed (text : List ℕ) (place : ℕ) (begins : Bool) : Type 0 where
-  pub journal : take place text ++ before_plus begins (drop place text) ≡ journal_of text
-  pub more : behind_plus begins (drop place text) ≡ more_of text
+-- the parts of a text, whose bytes before an index were passed
+pub record Passed (text : List ℕ) (index : ℕ) (begins : Bool) : Type 0 where
+  pub journal : take index text ++ before_plus begins (drop index text) ≡ journal_of text
+  pub more : behind_plus begins (drop index text) ≡ more_of text
 
 before_plus-past : (begins : Bool) (b : ℕ) (later : List ℕ) → (begins && is_plus (b ∷ later)) ≡ false → before_plus begins (b ∷ later) ≡ b ∷ before_plus (b == 10) later
 unfolding before_plus
@@ -17,18 +17,18 @@ unfolding behind_plus
 behind_plus-past begins b later not = rw not refl
 
 -- where no line is just a plus here, one byte more is passed
-pub Passed-more : (text : List ℕ) (place : ℕ) (begins : Bool) → place < length text → (begins && is_plus (drop place text)) ≡ false → Passed text place begins
-    → Passed text (place + 1) (get_or text place 0 == 10)
-Passed-more text place begins within not passed =
-    let b = get_or text place 0 in
-    let later = drop (place + 1) text in
-    let here = sym (at_drop_more (λ left. begins && is_plus left) text place 0 within) ∙ not in
+pub Passed-more : (text : List ℕ) (index : ℕ) (begins : Bool) → index < length text → (begins && is_plus (drop index text)) ≡ false → Passed text index begins
+    → Passed text (index + 1) (get_or text index 0 == 10)
+Passed-more text index begins within not passed =
+    let b = get_or text index 0 in
+    let later = drop (index + 1) text in
+    let here = sym (at_drop_more (λ left. begins && is_plus left) text index 0 within) ∙ not in
     record {
-      journal = ap (λ front. front ++ before_plus (b == 10) later) (take_more text place 0 within)
-          ∙ append_assoc (take place text) (b ∷ []) (before_plus (b == 10) later)
-          ∙ ap (λ t. take place text ++ t) (sym (at_drop_more (before_plus begins) text place 0 within ∙ before_plus-past begins b later here))
+      journal = ap (λ front. front ++ before_plus (b == 10) later) (take_more text index 0 within)
+          ∙ append_assoc (take index text) (b ∷ []) (before_plus (b == 10) later)
+          ∙ ap (λ t. take index text ++ t) (sym (at_drop_more (before_plus begins) text index 0 within ∙ before_plus-past begins b later here))
           ∙ passed.journal;
-      more = sym (at_drop_more (behind_plus begins) text place 0 within ∙ behind_plus-past begins b later here) ∙ passed.more;
+      more = sym (at_drop_more (behind_plus begins) text index 0 within ∙ behind_plus-past begins b later here) ∙ passed.more;
     }
 
 -- where one is, the parts are what was passed, and what is behind it
@@ -40,12 +40,12 @@ behind_plus-here : (left more : List ℕ) → left ≡ 43 ∷ 10 ∷ more → be
 unfolding behind_plus
 behind_plus-here left more is = rw is refl
 
-pub Passed-journal : (text more : List ℕ) (place : ℕ) → drop place text ≡ 43 ∷ 10 ∷ more → Passed text place true → take place text ≡ journal_of text
-Passed-journal text more place is passed =
-    sym (append-nil (take place text)) ∙ ap (λ t. take place text ++ t) (sym (before_plus-here (drop place text) more is)) ∙ passed.journal
+pub Passed-journal : (text more : List ℕ) (index : ℕ) → drop index text ≡ 43 ∷ 10 ∷ more → Passed text index true → take index text ≡ journal_of text
+Passed-journal text more index is passed =
+    sym (append-nil (take index text)) ∙ ap (λ t. take index text ++ t) (sym (before_plus-here (drop index text) more is)) ∙ passed.journal
 
-pub Passed-commands : (text more : List ℕ) (place : ℕ) → drop place text ≡ 43 ∷ 10 ∷ more → Passed text place true → more ≡ more_of text
-Passed-commands text more place is passed = sym (behind_plus-here (drop place text) more is) ∙ passed.more
+pub Passed-commands : (text more : List ℕ) (index : ℕ) → drop index text ≡ 43 ∷ 10 ∷ more → Passed text index true → more ≡ more_of text
+Passed-commands text more index is passed = sym (behind_plus-here (drop index text) more is) ∙ passed.more
 
 -- where all was passed there is no such line
 before_plus-end : (begins : Bool) → before_plus begins [] ≡ []
@@ -56,11 +56,11 @@ behind_plus-end : (begins : Bool) → behind_plus begins [] ≡ []
 unfolding behind_plus
 behind_plus-end begins = refl
 
-pub Passed-whole : (text : List ℕ) (place : ℕ) (begins : Bool) → length text ≤ place → Passed text place begins → text ≡ journal_of text
-Passed-whole text place begins all passed =
-    sym (append-nil text) ∙ sym (ap (λ t. t ++ []) (take_all place text all))
-    ∙ ap (λ t. take place text ++ t) (sym (ap (before_plus begins) (drop_all place text all) ∙ before_plus-end begins)) ∙ passed.journal
+pub Passed-whole : (text : List ℕ) (index : ℕ) (begins : Bool) → length text ≤ index → Passed text index begins → text ≡ journal_of text
+Passed-whole text index begins all passed =
+    sym (append-nil text) ∙ sym (ap (λ t. t ++ []) (take_all index text all))
+    ∙ ap (λ t. take index text ++ t) (sym (ap (before_plus begins) (drop_all index text all) ∙ before_plus-end begins)) ∙ passed.journal
 
-pub Passed-no_commands : (text : List ℕ) (place : ℕ) (begins : Bool) → length text ≤ place → Passed text place begins → [] ≡ more_of text
-Passed-no_commands text place begins all passed =
-    sym (ap (behind_plus begins) (drop_all place text all) ∙ behind_plus-end begins) ∙ passed.more
+pub Passed-no_commands : (text : List ℕ) (index : ℕ) (begins : Bool) → length text ≤ index → Passed text index begins → [] ≡ more_of text
+Passed-no_commands text index begins all passed =
+    sym (ap (behind_plus begins) (drop_all index text all) ∙ behind_plus-end begins) ∙ passed.more

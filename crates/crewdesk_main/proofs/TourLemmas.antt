@@ -15,7 +15,7 @@ use Rattle.duty_record.specs.Kept.{Keeps}
 use Rattle.desk_io.specs.Input.{TookAll}
 use Rattle.desk_io.specs.declared.status.Status.{Status}
 use Rattle.desk_io.specs.declared.status.Status.TheVariants.{Fine, WriteFault, NoMemory, NoOpening, Unreadable}
-use Rattle.audit_desk.specs.declared.journal.TheConstants.{BYTE_LIMIT}
+use Rattle.audit_desk.specs.declared.journal.TheConstants.{JOURNAL_BYTES}
 use Rattle.audit_desk.specs.declared.verdict.Verdict.{Verdict}
 use Rattle.audit_desk.specs.declared.verdict.Verdict.TheVariants as verdict
 use Rattle.audit_desk.specs.VerdictText.{verdict_text}
@@ -73,12 +73,12 @@ KeepsJournal-opened (Err e) o text line behind valid parts is keeps = tt
 
 -- a run that ends as unreadable does so for a line that is no entry's
 pub TellsLine-told : (found : Verdict) (result : Status) (before after : Option (List ℕ)) (bytes seen : List ℕ) (Writes : List ℕ → Type 0)
-    → TookAll before after bytes → length bytes ≤ BYTE_LIMIT → HasFewLines bytes → seen ≡ bytes → (found ≢ verdict.NoMemory → IsUnread seen found)
+    → TookAll before after bytes → length bytes ≤ JOURNAL_BYTES → HasFewLines bytes → seen ≡ bytes → (found ≢ verdict.NoMemory → IsUnread seen found)
     → ((result ≡ ends_as found) ⊎ ((result ≡ NoMemory) ⊎ ((ends_as found ≡ Fine) × (result ≡ WriteFault)))) → result ≡ Unreadable → Writes (verdict_text found)
     → TellsLine before after Writes
 TellsLine-told (verdict.Unreadable line) result before after bytes seen Writes took within few same unread only ends written = record {
   line = line;
-  read = WasRead-TookAll BYTE_LIMIT before after bytes (λ b. HasFewLines b × HasNoEntry b line) took within (few, subst (λ b. HasNoEntry b line) same (unread (λ e. let e = e in cc)));
+  read = WasRead-TookAll JOURNAL_BYTES before after bytes (λ b. HasFewLines b × HasNoEntry b line) took within (few, subst (λ b. HasNoEntry b line) same (unread (λ e. let e = e in cc)));
   written = written;
 }
 TellsLine-told (verdict.Legal count) result before after bytes seen Writes took within few same unread only ends written = absurd (unread (λ e. let e = e in cc))

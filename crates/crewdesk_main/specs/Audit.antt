@@ -6,7 +6,7 @@ use Rattle.std.specs.Io.KnownBytes.{Appends}
 use Rattle.desk_io.specs.Faults.{Rose}
 use Rattle.desk_io.specs.Giving.{AddsFront}
 use Rattle.desk_io.specs.Input.{TookMore, TookFront}
-use Rattle.audit_desk.specs.declared.journal.TheConstants.{BYTE_LIMIT}
+use Rattle.audit_desk.specs.declared.journal.TheConstants.{JOURNAL_BYTES}
 use Rattle.audit_desk.specs.declared.verdict.Verdict.{Verdict}
 use Rattle.audit_desk.specs.declared.verdict.Verdict.TheVariants as verdict
 use Rattle.audit_desk.specs.Found.{Finds}
@@ -30,15 +30,15 @@ pub record IsAudited (text : List ℕ) (found : Verdict) : Type 0 where
 -- a journal was read, an audit finds in it what it ends so for, and this was done with the lines that tell it
 pub record Audits (before after : Option (List ℕ)) (status : Status) (Writes : List ℕ → Type 0) : Type 0 where
   pub found : Verdict
-  pub read : WasRead BYTE_LIMIT before after (λ text. IsAudited text found)
+  pub read : WasRead JOURNAL_BYTES before after (λ text. IsAudited text found)
   pub ends : ends_as found ≡ status
   pub written : Writes (verdict_text found)
 
 -- which status comes where, by the bytes that the source tells
 pub record EndsByTheJournal (result : Status) (left : Option (List ℕ)) : Type 0 where
-  pub more_bytes : TellsMore BYTE_LIMIT left → EndsAs result TooLong
-  pub too_many : Tells BYTE_LIMIT left HasTooManyLines → EndsAs result TooLong
-  pub verdict : (found : Verdict) → Tells BYTE_LIMIT left (λ text. IsAudited text found) → result ≢ WriteFault → EndsAs result (ends_as found)
+  pub more_bytes : TellsMore JOURNAL_BYTES left → EndsAs result TooLong
+  pub too_many : Tells JOURNAL_BYTES left HasTooManyLines → EndsAs result TooLong
+  pub verdict : (found : Verdict) → Tells JOURNAL_BYTES left (λ text. IsAudited text found) → result ≢ WriteFault → EndsAs result (ends_as found)
 
 -- a run that ended so did what an audit that ends so does: what its source and sink told before and after, and how many faults
 -- they counted
@@ -47,9 +47,9 @@ pub record EndsAudit (result : Status) (left left' : Option (List ℕ)) (asked a
   pub write_fault : result ≡ WriteFault → Audits left left' Fine (AddsFront held held')
   pub write_cause : result ≡ WriteFault → Rose given given'
   pub read_cause : result ≡ ReadFault → Rose asked asked'
-  pub too_long : result ≡ TooLong → TookMore left left' BYTE_LIMIT ⊎ WasRead BYTE_LIMIT left left' HasTooManyLines
-  pub not_too_long : result ≢ TooLong → TookFront left left' BYTE_LIMIT
-  pub no_opening : result ≡ NoOpening → WasRead BYTE_LIMIT left left' (λ text. IsAudited text verdict.NoOpening)
+  pub too_long : result ≡ TooLong → TookMore left left' JOURNAL_BYTES ⊎ WasRead JOURNAL_BYTES left left' HasTooManyLines
+  pub not_too_long : result ≢ TooLong → TookFront left left' JOURNAL_BYTES
+  pub no_opening : result ≡ NoOpening → WasRead JOURNAL_BYTES left left' (λ text. IsAudited text verdict.NoOpening)
   pub wrong : result ≡ AuditWrong → Audits left left' AuditWrong (WritesOrFails held held' given given')
   pub unreadable : result ≡ Unreadable → Audits left left' Unreadable (WritesOrFails held held' given given')
   pub by_the_journal : EndsByTheJournal result left

@@ -14,11 +14,11 @@ use Rattle.line_writer.specs.Line.{wrong_line}
 use Rattle.command_parser.specs.MoreCommands.{AreCommands, HasMoreFault}
 use Rattle.command_parser.specs.declared.more_fault.MoreFault.{MoreFault}
 use Rattle.command_parser.specs.declared.more_fault.MoreFault.TheVariants as fault
-use Rattle.audit_desk.specs.declared.journal.TheConstants.{BYTE_LIMIT}
+use Rattle.audit_desk.specs.declared.journal.TheConstants.{JOURNAL_BYTES}
 use Rattle.audit_desk.specs.declared.verdict.Verdict.{Verdict}
 use Rattle.audit_desk.specs.declared.verdict.Verdict.TheVariants as verdict
 use Rattle.audit_desk.specs.VerdictText.{verdict_text}
-use Rattle.crewdesk_main.specs.declared.limits.TheConstants.{ENTRY_LIMIT}
+use Rattle.crewdesk_main.specs.declared.limits.TheConstants.{JOURNAL_ENTRIES}
 use Rattle.day_replay.specs.Ends.{WasRead, WritesOrFails, Tells, TellsMore, EndsAs}
 use Rattle.crewdesk_main.specs.Lines.{HasTooManyLines, HasFewLines}
 use Rattle.crewdesk_main.specs.Audit.{IsAudited, ends_as}
@@ -27,7 +27,7 @@ use Rattle.day_replay.specs.Replay.{goes_on}
 
 -- how many commands a journal with so many entries may go on with
 abbrev pub room_behind : ℕ → ℕ
-room_behind count = ENTRY_LIMIT - count
+room_behind count = JOURNAL_ENTRIES - count
 
 -- the text's journal is that of this legal history, with no more lines than it may have, and it goes on with these commands
 pub record IsContinued (text : List ℕ) (h : History) (commands : List StatedValue) : Type 0 where
@@ -80,16 +80,16 @@ pub record EndsByTheText (result : Status) (Told : (List ℕ → Type 0) → Typ
 -- a run that ended so did what one that ends so does: what its source and sink told before and after, and how many faults they
 -- counted
 pub record EndsContinue (result : Status) (left left' : Option (List ℕ)) (asked asked' : ℕ) (held held' : Option (List ℕ)) (given given' : ℕ) : Type 0 where
-  pub fine : result ≡ Fine → Continues (WasRead BYTE_LIMIT left left') (Appends held held')
-  pub write_fault : result ≡ WriteFault → Continues (WasRead BYTE_LIMIT left left') (AddsFront held held')
+  pub fine : result ≡ Fine → Continues (WasRead JOURNAL_BYTES left left') (Appends held held')
+  pub write_fault : result ≡ WriteFault → Continues (WasRead JOURNAL_BYTES left left') (AddsFront held held')
   pub write_cause : result ≡ WriteFault → Rose given given'
   pub read_cause : result ≡ ReadFault → Rose asked asked'
-  pub too_long : result ≡ TooLong → TookMore left left' BYTE_LIMIT ⊎ WasRead BYTE_LIMIT left left' IsTooLong
-  pub not_too_long : result ≢ TooLong → TookFront left left' BYTE_LIMIT
-  pub no_opening : result ≡ NoOpening → WasRead BYTE_LIMIT left left' (λ text. IsAudited (journal_of text) verdict.NoOpening)
-  pub wrong : result ≡ AuditWrong → FindsVerdict (WasRead BYTE_LIMIT left left') AuditWrong (WritesOrFails held held' given given')
+  pub too_long : result ≡ TooLong → TookMore left left' JOURNAL_BYTES ⊎ WasRead JOURNAL_BYTES left left' IsTooLong
+  pub not_too_long : result ≢ TooLong → TookFront left left' JOURNAL_BYTES
+  pub no_opening : result ≡ NoOpening → WasRead JOURNAL_BYTES left left' (λ text. IsAudited (journal_of text) verdict.NoOpening)
+  pub wrong : result ≡ AuditWrong → FindsVerdict (WasRead JOURNAL_BYTES left left') AuditWrong (WritesOrFails held held' given given')
   pub unreadable : result ≡ Unreadable
-      → FindsVerdict (WasRead BYTE_LIMIT left left') Unreadable (WritesOrFails held held' given given')
-      ⊎ FindsWrongCommand (WasRead BYTE_LIMIT left left') (WritesOrFails held held' given given')
-  pub more_bytes : TellsMore BYTE_LIMIT left → EndsAs result TooLong
-  pub by_the_text : EndsByTheText result (Tells BYTE_LIMIT left)
+      → FindsVerdict (WasRead JOURNAL_BYTES left left') Unreadable (WritesOrFails held held' given given')
+      ⊎ FindsWrongCommand (WasRead JOURNAL_BYTES left left') (WritesOrFails held held' given given')
+  pub more_bytes : TellsMore JOURNAL_BYTES left → EndsAs result TooLong
+  pub by_the_text : EndsByTheText result (Tells JOURNAL_BYTES left)

@@ -1,6 +1,6 @@
 -- The lines of a text.
 use Rattle.std.specs.Prelude.{ℕ, ◌+◌, ◌<◌, ◌≤◌, ◌==◌, Bool, true, if◌then◌else◌, List, [], ◌∷◌}
-use Rattle.crewdesk_main.specs.declared.limits.TheConstants.{LINE_LIMIT}
+use Rattle.crewdesk_main.specs.declared.limits.TheConstants.{JOURNAL_LINES}
 
 -- how many lines begin in a text, where one begins at its first byte or doesn't; one begins behind each line feed
 unfoldable pub lines_from : Bool → List ℕ → ℕ
@@ -13,8 +13,8 @@ line_count text = lines_from true text
 
 -- more than a journal may have
 abbrev pub HasTooManyLines : List ℕ → Type 0
-HasTooManyLines text = LINE_LIMIT < line_count text
+HasTooManyLines text = JOURNAL_LINES < line_count text
 
 -- and no more than that
 abbrev pub HasFewLines : List ℕ → Type 0
-HasFewLines text = line_count text ≤ LINE_LIMIT
+HasFewLines text = line_count text ≤ JOURNAL_LINES

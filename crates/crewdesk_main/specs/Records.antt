@@ -12,7 +12,7 @@ use Rattle.desk_model.specs.statements.Entry.{EntryValue}
 use Rattle.desk_model.specs.statements.Fits.{Fits}
 use Rattle.desk_model.specs.histories.History.{History}
 use Rattle.desk_model.specs.texts.Journal.{entry_line, journal}
-use Rattle.audit_desk.specs.declared.journal.TheConstants.{BYTE_LIMIT}
+use Rattle.audit_desk.specs.declared.journal.TheConstants.{JOURNAL_BYTES}
 use Rattle.audit_desk.specs.declared.verdict.Verdict.{Verdict}
 use Rattle.audit_desk.specs.declared.verdict.Verdict.TheVariants as verdict
 use Rattle.audit_desk.specs.Found.{HasNoOpening, line_behind}
@@ -57,13 +57,13 @@ IsUnread text other = ⊥
 -- the journal of this history was read, and this was done with what is written of it
 pub record Tells (before after : Option (List ℕ)) (text : History → List ℕ) (Writes : List ℕ → Type 0) : Type 0 where
   pub history : History
-  pub read : WasRead BYTE_LIMIT before after (λ bytes. HasFewLines bytes × StartsWith bytes history [])
+  pub read : WasRead JOURNAL_BYTES before after (λ bytes. HasFewLines bytes × StartsWith bytes history [])
   pub written : Writes (text history)
 
 -- a line that is no entry's was read, and this was done with the line that tells which
 pub record TellsLine (before after : Option (List ℕ)) (Writes : List ℕ → Type 0) : Type 0 where
   pub line : ℕ
-  pub read : WasRead BYTE_LIMIT before after (λ bytes. HasFewLines bytes × HasNoEntry bytes line)
+  pub read : WasRead JOURNAL_BYTES before after (λ bytes. HasFewLines bytes × HasNoEntry bytes line)
   pub written : Writes (verdict_text (verdict.Unreadable line))
 
 -- which records are told of a history: those of a person's tours, or of all persons those that were too long
@@ -77,11 +77,11 @@ tours_text how h = json_text (told_by how h) ++ 10 ∷ []
 
 -- which status comes where, by the bytes that the source tells
 pub record EndsByTheLines (result : Status) (left : Option (List ℕ)) : Type 0 where
-  pub more_bytes : TellsMore BYTE_LIMIT left → EndsAs result TooLong
-  pub too_many : Holds BYTE_LIMIT left HasTooManyLines → EndsAs result TooLong
-  pub no_opening : Holds BYTE_LIMIT left (λ bytes. HasFewLines bytes × HasNoOpening bytes) → EndsAs result NoOpening
-  pub unreadable : (line : ℕ) → Holds BYTE_LIMIT left (λ bytes. HasFewLines bytes × HasNoEntry bytes line) → EndsAs result Unreadable
-  pub journal : (h : History) → Holds BYTE_LIMIT left (λ bytes. HasFewLines bytes × StartsWith bytes h []) → result ≢ WriteFault → EndsAs result Fine
+  pub more_bytes : TellsMore JOURNAL_BYTES left → EndsAs result TooLong
+  pub too_many : Holds JOURNAL_BYTES left HasTooManyLines → EndsAs result TooLong
+  pub no_opening : Holds JOURNAL_BYTES left (λ bytes. HasFewLines bytes × HasNoOpening bytes) → EndsAs result NoOpening
+  pub unreadable : (line : ℕ) → Holds JOURNAL_BYTES left (λ bytes. HasFewLines bytes × HasNoEntry bytes line) → EndsAs result Unreadable
+  pub journal : (h : History) → Holds JOURNAL_BYTES left (λ bytes. HasFewLines bytes × StartsWith bytes h []) → result ≢ WriteFault → EndsAs result Fine
 
 -- a run that ended so read a journal as it stands, and wrote this text of its history: what its source and sink told before and
 -- after, and how many faults they counted
@@ -90,9 +90,9 @@ pub record EndsTelling (result : Status) (text : History → List ℕ) (left lef
   pub write_fault : result ≡ WriteFault → Tells left left' text (AddsFront held held')
   pub write_cause : result ≡ WriteFault → Rose given given'
   pub read_cause : result ≡ ReadFault → Rose asked asked'
-  pub too_long : result ≡ TooLong → TookMore left left' BYTE_LIMIT ⊎ WasRead BYTE_LIMIT left left' HasTooManyLines
-  pub not_too_long : result ≢ TooLong → TookFront left left' BYTE_LIMIT
-  pub no_opening : result ≡ NoOpening → WasRead BYTE_LIMIT left left' (λ bytes. HasFewLines bytes × HasNoOpening bytes)
+  pub too_long : result ≡ TooLong → TookMore left left' JOURNAL_BYTES ⊎ WasRead JOURNAL_BYTES left left' HasTooManyLines
+  pub not_too_long : result ≢ TooLong → TookFront left left' JOURNAL_BYTES
+  pub no_opening : result ≡ NoOpening → WasRead JOURNAL_BYTES left left' (λ bytes. HasFewLines bytes × HasNoOpening bytes)
   pub unreadable : result ≡ Unreadable → TellsLine left left' (WritesOrFails held held' given given')
   pub not_wrong : result ≢ AuditWrong
   pub by_the_lines : EndsByTheLines result left

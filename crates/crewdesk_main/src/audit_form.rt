@@ -11,7 +11,7 @@ ghost use Rattle.crewdesk_main.specs.Lines.{HasTooManyLines};
 
 use crate::take_journal::take_journal;
 use crate::write_text::write_text;
-use audit_desk::{BYTE_LIMIT, Verdict, an_audit_finds_one_verdict, audit, write_verdict};
+use audit_desk::{JOURNAL_BYTES, Verdict, an_audit_finds_one_verdict, audit, write_verdict};
 use desk_io::{Sink, Source, Status, put_all};
 use std::alloc::Global;
 
@@ -25,12 +25,12 @@ pub fn audit_journal<S: Source, K: Sink>(alloc: Global, source: &mut S, sink: &m
     ensures write_cause { result ≡ Status.WriteFault → Rose (K.faults sink.old) (K.faults sink.new) }
     ensures read_cause { result ≡ Status.ReadFault → Rose (S.faults source.old) (S.faults source.new) }
     ensures too_long { result ≡ Status.TooLong
-        → TookMore (S.left source.old) (S.left source.new) BYTE_LIMIT
-        ⊎ WasRead BYTE_LIMIT (S.left source.old) (S.left source.new) HasTooManyLines }
+        → TookMore (S.left source.old) (S.left source.new) JOURNAL_BYTES
+        ⊎ WasRead JOURNAL_BYTES (S.left source.old) (S.left source.new) HasTooManyLines }
     ensures not_too_long { result ≢ Status.TooLong
-        → TookFront (S.left source.old) (S.left source.new) BYTE_LIMIT }
+        → TookFront (S.left source.old) (S.left source.new) JOURNAL_BYTES }
     ensures no_opening { result ≡ Status.NoOpening
-        → WasRead BYTE_LIMIT (S.left source.old) (S.left source.new) (λ text. IsAudited text Verdict.NoOpening) }
+        → WasRead JOURNAL_BYTES (S.left source.old) (S.left source.new) (λ text. IsAudited text Verdict.NoOpening) }
     ensures wrong { result ≡ Status.AuditWrong
         → Audits (S.left source.old) (S.left source.new) Status.AuditWrong
         (WritesOrFails (K.held sink.old) (K.held sink.new) (K.faults sink.old) (K.faults sink.new)) }
@@ -43,8 +43,8 @@ pub fn audit_journal<S: Source, K: Sink>(alloc: Global, source: &mut S, sink: &m
     ensures read_count { result ≢ Status.ReadFault → S.faults source.new ≡ S.faults source.old }
     ensures write_count { result ≢ Status.WriteFault → result ≢ Status.AuditWrong
         → result ≢ Status.Unreadable → K.faults sink.new ≡ K.faults sink.old }
-    ensures later_source { S.faults source.old ≤ S.faults source.new }
-    ensures later_sink { K.faults sink.old ≤ K.faults sink.new }
+    ensures source_faults_grow { S.faults source.old ≤ S.faults source.new }
+    ensures sink_faults_grow { K.faults sink.old ≤ K.faults sink.new }
 {
     let text = match take_journal(alloc, source) {
         Ok(text) => text,
@@ -70,7 +70,7 @@ pub fn tell<K: Sink>(alloc: Global, verdict: &Verdict, sink: &mut K) -> Status
     ensures write_cause { result ≡ Status.WriteFault → Rose (K.faults sink.old) (K.faults sink.new) }
     ensures write_count { result ≢ Status.WriteFault → result ≢ Status.AuditWrong
         → result ≢ Status.Unreadable → K.faults sink.new ≡ K.faults sink.old }
-    ensures later { K.faults sink.old ≤ K.faults sink.new }
+    ensures faults_grow { K.faults sink.old ≤ K.faults sink.new }
 {
     let Ok(text) = write_verdict(alloc, verdict) else {
         return Status::NoMemory;

@@ -12,8 +12,8 @@ use crate::audit_form::tell;
 use crate::count_lines::count_lines;
 use crate::cut_at_plus::cut_at_plus;
 use crate::go_on::go_on;
-use crate::limits::{ENTRY_LIMIT, LINE_LIMIT};
-use audit_desk::{BYTE_LIMIT, Verdict, an_audit_finds_one_verdict, resume};
+use crate::limits::{JOURNAL_ENTRIES, JOURNAL_LINES};
+use audit_desk::{JOURNAL_BYTES, Verdict, an_audit_finds_one_verdict, resume};
 use desk_io::{Sink, Status};
 use desk_model::one_history_is_legal;
 use std::alloc::Global;
@@ -21,7 +21,7 @@ use std::alloc::Global;
 /// Writes the journal that goes on with the commands of a text of at most 268,435,456 bytes; where its journal is wrong, what an
 /// audit writes, and where a command is wrong a line that says which field. It takes all memory before it writes anything.
 pub(crate) fn continue_text<K: Sink>(alloc: Global, text: &[u8], sink: &mut K) -> Status
-    requires { length text.now ≤ BYTE_LIMIT }
+    requires { length text.now ≤ JOURNAL_BYTES }
     ensures fine { result ≡ Status.Fine
         → Continues (λ P. P text.now) (Appends (K.held sink.old) (K.held sink.new)) }
     ensures write_fault { result ≡ Status.WriteFault
@@ -41,16 +41,16 @@ pub(crate) fn continue_text<K: Sink>(alloc: Global, text: &[u8], sink: &mut K) -
     ensures silent { writes result ≡ false → Keeps (K.held sink.old) (K.held sink.new) }
     ensures write_count { result ≢ Status.WriteFault → result ≢ Status.AuditWrong
         → result ≢ Status.Unreadable → K.faults sink.new ≡ K.faults sink.old }
-    ensures later { K.faults sink.old ≤ K.faults sink.new }
+    ensures faults_grow { K.faults sink.old ≤ K.faults sink.new }
 {
     let (journal, more) = cut_at_plus(text);
-    if LINE_LIMIT < count_lines(journal) {
+    if JOURNAL_LINES < count_lines(journal) {
         return Status::TooLong;
     }
     // What the desk answers is a legal history, and an audit finds one verdict.
     one_history_is_legal();
     an_audit_finds_one_verdict();
-    match resume(alloc, journal, ENTRY_LIMIT) {
+    match resume(alloc, journal, JOURNAL_ENTRIES) {
         Ok(mut resumed) => go_on(alloc, &mut resumed.core, resumed.count, journal, more, sink),
         Err(verdict) => tell(alloc, &verdict, sink),
     }

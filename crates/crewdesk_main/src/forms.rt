@@ -52,8 +52,8 @@ pub fn perform<S: Source, K: Sink>(
     ensures read_count { result ≢ Status.ReadFault → S.faults source.new ≡ S.faults source.old }
     ensures write_count { result ≢ Status.WriteFault → result ≢ Status.AuditWrong
         → result ≢ Status.Unreadable → K.faults sink.new ≡ K.faults sink.old }
-    ensures later_source { S.faults source.old ≤ S.faults source.new }
-    ensures later_sink { K.faults sink.old ≤ K.faults sink.new }
+    ensures source_faults_grow { S.faults source.old ≤ S.faults source.new }
+    ensures sink_faults_grow { K.faults sink.old ≤ K.faults sink.new }
 {
     match Form::read(words) {
         Some(Form::Help) => write_text(sink, HELP.as_bytes()),

@@ -33,7 +33,7 @@ pub fn tally_generated<K: Sink>(
     ensures write_cause { result ≡ Status.WriteFault → Rose (K.faults sink.old) (K.faults sink.new) }
     ensures silent { result ≡ Status.NoMemory → Keeps (K.held sink.old) (K.held sink.new) }
     ensures write_count { result ≢ Status.WriteFault → K.faults sink.new ≡ K.faults sink.old }
-    ensures later { K.faults sink.old ≤ K.faults sink.new }
+    ensures faults_grow { K.faults sink.old ≤ K.faults sink.new }
     ensures only { (result ≡ Status.Fine)
         ⊎ ((result ≡ Status.WriteFault) ⊎ (result ≡ Status.NoMemory)) }
 {

@@ -12,7 +12,7 @@ ghost use Rattle.day_replay.specs.Ends.{WritesOrFails, writes};
 ghost use Rattle.crewdesk_main.specs.GoesOn.{EndsByTheCommands, FindsWrongField, GoesOn};
 ghost use Rattle.day_replay.specs.Replay.{goes_on};
 
-use crate::limits::ENTRY_LIMIT;
+use crate::limits::JOURNAL_ENTRIES;
 use command_parser::{MoreFault, read_more};
 use day_replay::{tell_wrong, write_entries};
 use desk_io::{Sink, Status, put_all};
@@ -32,7 +32,7 @@ pub(crate) fn go_on<C: DeskCore, K: Sink>(
     more: &[u8],
     sink: &mut K,
 ) -> Status
-    requires room { ENTRY_LIMIT ≤ C.room core.old }
+    requires room { JOURNAL_ENTRIES ≤ C.room core.old }
     ensures fine { result ≡ Status.Fine → GoesOn (C.stands core.old) text.now more.now (room_behind count)
         (Appends (K.held sink.old) (K.held sink.new)) }
     ensures write_fault { result ≡ Status.WriteFault → GoesOn (C.stands core.old) text.now more.now (room_behind count)
@@ -44,11 +44,11 @@ pub(crate) fn go_on<C: DeskCore, K: Sink>(
     ensures by_the_commands { EndsByTheCommands result more.now (room_behind count) }
     ensures silent { writes result ≡ false → Keeps (K.held sink.old) (K.held sink.new) }
     ensures write_count { result ≢ Status.WriteFault → result ≢ Status.Unreadable → K.faults sink.new ≡ K.faults sink.old }
-    ensures later { K.faults sink.old ≤ K.faults sink.new }
+    ensures faults_grow { K.faults sink.old ≤ K.faults sink.new }
     ensures only { (result ≡ Status.Fine) ⊎ ((result ≡ Status.WriteFault) ⊎ ((result ≡ Status.TooLong)
         ⊎ ((result ≡ Status.Unreadable) ⊎ (result ≡ Status.NoMemory)))) }
 {
-    match read_more(alloc, more, ENTRY_LIMIT.saturating_sub(count)) {
+    match read_more(alloc, more, JOURNAL_ENTRIES.saturating_sub(count)) {
         Ok(commands) => print_more(alloc, core, text, &commands, sink),
         Err(MoreFault::TooMany) => Status::TooLong,
         Err(MoreFault::Unreadable { record_no, field }) => tell_wrong(record_no, field, sink),
@@ -72,7 +72,7 @@ fn print_more<C: DeskCore, K: Sink>(
     ensures silent { result ≡ Status.NoMemory → Keeps (K.held sink.old) (K.held sink.new) }
     ensures write_cause { result ≡ Status.WriteFault → Rose (K.faults sink.old) (K.faults sink.new) }
     ensures write_count { result ≢ Status.WriteFault → K.faults sink.new ≡ K.faults sink.old }
-    ensures later { K.faults sink.old ≤ K.faults sink.new }
+    ensures faults_grow { K.faults sink.old ≤ K.faults sink.new }
     ensures only { (result ≡ Status.Fine) ⊎ ((result ≡ Status.WriteFault) ⊎ (result ≡ Status.NoMemory)) }
 {
     let Ok(mut buffer) = Vec::with_capacity(alloc, BUFFER_BYTES) else {
@@ -101,7 +101,7 @@ fn write_more<C: DeskCore, K: Sink>(
         → Appends (K.held sink.old) (K.held sink.new) (journal (goes_on h commands.now))) }
     ensures front { OnFalse result ((h : History) → C.stands core.old h → text.now ≡ journal h
         → AddsFront (K.held sink.old) (K.held sink.new) (journal (goes_on h commands.now))) }
-    ensures later { K.faults sink.old ≤ K.faults sink.new }
+    ensures faults_grow { K.faults sink.old ≤ K.faults sink.new }
     ensures cause { OnFalse result (Rose (K.faults sink.old) (K.faults sink.new)) }
     ensures no_fault { OnTrue result (K.faults sink.new ≡ K.faults sink.old) }
 {

@@ -2,22 +2,22 @@
 ghost use Rattle.std.specs.Prelude.{◌≡◌};
 
 /// How many lines a journal may have: its opening's, and those of as many entries as a desk may answer.
-pub const LINE_LIMIT: usize = 515_001;
+pub const JOURNAL_LINES: usize = 515_001;
 
 /// How many entries a journal that goes on may have in all.
-pub const ENTRY_LIMIT: u32 = 515_000;
+pub const JOURNAL_ENTRIES: u32 = 515_000;
 
 /// How many of a day's last commands may be asked for as only supposed: as many as a day may have.
 pub const MOST_SUPPOSED: u32 = 200_000;
 
 /// How many lines a journal may have. It does nothing: its clause is the law.
 pub fn the_most_lines_of_a_journal()
-    ensures { LINE_LIMIT ≡ 515_001 }
+    ensures { JOURNAL_LINES ≡ 515_001 }
 {}
 
 /// How many entries a journal that goes on may have in all. It does nothing: its clause is the law.
 pub fn the_most_entries_of_a_journal()
-    ensures { ENTRY_LIMIT ≡ 515_000 }
+    ensures { JOURNAL_ENTRIES ≡ 515_000 }
 {}
 
 /// How many of a day's last commands may be asked for as only supposed. It does nothing: its clause is the law.

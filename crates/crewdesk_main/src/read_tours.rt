@@ -6,7 +6,7 @@ ghost use Rattle.desk_model.specs.texts.Journal.{journal};
 ghost use Rattle.crewdesk_main.specs.Records.{KeepsJournal, IsUnread, StartsWith, HasNoEntry};
 ghost use Rattle.audit_desk.specs.Found.{HasNoOpening};
 
-use audit_desk::{BYTE_LIMIT, Verdict, first_line};
+use audit_desk::{JOURNAL_BYTES, Verdict, first_line};
 use desk_text::{each_line_ends_once, read_next_entry, read_opening};
 use duty_record::DutyRecords;
 use record_rows::LastMinute;
@@ -15,7 +15,7 @@ use std::alloc::Global;
 /// What a journal of at most 268,435,456 bytes tells of tours, whether or not it is legal; or which line is the first that is no
 /// entry's, or that the first is no opening's.
 pub fn read_tours(alloc: Global, text: &[u8]) -> Result<DutyRecords, Verdict>
-    requires { length text.now ≤ BYTE_LIMIT }
+    requires { length text.now ≤ JOURNAL_BYTES }
     ensures read { IfOk result (λ records. KeepsJournal records text.now) }
     ensures unread { IfErr result (λ verdict. verdict ≢ Verdict.NoMemory → IsUnread text.now verdict) }
 {

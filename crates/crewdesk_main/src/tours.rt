@@ -16,7 +16,7 @@ use crate::read_tours::read_tours;
 use crate::take_journal::take_journal;
 use crate::tour_form::TourForm;
 use crate::write_text::write_text;
-use audit_desk::BYTE_LIMIT;
+use audit_desk::JOURNAL_BYTES;
 use desk_base::NoMemory;
 use desk_io::{Sink, Source, Status};
 use duty_record::{DutyRecords, to_json};
@@ -38,12 +38,12 @@ pub fn tell_tours<S: Source, K: Sink>(
     ensures write_cause { result ≡ Status.WriteFault → Rose (K.faults sink.old) (K.faults sink.new) }
     ensures read_cause { result ≡ Status.ReadFault → Rose (S.faults source.old) (S.faults source.new) }
     ensures too_long { result ≡ Status.TooLong
-        → TookMore (S.left source.old) (S.left source.new) BYTE_LIMIT
-        ⊎ WasRead BYTE_LIMIT (S.left source.old) (S.left source.new) HasTooManyLines }
+        → TookMore (S.left source.old) (S.left source.new) JOURNAL_BYTES
+        ⊎ WasRead JOURNAL_BYTES (S.left source.old) (S.left source.new) HasTooManyLines }
     ensures not_too_long { result ≢ Status.TooLong
-        → TookFront (S.left source.old) (S.left source.new) BYTE_LIMIT }
+        → TookFront (S.left source.old) (S.left source.new) JOURNAL_BYTES }
     ensures no_opening { result ≡ Status.NoOpening
-        → WasRead BYTE_LIMIT (S.left source.old) (S.left source.new)
+        → WasRead JOURNAL_BYTES (S.left source.old) (S.left source.new)
         (λ text. HasFewLines text × HasNoOpening text) }
     ensures unreadable { result ≡ Status.Unreadable
         → TellsLine (S.left source.old) (S.left source.new)
@@ -54,8 +54,8 @@ pub fn tell_tours<S: Source, K: Sink>(
     ensures read_count { result ≢ Status.ReadFault → S.faults source.new ≡ S.faults source.old }
     ensures write_count { result ≢ Status.WriteFault → result ≢ Status.Unreadable
         → K.faults sink.new ≡ K.faults sink.old }
-    ensures later_source { S.faults source.old ≤ S.faults source.new }
-    ensures later_sink { K.faults sink.old ≤ K.faults sink.new }
+    ensures source_faults_grow { S.faults source.old ≤ S.faults source.new }
+    ensures sink_faults_grow { K.faults sink.old ≤ K.faults sink.new }
 {
     let text = match take_journal(alloc, source) {
         Ok(text) => text,
@@ -81,7 +81,7 @@ fn write_tours<K: Sink>(
     ensures write_cause { result ≡ Status.WriteFault → Rose (K.faults sink.old) (K.faults sink.new) }
     ensures silent { result ≡ Status.NoMemory → Stays (K.held sink.old) (K.held sink.new) }
     ensures write_count { result ≢ Status.WriteFault → K.faults sink.new ≡ K.faults sink.old }
-    ensures later { K.faults sink.old ≤ K.faults sink.new }
+    ensures faults_grow { K.faults sink.old ≤ K.faults sink.new }
     ensures only { (result ≡ Status.Fine)
         ⊎ ((result ≡ Status.WriteFault) ⊎ (result ≡ Status.NoMemory)) }
 {

@@ -8,7 +8,7 @@ pub fn write_text<K: Sink>(sink: &mut K, text: &[u8]) -> Status
     ensures prints { EndsPrint result text.now
         (K.held sink.old) (K.held sink.new) (K.faults sink.old) (K.faults sink.new) }
     ensures write_count { result ≢ Status.WriteFault → K.faults sink.new ≡ K.faults sink.old }
-    ensures later { K.faults sink.old ≤ K.faults sink.new }
+    ensures faults_grow { K.faults sink.old ≤ K.faults sink.new }
 {
     if put_all(sink, text) {
         Status::Fine

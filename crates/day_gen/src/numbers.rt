@@ -1,6 +1,6 @@
 //! The numbers of generated days.
 ghost use Rattle.std.specs.Prelude.{◌≡◌, length};
-ghost use Rattle.desk_base.specs.Month.{year_of, place_in_year};
+ghost use Rattle.desk_base.specs.Month.{year_of, number_in_year};
 ghost use Rattle.day_gen.specs.SetUp.{set_up};
 ghost use Rattle.day_gen.specs.Generator.{most_commands};
 
@@ -51,7 +51,7 @@ pub fn the_numbers_of_a_day()
     ensures multiplier { MULTIPLIER ≡ 6_364_136_223_846_793_005 }
     ensures increment { INCREMENT ≡ 1_442_695_040_888_963_407 }
     ensures year { year_of FIRST_MONTH ≡ 2024 }
-    ensures month { place_in_year FIRST_MONTH ≡ 1 }
+    ensures month { number_in_year FIRST_MONTH ≡ 1 }
     ensures months { MONTHS ≡ 24 }
     ensures answer { ANSWER ≡ 15 }
     ensures persons { PERSONS ≡ 30 }

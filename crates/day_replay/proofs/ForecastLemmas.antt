@@ -25,21 +25,21 @@ supposed-length h commands es supposed =
     sym (length-map es given) ∙ ap length supposed.stated ∙ length-map commands by_nobody
 
 -- the first commands answered, and the others supposed behind them, are the day's history
-pub IsParted-day : OnlyThese → (o : OpeningValue) (commands : List StatedValue) (asked place : ℕ) (answered supposed : List EntryValue)
-    → place ≡ length commands - asked
-    → IsSupposed (opened o) (take place commands) answered
-    → IsSupposed (history_of o answered) (take (length commands - place) (drop place commands)) supposed
+pub IsParted-day : OnlyThese → (o : OpeningValue) (commands : List StatedValue) (asked index : ℕ) (answered supposed : List EntryValue)
+    → index ≡ length commands - asked
+    → IsSupposed (opened o) (take index commands) answered
+    → IsSupposed (history_of o answered) (take (length commands - index) (drop index commands)) supposed
     → IsParted asked o (day_history o commands) answered supposed
-IsParted-day goes_on o commands asked place answered supposed at first behind =
-    let later = map by_the_day_file (drop place commands) in
-    let rest = subst (λ cs. IsSupposed (history_of o answered) cs supposed) (take_all (length commands - place) (drop place commands) (omega (arith, length-drop place commands))) behind in
+IsParted-day goes_on o commands asked index answered supposed at first behind =
+    let later = map by_the_day_file (drop index commands) in
+    let rest = subst (λ cs. IsSupposed (history_of o answered) cs supposed) (take_all (length commands - index) (drop index commands) (omega (arith, length-drop index commands))) behind in
     record {
       history = sym (
-          goes_on (history_of o answered) (drop place commands) supposed first.legal rest
-          ∙ ap (λ h. history_from h later) (goes_on (opened o) (take place commands) answered (legal-opened o first.legal.opening) first)
-          ∙ goes_on-behind (opened o) commands place
+          goes_on (history_of o answered) (drop index commands) supposed first.legal rest
+          ∙ ap (λ h. history_from h later) (goes_on (opened o) (take index commands) answered (legal-opened o first.legal.opening) first)
+          ∙ goes_on-behind (opened o) commands index
           );
-      count = omega (arith, at, supposed-length (history_of o answered) (drop place commands) supposed rest, length-drop place commands, goes_on-length (opened o) commands);
+      count = omega (arith, at, supposed-length (history_of o answered) (drop index commands) supposed rest, length-drop index commands, goes_on-length (opened o) commands);
     }
 
 -- so its text has the lines of both
@@ -51,11 +51,11 @@ forecast_text-parted asked o h answered supposed parted = subst (λ x. forecast_
     entries : List EntryValue
     entries = answered ++ supposed
 
-    place : length entries - min asked (length entries) ≡ length answered
-    place = omega (arith, length-append answered supposed, parted.count, ap (λ x. length x.entries) parted.history)
+    index : length entries - min asked (length entries) ≡ length answered
+    index = omega (arith, length-append answered supposed, parted.count, ap (λ x. length x.entries) parted.history)
 
     here : forecast_lines o (take (length entries - min asked (length entries)) entries) (drop (length entries - min asked (length entries)) entries) ≡ forecast_lines o answered supposed
-    here = rw (place, take-append_seam answered supposed, drop-append_seam answered supposed) refl
+    here = rw (index, take-append_seam answered supposed, drop-append_seam answered supposed) refl
 
 -- ---- the lines, one after another
 

@@ -18,36 +18,36 @@ unfolding history_from
 goes_on-none h = refl
 
 -- the next command adds the entry that the rules give
-goes_on-more : (h : History) (commands : List StatedValue) (place : ℕ) (s : StatedValue) → place < length commands → s ≡ get_or commands place s
-    → goes_on h (take (place + 1) commands) ≡ with_entry (goes_on h (take place commands)) (next (goes_on h (take place commands)) 0 s)
+goes_on-more : (h : History) (commands : List StatedValue) (index : ℕ) (s : StatedValue) → index < length commands → s ≡ get_or commands index s
+    → goes_on h (take (index + 1) commands) ≡ with_entry (goes_on h (take index commands)) (next (goes_on h (take index commands)) 0 s)
 unfolding history_from
-goes_on-more h commands place s within at =
-    ap (goes_on h) (take_more commands place s within ∙ ap (λ x. take place commands ++ x ∷ []) (sym at))
-    ∙ ap (history_from h) (map-append by_the_day_file (take place commands) (s ∷ []))
-    ∙ history_from-append h (map by_the_day_file (take place commands)) (by_the_day_file s ∷ [])
+goes_on-more h commands index s within at =
+    ap (goes_on h) (take_more commands index s within ∙ ap (λ x. take index commands ++ x ∷ []) (sym at))
+    ∙ ap (history_from h) (map-append by_the_day_file (take index commands) (s ∷ []))
+    ∙ history_from-append h (map by_the_day_file (take index commands)) (by_the_day_file s ∷ [])
 
 -- so the entry that comes next is the one that a desk answers which stands for the history so far
-pub goes_on-next : (h : History) (commands : List StatedValue) (place : ℕ) (s : StatedValue) (e : EntryValue)
-    → place < length commands → s ≡ get_or commands place s → e ≡ next (goes_on h (take place commands)) 0 s
-    → with_entry (goes_on h (take place commands)) e ≡ goes_on h (take (place + 1) commands)
-goes_on-next h commands place s e within at answer =
-    ap (with_entry (goes_on h (take place commands))) answer ∙ sym (goes_on-more h commands place s within at)
+pub goes_on-next : (h : History) (commands : List StatedValue) (index : ℕ) (s : StatedValue) (e : EntryValue)
+    → index < length commands → s ≡ get_or commands index s → e ≡ next (goes_on h (take index commands)) 0 s
+    → with_entry (goes_on h (take index commands)) e ≡ goes_on h (take (index + 1) commands)
+goes_on-next h commands index s e within at answer =
+    ap (with_entry (goes_on h (take index commands))) answer ∙ sym (goes_on-more h commands index s within at)
 
 -- it has an entry more for each command
 pub goes_on-length : (h : History) (commands : List StatedValue) → length (goes_on h commands).entries ≡ length h.entries + length commands
 goes_on-length h commands = omega (arith, history_from-length h (map by_the_day_file commands), length-map commands by_the_day_file)
 
 -- so of the first commands it has one entry for each, and one more is no more than all
-pub day_history-few : (o : OpeningValue) (commands : List StatedValue) (place : ℕ) → length commands < 2 ^ 64 → place < length commands
-    → length (day_history o (take place commands)).entries + 1 < 2 ^ 64
-day_history-few o commands place few within = omega (arith, few, within, goes_on-length (opened o) (take place commands), length-take-le place commands (omega (arith, within)))
+pub day_history-few : (o : OpeningValue) (commands : List StatedValue) (index : ℕ) → length commands < 2 ^ 64 → index < length commands
+    → length (day_history o (take index commands)).entries + 1 < 2 ^ 64
+day_history-few o commands index few within = omega (arith, few, within, goes_on-length (opened o) (take index commands), length-take-le index commands (omega (arith, within)))
 
 -- the history of the first commands goes on with that of the rest
-pub goes_on-behind : (h : History) (commands : List StatedValue) (place : ℕ)
-    → history_from (goes_on h (take place commands)) (map by_the_day_file (drop place commands)) ≡ goes_on h commands
-goes_on-behind h commands place =
-    sym (history_from-append h (map by_the_day_file (take place commands)) (map by_the_day_file (drop place commands)))
-    ∙ ap (history_from h) (sym (map-append by_the_day_file (take place commands) (drop place commands)) ∙ ap (map by_the_day_file) (take-append-drop place commands))
+pub goes_on-behind : (h : History) (commands : List StatedValue) (index : ℕ)
+    → history_from (goes_on h (take index commands)) (map by_the_day_file (drop index commands)) ≡ goes_on h commands
+goes_on-behind h commands index =
+    sym (history_from-append h (map by_the_day_file (take index commands)) (map by_the_day_file (drop index commands)))
+    ∙ ap (history_from h) (sym (map-append by_the_day_file (take index commands) (drop index commands)) ∙ ap (map by_the_day_file) (take-append-drop index commands))
 
 -- the day file's commands may be stated by caller 0
 pub day-MayState : (commands : List StatedValue) → All IsStated commands → All (λ c. MayState c.0 c.1) (map by_the_day_file commands)

@@ -65,25 +65,25 @@ pub Gathers-no_lines : (a : Option (List ℕ)) (waiting : List ℕ) (entries : L
 Gathers-no_lines a waiting entries = record { put = []; added = Appends-nil a; parts = append-nil waiting }
 
 -- what was gathered with the line of the next entry are the lines of one entry more
-pub Gathers-line : (a b c : Option (List ℕ)) (front : List ℕ) (entries : List EntryValue) (place : ℕ) (e : EntryValue) (line waiting gathered : List ℕ)
-    → place < length entries → e ≡ get_or entries place e → line ≡ entry_line e
-    → Gathers a b (front ++ entry_lines (take place entries)) waiting → Gathers b c (waiting ++ line) gathered
-    → Gathers a c (front ++ entry_lines (take (place + 1) entries)) gathered
-Gathers-line a b c front entries place e line waiting gathered within at spelled before next =
+pub Gathers-line : (a b c : Option (List ℕ)) (front : List ℕ) (entries : List EntryValue) (index : ℕ) (e : EntryValue) (line waiting gathered : List ℕ)
+    → index < length entries → e ≡ get_or entries index e → line ≡ entry_line e
+    → Gathers a b (front ++ entry_lines (take index entries)) waiting → Gathers b c (waiting ++ line) gathered
+    → Gathers a c (front ++ entry_lines (take (index + 1) entries)) gathered
+Gathers-line a b c front entries index e line waiting gathered within at spelled before next =
     subst (λ t. Gathers a c t gathered)
-    (ap (λ l. (front ++ entry_lines (take place entries)) ++ l) spelled
-    ∙ flat_map_more entry_line front (take place entries) e
-    ∙ ap (λ es. front ++ entry_lines es) (ap (λ x. take place entries ++ x ∷ []) at ∙ sym (take_more entries place e within)))
-    (Gathers-more a b c (front ++ entry_lines (take place entries)) waiting line gathered before next)
+    (ap (λ l. (front ++ entry_lines (take index entries)) ++ l) spelled
+    ∙ flat_map_more entry_line front (take index entries) e
+    ∙ ap (λ es. front ++ entry_lines es) (ap (λ x. take index entries ++ x ∷ []) at ∙ sym (take_more entries index e within)))
+    (Gathers-more a b c (front ++ entry_lines (take index entries)) waiting line gathered before next)
 
 -- a front of the lines of the first entries is one of those of all
-pub AddsFront-lines : (a b : Option (List ℕ)) (front : List ℕ) (entries : List EntryValue) (place : ℕ)
-    → AddsFront a b (front ++ entry_lines (take place entries)) → AddsFront a b (front ++ entry_lines entries)
-AddsFront-lines a b front entries place put =
+pub AddsFront-lines : (a b : Option (List ℕ)) (front : List ℕ) (entries : List EntryValue) (index : ℕ)
+    → AddsFront a b (front ++ entry_lines (take index entries)) → AddsFront a b (front ++ entry_lines entries)
+AddsFront-lines a b front entries index put =
     subst (AddsFront a b)
-    (append_assoc front (entry_lines (take place entries)) (entry_lines (drop place entries))
-    ∙ ap (λ t. front ++ t) (sym (flat_map-append entry_line (take place entries) (drop place entries)) ∙ ap entry_lines (take-append-drop place entries)))
-    (AddsFront-longer a b (front ++ entry_lines (take place entries)) (entry_lines (drop place entries)) put)
+    (append_assoc front (entry_lines (take index entries)) (entry_lines (drop index entries))
+    ∙ ap (λ t. front ++ t) (sym (flat_map-append entry_line (take index entries) (drop index entries)) ∙ ap entry_lines (take-append-drop index entries)))
+    (AddsFront-longer a b (front ++ entry_lines (take index entries)) (entry_lines (drop index entries)) put)
 
 -- what was gathered where nothing waited with the line of an opening, and then with those of entries, is a journal
 pub Gathers-history : (a b c : Option (List ℕ)) (none line first waiting : List ℕ) (o : OpeningValue) (entries : List EntryValue) → none ≡ [] → line ≡ opening_line o
@@ -138,9 +138,9 @@ Gathers-journal a b c h later e line waiting gathered goes spelled before next =
     (Gathers-more a b c (journal h) waiting line gathered before next)
 
 -- a front of the journal of the first commands is one of that of all
-pub AddsFront-journal : (a b : Option (List ℕ)) (h : History) (commands : List StatedValue) (place : ℕ)
-    → AddsFront a b (journal (goes_on h (take place commands))) → AddsFront a b (journal (goes_on h commands))
-AddsFront-journal a b h commands place front =
-    let first = goes_on h (take place commands) in
-    let more = journal-grows first (map by_the_day_file (drop place commands)) in
-    subst (AddsFront a b) (sym more.1 ∙ ap journal (goes_on-behind h commands place)) (AddsFront-longer a b (journal first) more.0 front)
+pub AddsFront-journal : (a b : Option (List ℕ)) (h : History) (commands : List StatedValue) (index : ℕ)
+    → AddsFront a b (journal (goes_on h (take index commands))) → AddsFront a b (journal (goes_on h commands))
+AddsFront-journal a b h commands index front =
+    let first = goes_on h (take index commands) in
+    let more = journal-grows first (map by_the_day_file (drop index commands)) in
+    subst (AddsFront a b) (sym more.1 ∙ ap journal (goes_on-behind h commands index)) (AddsFront-longer a b (journal first) more.0 front)

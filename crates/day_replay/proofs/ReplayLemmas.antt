@@ -10,7 +10,7 @@ use Rattle.std.proofs.lemmas.List.{length-map}
 use Rattle.desk_model.specs.texts.StatedTexts.{stated_fields}
 use Rattle.command_parser.specs.declared.limits.TheConstants.{RECORD_LIMIT}
 use Rattle.line_writer.specs.Line.{wrong_line}
-use Rattle.day_replay.specs.declared.day_input.TheConstants.{BYTE_LIMIT}
+use Rattle.day_replay.specs.declared.day_input.TheConstants.{DAY_BYTES}
 use Rattle.command_parser.specs.declared.day_fault.DayFault.{DayFault}
 use Rattle.command_parser.specs.declared.day_fault.DayFault.TheVariants as fault
 use Rattle.command_parser.specs.DayFile.{IsDayFile, IsSomeDayFile, HasUnreadable, IsUnreadable, HasFault}
@@ -26,7 +26,7 @@ IsDayFile-few bytes o commands day =
 
 -- a day file was taken, and this was done with this text of its replay's history
 pub Replays-day : (before after : Option (List ℕ)) (o : OpeningValue) (commands : List StatedValue) (text : History → List ℕ) (Writes : List ℕ → Type 0)
-    → IsOpening o → WasRead BYTE_LIMIT before after (λ bytes. IsDayFile bytes o commands) → IsReplay o commands (day_history o commands)
+    → IsOpening o → WasRead DAY_BYTES before after (λ bytes. IsDayFile bytes o commands) → IsReplay o commands (day_history o commands)
     → Writes (text (day_history o commands))
     → Replays before after text Writes
 Replays-day before after o commands text Writes valid read replay written = record {
@@ -41,38 +41,38 @@ Replays-day before after o commands text Writes valid read replay written = reco
 
 -- a day file with a wrong field was taken whole and read, and this was done with the line that says which
 pub FindsWrong-TookAll : (before after : Option (List ℕ)) (bytes seen : List ℕ) (record_no field : ℕ) (Writes : List ℕ → Type 0)
-    → TookAll before after bytes → length bytes ≤ BYTE_LIMIT → seen ≡ bytes → HasUnreadable seen record_no field → Writes (wrong_line record_no field)
+    → TookAll before after bytes → length bytes ≤ DAY_BYTES → seen ≡ bytes → HasUnreadable seen record_no field → Writes (wrong_line record_no field)
     → FindsWrong before after Writes
 FindsWrong-TookAll before after bytes seen record_no field Writes took within same wrong written = record {
   record_no = record_no;
   field = field;
-  read = WasRead-TookAll BYTE_LIMIT before after bytes (λ b. HasUnreadable b record_no field) took within (subst (λ b. HasUnreadable b record_no field) same wrong);
+  read = WasRead-TookAll DAY_BYTES before after bytes (λ b. HasUnreadable b record_no field) took within (subst (λ b. HasUnreadable b record_no field) same wrong);
   written = written;
 }
 
 -- ---- of bytes that were taken whole the source told one fault at most
 
 pub one-cause : (before after : Option (List ℕ)) (bytes seen : List ℕ) (told cause : DayFault) → TookAll before after bytes → seen ≡ bytes → HasFault seen told
-    → Tells BYTE_LIMIT before (λ b. HasFault b cause) → told ≡ cause
+    → Tells DAY_BYTES before (λ b. HasFault b cause) → told ≡ cause
 one-cause before after bytes seen told cause took same has tells =
     let is = TookAll-told before after bytes tells.bytes took tells.told in
     HasFault-one bytes told cause (subst (λ b. HasFault b told) same has) (subst (λ b. HasFault b cause) is tells.has)
 
 -- and none where they are a day file
 pub day-cause : (before after : Option (List ℕ)) (bytes seen : List ℕ) (o : OpeningValue) (commands : List StatedValue) (cause : DayFault)
-    → TookAll before after bytes → seen ≡ bytes → IsDayFile seen o commands → Tells BYTE_LIMIT before (λ b. HasFault b cause) → ⊥
+    → TookAll before after bytes → seen ≡ bytes → IsDayFile seen o commands → Tells DAY_BYTES before (λ b. HasFault b cause) → ⊥
 day-cause before after bytes seen o commands cause took same day tells =
     let is = TookAll-told before after bytes tells.bytes took tells.told in
     IsDayFile-faultless bytes o commands cause (subst (λ b. IsDayFile b o commands) same day) (subst (λ b. HasFault b cause) is tells.has)
 
 pub cause-day : (before after : Option (List ℕ)) (bytes seen : List ℕ) (cause : DayFault) → TookAll before after bytes → seen ≡ bytes → HasFault seen cause
-    → Tells BYTE_LIMIT before IsSomeDayFile → ⊥
+    → Tells DAY_BYTES before IsSomeDayFile → ⊥
 cause-day before after bytes seen cause took same has tells =
     let is = TookAll-told before after bytes tells.bytes took tells.told in
     IsDayFile-faultless bytes tells.has.opening tells.has.commands cause (subst (λ b. IsDayFile b tells.has.opening tells.has.commands) is tells.has.day) (subst (λ b. HasFault b cause) same has)
 
 -- a record that states no command is one of the faults
-pub unreadable-cause : (left : Option (List ℕ)) (tells : Tells BYTE_LIMIT left IsUnreadable) → Tells BYTE_LIMIT left (λ b. HasFault b (fault.Unreadable tells.has.record_no tells.has.field))
+pub unreadable-cause : (left : Option (List ℕ)) (tells : Tells DAY_BYTES left IsUnreadable) → Tells DAY_BYTES left (λ b. HasFault b (fault.Unreadable tells.has.record_no tells.has.field))
 unreadable-cause left tells = record { bytes = tells.bytes; told = tells.told; within = tells.within; has = tells.has.has }
 
 -- what is so of a run that took a day file stays so of one that goes on with it

@@ -16,7 +16,7 @@ use Rattle.line_writer.specs.Tally.{tally_text}
 use Rattle.command_parser.specs.DayFile.{IsDayFile, IsSomeDayFile, HasTooMany, HasNoOpening, HasUnreadable, IsUnreadable}
 use Rattle.day_replay.specs.declared.day_form.DayForm.{DayForm}
 use Rattle.day_replay.specs.declared.day_form.DayForm.TheVariants as form
-use Rattle.day_replay.specs.declared.day_input.TheConstants.{BYTE_LIMIT}
+use Rattle.day_replay.specs.declared.day_input.TheConstants.{DAY_BYTES}
 use Rattle.day_replay.specs.Forecast.{forecast_text, when_text}
 use Rattle.day_replay.specs.Ends.{WasRead, WritesOrFails, Tells, TellsMore, EndsAs}
 
@@ -43,7 +43,7 @@ pub record Replays (before after : Option (List ℕ)) (text : History → List �
   pub opening : OpeningValue
   pub valid : IsOpening opening
   pub commands : List StatedValue
-  pub read : WasRead BYTE_LIMIT before after (λ bytes. IsDayFile bytes opening commands)
+  pub read : WasRead DAY_BYTES before after (λ bytes. IsDayFile bytes opening commands)
   pub history : History
   pub replay : IsReplay opening commands history
   pub written : Writes (text history)
@@ -60,16 +60,16 @@ text_of (form.When vac person) h = when_text vac person h
 pub record FindsWrong (before after : Option (List ℕ)) (Writes : List ℕ → Type 0) : Type 0 where
   pub record_no : ℕ
   pub field : ℕ
-  pub read : WasRead BYTE_LIMIT before after (λ bytes. HasUnreadable bytes record_no field)
+  pub read : WasRead DAY_BYTES before after (λ bytes. HasUnreadable bytes record_no field)
   pub written : Writes (wrong_line record_no field)
 
 -- which status comes where, by the bytes that the source tells
 pub record EndsByTheDay (result : Status) (left : Option (List ℕ)) : Type 0 where
-  pub more_bytes : TellsMore BYTE_LIMIT left → EndsAs result TooLong
-  pub too_many : Tells BYTE_LIMIT left HasTooMany → EndsAs result TooLong
-  pub no_opening : Tells BYTE_LIMIT left HasNoOpening → EndsAs result NoOpening
-  pub unreadable : Tells BYTE_LIMIT left IsUnreadable → EndsAs result Unreadable
-  pub day : Tells BYTE_LIMIT left IsSomeDayFile → result ≢ WriteFault → EndsAs result Fine
+  pub more_bytes : TellsMore DAY_BYTES left → EndsAs result TooLong
+  pub too_many : Tells DAY_BYTES left HasTooMany → EndsAs result TooLong
+  pub no_opening : Tells DAY_BYTES left HasNoOpening → EndsAs result NoOpening
+  pub unreadable : Tells DAY_BYTES left IsUnreadable → EndsAs result Unreadable
+  pub day : Tells DAY_BYTES left IsSomeDayFile → result ≢ WriteFault → EndsAs result Fine
 
 -- the ways to end where there is no day file
 abbrev pub IsNoDay : Status → Type 0
@@ -87,9 +87,9 @@ pub record EndsReplay (result : Status) (text : History → List ℕ) (left left
   pub write_fault : result ≡ WriteFault → Replays left left' text (AddsFront held held')
   pub write_cause : result ≡ WriteFault → Rose given given'
   pub read_cause : result ≡ ReadFault → Rose asked asked'
-  pub too_long : result ≡ TooLong → TookMore left left' BYTE_LIMIT ⊎ WasRead BYTE_LIMIT left left' HasTooMany
-  pub not_too_long : result ≢ TooLong → TookFront left left' BYTE_LIMIT
-  pub no_opening : result ≡ NoOpening → WasRead BYTE_LIMIT left left' HasNoOpening
+  pub too_long : result ≡ TooLong → TookMore left left' DAY_BYTES ⊎ WasRead DAY_BYTES left left' HasTooMany
+  pub not_too_long : result ≢ TooLong → TookFront left left' DAY_BYTES
+  pub no_opening : result ≡ NoOpening → WasRead DAY_BYTES left left' HasNoOpening
   pub unreadable : result ≡ Unreadable → FindsWrong left left' (WritesOrFails held held' given given')
   pub not_wrong : result ≢ AuditWrong
   pub by_the_day : EndsByTheDay result left

@@ -68,7 +68,7 @@ pub(crate) fn write_forecast<K: Sink>(
         (forecast_lines opening.now answered.now supposed.now)) }
     ensures front { OnFalse result (AddsFront (K.held sink.old) (K.held sink.new)
         (forecast_lines opening.now answered.now supposed.now)) }
-    ensures later { K.faults sink.old ≤ K.faults sink.new }
+    ensures faults_grow { K.faults sink.old ≤ K.faults sink.new }
     ensures cause { OnFalse result (Rose (K.faults sink.old) (K.faults sink.new)) }
     ensures no_fault { OnTrue result (K.faults sink.new ≡ K.faults sink.old) }
 {

@@ -26,7 +26,7 @@ pub fn take_day<S: Source, K: Sink>(
     sink: &mut K,
 ) -> Result<DayFile, Status>
     ensures day { IfOk result (λ day.
-        WasRead BYTE_LIMIT (S.left source.old) (S.left source.new)
+        WasRead DAY_BYTES (S.left source.old) (S.left source.new)
         (λ bytes. IsDayFile bytes day.opening day.commands.items)) }
     ensures opening { IfOk result (λ day. IsOpening day.opening) }
     ensures stated { IfOk result (λ day. All IsStated day.commands.items) }
@@ -37,12 +37,12 @@ pub fn take_day<S: Source, K: Sink>(
     ensures no_fault { ¬ IsErrOf result Status.ReadFault
         → S.faults source.new ≡ S.faults source.old }
     ensures too_long { IsErrOf result Status.TooLong
-        → TookMore (S.left source.old) (S.left source.new) BYTE_LIMIT
-        ⊎ WasRead BYTE_LIMIT (S.left source.old) (S.left source.new) HasTooMany }
+        → TookMore (S.left source.old) (S.left source.new) DAY_BYTES
+        ⊎ WasRead DAY_BYTES (S.left source.old) (S.left source.new) HasTooMany }
     ensures not_too_long { ¬ IsErrOf result Status.TooLong
-        → TookFront (S.left source.old) (S.left source.new) BYTE_LIMIT }
+        → TookFront (S.left source.old) (S.left source.new) DAY_BYTES }
     ensures no_opening { IsErrOf result Status.NoOpening
-        → WasRead BYTE_LIMIT (S.left source.old) (S.left source.new) HasNoOpening }
+        → WasRead DAY_BYTES (S.left source.old) (S.left source.new) HasNoOpening }
     ensures unreadable { IsErrOf result Status.Unreadable
         → FindsWrong (S.left source.old) (S.left source.new)
         (WritesOrFails (K.held sink.old) (K.held sink.new)
@@ -52,13 +52,13 @@ pub fn take_day<S: Source, K: Sink>(
         → Keeps (K.held sink.old) (K.held sink.new) }
     ensures silent_count { ¬ IsErrOf result Status.Unreadable
         → K.faults sink.new ≡ K.faults sink.old }
-    ensures later_source { S.faults source.old ≤ S.faults source.new }
-    ensures later_sink { K.faults sink.old ≤ K.faults sink.new }
+    ensures source_faults_grow { S.faults source.old ≤ S.faults source.new }
+    ensures sink_faults_grow { K.faults sink.old ≤ K.faults sink.new }
 
     // And each comes where its cause is, unless memory or a fault is in the way.
     ensures by_the_day { EndsByTheDay (taking_status result) (S.left source.old) }
 {
-    let bytes = match take_all(alloc, source, BYTE_LIMIT) {
+    let bytes = match take_all(alloc, source, DAY_BYTES) {
         Ok(bytes) => bytes,
         Err(fault) => return Err(Status::from(fault)),
     };
@@ -78,16 +78,16 @@ pub fn tell_wrong<K: Sink>(record_no: u32, field: u8, sink: &mut K) -> Status
     ensures unreadable { result ≡ Status.Unreadable }
     ensures written { WritesOrFails (K.held sink.old) (K.held sink.new)
         (K.faults sink.old) (K.faults sink.new) (wrong_line record_no field) }
-    ensures later { K.faults sink.old ≤ K.faults sink.new }
+    ensures faults_grow { K.faults sink.old ≤ K.faults sink.new }
 {
     let _whole = put_all(sink, write_wrong(record_no, field).as_slice());
     Status::Unreadable
 }
 
 /// How many bytes a day file may have.
-pub const BYTE_LIMIT: usize = 16_777_216;
+pub const DAY_BYTES: usize = 16_777_216;
 
 /// How many bytes a day file may have. It does nothing: its clause is the law.
 pub fn the_most_bytes_of_a_day_file()
-    ensures { BYTE_LIMIT ≡ 16_777_216 }
+    ensures { DAY_BYTES ≡ 16_777_216 }
 {}

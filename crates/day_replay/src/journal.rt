@@ -34,7 +34,7 @@ pub fn write_journal<C: DeskCore, K: Sink>(
         (journal (day_history opening.now commands.now))) }
     ensures front { OnFalse result (AddsFront (K.held sink.old) (K.held sink.new)
         (journal (day_history opening.now commands.now))) }
-    ensures later { K.faults sink.old ≤ K.faults sink.new }
+    ensures faults_grow { K.faults sink.old ≤ K.faults sink.new }
     ensures cause { OnFalse result (Rose (K.faults sink.old) (K.faults sink.new)) }
     ensures no_fault { OnTrue result (K.faults sink.new ≡ K.faults sink.old) }
 {
@@ -58,7 +58,7 @@ pub(crate) fn gather_history<K: Sink>(
         (journal (history_of opening.now entries.now))) }
     ensures capacity { vec_capacity buffer.old ≤ vec_capacity buffer.new }
 
-    ensures later { K.faults sink.old ≤ K.faults sink.new }
+    ensures faults_grow { K.faults sink.old ≤ K.faults sink.new }
     ensures cause { OnFalse result (Rose (K.faults sink.old) (K.faults sink.new)) }
     ensures no_fault { OnTrue result (K.faults sink.new ≡ K.faults sink.old) }
 {
@@ -80,7 +80,7 @@ pub fn write_history<K: Sink>(
         (journal (history_of opening.now entries.now))) }
     ensures front { OnFalse result (AddsFront (K.held sink.old) (K.held sink.new)
         (journal (history_of opening.now entries.now))) }
-    ensures later { K.faults sink.old ≤ K.faults sink.new }
+    ensures faults_grow { K.faults sink.old ≤ K.faults sink.new }
     ensures cause { OnFalse result (Rose (K.faults sink.old) (K.faults sink.new)) }
     ensures no_fault { OnTrue result (K.faults sink.new ≡ K.faults sink.old) }
 {
@@ -104,7 +104,7 @@ pub fn write_entries<C: DeskCore, K: Sink>(
     ensures front { OnFalse result ((before : Option (List ℕ)) (h : History) → C.stands core.old h
         → Gathers before (K.held sink.old) (journal h) buffer.old.items
         → AddsFront before (K.held sink.new) (journal (goes_on h commands.now))) }
-    ensures later { K.faults sink.old ≤ K.faults sink.new }
+    ensures faults_grow { K.faults sink.old ≤ K.faults sink.new }
     ensures cause { OnFalse result (Rose (K.faults sink.old) (K.faults sink.new)) }
     ensures no_fault { OnTrue result (K.faults sink.new ≡ K.faults sink.old) }
 {

@@ -22,7 +22,7 @@ pub fn gather<K: Sink>(buffer: &mut Vec<u8>, line: &[u8], sink: &mut K) -> bool
         buffer.old.items) }
     ensures capacity { vec_capacity buffer.old ≤ vec_capacity buffer.new }
 
-    ensures later { K.faults sink.old ≤ K.faults sink.new }
+    ensures faults_grow { K.faults sink.old ≤ K.faults sink.new }
     ensures cause { OnFalse result (Rose (K.faults sink.old) (K.faults sink.new)) }
     ensures no_fault { OnTrue result (K.faults sink.new ≡ K.faults sink.old) }
 {
@@ -46,7 +46,7 @@ pub(crate) fn gather_lines<K: Sink>(buffer: &mut Vec<u8>, entries: &[Entry], sin
         (buffer.old.items ++ entry_lines entries.now)) }
     ensures capacity { vec_capacity buffer.old ≤ vec_capacity buffer.new }
 
-    ensures later { K.faults sink.old ≤ K.faults sink.new }
+    ensures faults_grow { K.faults sink.old ≤ K.faults sink.new }
     ensures cause { OnFalse result (Rose (K.faults sink.old) (K.faults sink.new)) }
     ensures no_fault { OnTrue result (K.faults sink.new ≡ K.faults sink.old) }
 {

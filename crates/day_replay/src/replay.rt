@@ -11,7 +11,7 @@ use crate::day_forecast::{forecast_day, write_forecast};
 use crate::day_tally::tally_day;
 use crate::day_when::when_after;
 use crate::earliest_line::write_earliest;
-use crate::{BYTE_LIMIT, DayForm, take_day, write_journal};
+use crate::{DAY_BYTES, DayForm, take_day, write_journal};
 use command_parser::DayFile;
 use desk_io::{Sink, Source, Status, put_all};
 use desk_model::one_history_is_legal;
@@ -35,8 +35,8 @@ pub fn replay_day<S: Source, K: Sink>(
     ensures read_count { result ≢ Status.ReadFault → S.faults source.new ≡ S.faults source.old }
     ensures write_count { result ≢ Status.WriteFault → result ≢ Status.Unreadable
         → K.faults sink.new ≡ K.faults sink.old }
-    ensures later_source { S.faults source.old ≤ S.faults source.new }
-    ensures later_sink { K.faults sink.old ≤ K.faults sink.new }
+    ensures source_faults_grow { S.faults source.old ≤ S.faults source.new }
+    ensures sink_faults_grow { K.faults sink.old ≤ K.faults sink.new }
 
     ensures fine { result ≡ Status.Fine
         → Replays (S.left source.old) (S.left source.new) (text_of form)
@@ -51,12 +51,12 @@ pub fn replay_day<S: Source, K: Sink>(
     ensures read_cause { result ≡ Status.ReadFault
         → Rose (S.faults source.old) (S.faults source.new) }
     ensures too_long { result ≡ Status.TooLong
-        → TookMore (S.left source.old) (S.left source.new) BYTE_LIMIT
-        ⊎ WasRead BYTE_LIMIT (S.left source.old) (S.left source.new) HasTooMany }
+        → TookMore (S.left source.old) (S.left source.new) DAY_BYTES
+        ⊎ WasRead DAY_BYTES (S.left source.old) (S.left source.new) HasTooMany }
     ensures not_too_long { result ≢ Status.TooLong
-        → TookFront (S.left source.old) (S.left source.new) BYTE_LIMIT }
+        → TookFront (S.left source.old) (S.left source.new) DAY_BYTES }
     ensures no_opening { result ≡ Status.NoOpening
-        → WasRead BYTE_LIMIT (S.left source.old) (S.left source.new) HasNoOpening }
+        → WasRead DAY_BYTES (S.left source.old) (S.left source.new) HasNoOpening }
     ensures unreadable { result ≡ Status.Unreadable
         → FindsWrong (S.left source.old) (S.left source.new)
         (WritesOrFails (K.held sink.old) (K.held sink.new)
@@ -86,7 +86,7 @@ fn print_day<K: Sink>(alloc: Global, form: DayForm, day: &DayFile, sink: &mut K)
     ensures write_cause { result ≡ Status.WriteFault
         → Rose (K.faults sink.old) (K.faults sink.new) }
     ensures write_count { result ≢ Status.WriteFault → K.faults sink.new ≡ K.faults sink.old }
-    ensures later { K.faults sink.old ≤ K.faults sink.new }
+    ensures faults_grow { K.faults sink.old ≤ K.faults sink.new }
     ensures only { (result ≡ Status.Fine)
         ⊎ ((result ≡ Status.WriteFault) ⊎ (result ≡ Status.NoMemory)) }
 {

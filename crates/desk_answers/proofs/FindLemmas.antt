@@ -3,7 +3,7 @@ use Rattle.std.proofs.Common.{◌≡◌, ℕ, ◌+◌, ◌<◌, Bool, true, fals
 use Rattle.std.specs.List.{find}
 use Rattle.std.proofs.lemmas.List.{at_drop_more}
 
--- what stands at a place is the first from there on, or not
+-- what stands at a position is the first from there on, or not
 find-step : {X : Type 0} (p : X → Bool) (xs : List X) (i : ℕ) (x : X) → i < length xs → x ≡ get_or xs i x
     → find p (drop i xs) ≡ find p (x ∷ drop (i + 1) xs)
 find-step p xs i x within is = at_drop_more (find p) xs i x within ∙ ap (λ y. find p (y ∷ drop (i + 1) xs)) (sym is)

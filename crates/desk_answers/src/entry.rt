@@ -9,7 +9,7 @@ use crate::Reads;
 use crate::board_answers::{board_answer, list_answer, unlist_answer};
 use crate::event_answer::{event_answer, past_answer};
 use crate::give_up_answer::{annul_answer, drop_answer};
-use crate::look_answers::{at_answer, explain_answer, hours_answer, vac_answer};
+use crate::question_answers::{at_answer, explain_answer, hours_answer, vac_answer};
 use crate::moment::{is_within, moment};
 use crate::next_answer::next_answer;
 use crate::offer_answer::offer_answer;

@@ -29,7 +29,7 @@ fn told_answer<R: Reads>(
     if moment < event.last_minute() {
         return Reply::EventAhead(moment);
     }
-    match reads.judge(work, person, event) {
+    match reads.allow(work, person, event) {
         Ok(_) => Reply::Done,
         Err(fault) => Reply::Event(fault),
     }

@@ -5,7 +5,7 @@ mod board_answers;
 mod entry;
 mod event_answer;
 mod give_up_answer;
-mod look_answers;
+mod question_answers;
 mod moment;
 mod next_answer;
 mod offer_answer;

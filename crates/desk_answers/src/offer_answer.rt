@@ -6,19 +6,19 @@ ghost use Rattle.desk_model.specs.histories.Register.{vacancy_of};
 ghost use Rattle.desk_answers.specs.Searched.{steps_of};
 
 use crate::Reads;
-use crate::look_answers::judge;
+use crate::question_answers::judge;
 use crate::next_answer::closed;
 use desk_base::{Minute, PersonNo, VacNo};
 use desk_model::{Link, Reply};
 
-// The answer where nothing bars the person, whose place this is, and the first whom nothing bars is this one.
-fn named_answer(person: PersonNo, first: &Option<Link>, place: &Link) -> Reply
-    ensures { result ≡ named_answer person first.now place.now }
+// The answer where nothing bars the person, whose position this is, and the first whom nothing bars is this one.
+fn named_answer(person: PersonNo, first: &Option<Link>, link: &Link) -> Reply
+    ensures { result ≡ named_answer person first.now link.now }
 {
     let offered = Reply::Offered {
         person,
-        board: place.board,
-        position: place.position,
+        board: link.board,
+        position: link.position,
     };
     match first {
         Some(first) if first.person != person => Reply::RunAround(first.person),
@@ -51,7 +51,7 @@ pub(crate) fn offer_answer<R: Reads>(
         return refusal;
     }
     match judge(reads, work, moment, job, number, person) {
-        Ok(place) => named_answer(number, &reads.first_free(work, moment, job), &place),
+        Ok(link) => named_answer(number, &reads.first_free(work, moment, job), &link),
         Err(refusal) => refusal,
     }
 }

@@ -1,6 +1,6 @@
 ghost use Rattle.std.specs.Prelude.{◌≡◌, ◌≤◌, ◌+◌, true, Some, IfSome, length};
 ghost use Rattle.desk_base.specs.Minute.{IsInYears};
-ghost use Rattle.duty_events.specs.Allowed.{judge};
+ghost use Rattle.duty_events.specs.Allowed.{allow};
 ghost use Rattle.duty_events.specs.Lists.{stage_of, latest};
 ghost use Rattle.month_hours.specs.Used.{used};
 ghost use Rattle.month_hours.specs.Capped.{capped};
@@ -12,8 +12,8 @@ ghost use Rattle.desk_model.specs.boards.Marks.{is_marked_off};
 ghost use Rattle.desk_model.specs.offers.Assigned.{assigned};
 ghost use Rattle.desk_model.specs.offers.States.{state_of};
 ghost use Rattle.desk_model.specs.offers.Bars.{bar_of, first_free};
-ghost use Rattle.desk_model.specs.answers.ExplainAnswer.{place_in};
-ghost use Rattle.desk_model.specs.answers.LookAnswer.{member_at};
+ghost use Rattle.desk_model.specs.answers.ExplainAnswer.{position_in};
+ghost use Rattle.desk_model.specs.answers.QuestionAnswer.{member_at};
 ghost use Rattle.desk_model.specs.answers.HoursAnswer.{has_month};
 ghost use Rattle.desk_model.specs.histories.Legal.{last_moment};
 ghost use Rattle.desk_answers.specs.Asked.{IsAsked};
@@ -99,10 +99,10 @@ pub trait Reads {
         ensures suits { suits self.now work.new }
         ensures steps { steps work.new ≡ steps work.old };
 
-    /// Who stands at this place of the board, from 1; `None` where nobody does.
-    fn member_at(&self, work: &mut Self::Work, board: &Code, place: u16) -> Option<PersonNo>
+    /// Who stands at this position of the board, from 1; `None` where nobody does.
+    fn member_at(&self, work: &mut Self::Work, board: &Code, position: u16) -> Option<PersonNo>
         requires { suits self.now work.old }
-        ensures answer { (h : History) → tells self.now h → result ≡ member_at h board.now place }
+        ensures answer { (h : History) → tells self.now h → result ≡ member_at h board.now position }
         ensures suits { suits self.now work.new }
         ensures steps { steps work.new ≡ steps work.old };
 
@@ -128,7 +128,7 @@ pub trait Reads {
         ensures { (h : History) → tells self.now h → result ≡ on_offer h person };
 
     /// The stage that an event leads to after the person's events, or why it is not allowed.
-    fn judge(
+    fn allow(
         &self,
         work: &mut Self::Work,
         person: PersonNo,
@@ -136,7 +136,7 @@ pub trait Reads {
     ) -> Result<Stage, EventFault>
         requires { suits self.now work.old }
         ensures answer { (h : History) → tells self.now h
-            → result ≡ judge (stage_of (events h person)) event.now (latest (events h person)) }
+            → result ≡ allow (stage_of (events h person)) event.now (latest (events h person)) }
         ensures suits { suits self.now work.new }
         ensures steps { steps work.new ≡ steps work.old };
 
@@ -172,7 +172,7 @@ pub trait Reads {
         ensures suits { suits self.now work.new }
         ensures steps { steps work.new ≡ steps work.old };
 
-    /// Of the job's chain the first place whose person nothing bars; `None` where all are barred. The vacancy was made, and the
+    /// Of the job's chain the first position whose person nothing bars; `None` where all are barred. The vacancy was made, and the
     /// moment isn't past its report.
     fn first_free(&self, work: &mut Self::Work, moment: Minute, job: &Job) -> Option<Link>
         requires { suits self.now work.old }
@@ -182,15 +182,15 @@ pub trait Reads {
         ensures steps { (h : History) → tells self.now h → IsAsked h moment job.now
             → steps work.new ≤ steps work.old + most self.now h moment job.now };
 
-    /// The first place of the chain that is this person's; `None` where none is.
-    fn place_in(&self, work: &mut Self::Work, boards: &Chain, person: PersonNo) -> Option<Link>
+    /// The first position of the chain that is this person's; `None` where none is.
+    fn position_in(&self, work: &mut Self::Work, boards: &Chain, person: PersonNo) -> Option<Link>
         requires { suits self.now work.old }
         ensures answer { (h : History) → tells self.now h
-            → result ≡ place_in (chain h boards.now) person }
+            → result ≡ position_in (chain h boards.now) person }
         ensures suits { suits self.now work.new }
         ensures steps { steps work.new ≡ steps work.old };
 
-    /// How many places the chain has.
+    /// How many positions the chain has.
     fn listed(&self, work: &mut Self::Work, boards: &Chain) -> u16
         requires { suits self.now work.old }
         ensures answer { (h : History) → tells self.now h → result ≡ length (chain h boards.now) }

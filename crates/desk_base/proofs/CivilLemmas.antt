@@ -8,8 +8,8 @@ use Rattle.jiff_core.proofs.SignedLemmas.{signed_arith}
 use Rattle.jiff_core.proofs.CalendarLemmas.{day_count-epoch, day_count-later_year, day_count-day_of_year, day_count-day, day_count-lt_year, days_from_civil-day_count}
 use Rattle.jiff_core.proofs.MarchLemmas.{day_count-late}
 use Rattle.jiff_core.proofs.DateLemmas.{civil}
-use Rattle.desk_base.specs.Month.{first_day, year_of, place_in_year, month_of_day, IsMonthOf}
-use Rattle.desk_base.specs.Day.{place_in_month}
+use Rattle.desk_base.specs.Month.{first_day, year_of, number_in_year, month_of_day, IsMonthOf}
+use Rattle.desk_base.specs.Day.{number_in_month}
 use Rattle.desk_base.specs.Civil.{IsMonthAt, IsDated}
 use Rattle.desk_base.proofs.MonthLemmas.{first_day-count, first_day-next, month_of_day_is, month_bound}
 
@@ -39,21 +39,21 @@ year_to_2480 date day e bound =
     (λ lt. absurd (omega (arith, day_count-lt_year (pos 2480) 12 31 date.year date.month date.day (omega (arith, signed_arith), (omega arith, omega arith), (omega arith, omega arith)) (civil date).2.0 lt, day_count-late (pos 2480) 12_480 12 31 refl (omega arith) (omega arith) (omega arith), epoch_day-count date day e)))
     (λ le. le)
 
--- the date is its month's first day and its place in the month
+-- the date is its month's first day and its number in the month
 pub day_of_month : (date : Date) (day month : ℕ) → epoch_day date ≡ pos day → IsMonthAt month date → first_day month + date.day ≡ day + 1
 day_of_month date day month e at =
     let count = epoch_day-count date day e in
-    let here = rw (at.year, at.place) at count in
-    omega (arith, here, first_day-count month, day_count-day (pos (year_of month)) (place_in_year month) date.day 1 (civil date).2.0 (omega arith))
+    let here = rw (at.year, at.number) at count in
+    omega (arith, here, first_day-count month, day_count-day (pos (year_of month)) (number_in_year month) date.day 1 (civil date).2.0 (omega arith))
 
 -- so its day lies in that month
 pub IsMonthOf-date : (date : Date) (day month : ℕ) → epoch_day date ≡ pos day → IsMonthAt month date → IsMonthOf day month
 IsMonthOf-date date day month e at =
-    let place = day_of_month date day month e at in
-    let last = rw (at.year, at.place) at (civil date).2.1 in
+    let number = day_of_month date day month e at in
+    let last = rw (at.year, at.number) at (civil date).2.1 in
     record {
-      begun = omega (arith, place, (civil date).2.0);
-      not_over = omega (arith, place, last, first_day-next month);
+      begun = omega (arith, number, (civil date).2.0);
+      not_over = omega (arith, number, last, first_day-next month);
     }
 
 -- the civil date of a day
@@ -64,8 +64,8 @@ date_on day bound =
     let low = month_bound day month is bound in
     record {
       year = pos (year_of month);
-      month = place_in_year month;
-      day = place_in_month day;
+      month = number_in_year month;
+      day = number_in_month day;
       year_in = (omega (arith, signed_arith), omega (arith, signed_arith));
       month_in = (omega arith, omega arith);
       day_in = (omega arith, omega (arith, is.begun, is.not_over, first_day-next month));
@@ -75,7 +75,7 @@ pub epoch_day-date_on : (day : ℕ) (bound : day < 186_414) → epoch_day (date_
 unfolding date_on
 epoch_day-date_on day bound =
     let month = month_of_day day in
-    omega (arith, signed_arith, (month_of_day_is day).begun, days_from_civil-day_count (pos (year_of month)) (place_in_year month) (place_in_month day), first_day-count month, day_count-day (pos (year_of month)) (place_in_year month) (place_in_month day) 1 (omega arith) (omega arith))
+    omega (arith, signed_arith, (month_of_day_is day).begun, days_from_civil-day_count (pos (year_of month)) (number_in_year month) (number_in_month day), first_day-count month, day_count-day (pos (year_of month)) (number_in_year month) (number_in_month day) 1 (omega arith) (omega arith))
 
 -- a minute lies on the civil date of its day
 pub is_dated : (minute : ℕ) → minute < 2 ^ 28 → IsDated minute

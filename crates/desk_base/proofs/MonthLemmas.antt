@@ -5,29 +5,29 @@ use Rattle.jiff_core.specs.Calendar.{day_count, days_in_month}
 use Rattle.jiff_core.proofs.SignedLemmas.{signed_arith}
 use Rattle.jiff_core.proofs.CalendarLemmas.{day_count-epoch, day_count-next_month, day_count-next_year, day_count-last_of_year, day_count-day, days_in_month_bounds}
 use Rattle.jiff_core.proofs.MarchLemmas.{day_count-early, day_count-late}
-use Rattle.desk_base.specs.Month.{year_of, place_in_year, first_day, latest_month, month_of_day, IsMonthOf, IsMonthInYears}
+use Rattle.desk_base.specs.Month.{year_of, number_in_year, first_day, latest_month, month_of_day, IsMonthOf, IsMonthInYears}
 
 -- the day count of the month's first day
 abbrev pub first_count : ℕ → ℕ
-first_count month = day_count (pos (year_of month)) (place_in_year month) 1
+first_count month = day_count (pos (year_of month)) (number_in_year month) 1
 
 -- the days of the month
 abbrev pub length_of : ℕ → ℕ
-length_of month = days_in_month (pos (year_of month)) (place_in_year month)
+length_of month = days_in_month (pos (year_of month)) (number_in_year month)
 
 first_count-within : (month : ℕ) → month % 12 < 11 → first_count (month + 1) ≡ first_count month + length_of month
 first_count-within month h =
     let year : (month + 1) / 12 ≡ month / 12 = omega arith in
-    let place : (month + 1) % 12 ≡ month % 12 + 1 = omega arith in
-    rw (year, place) (day_count-next_month (pos (year_of month)) (place_in_year month) (omega arith))
+    let number : (month + 1) % 12 ≡ month % 12 + 1 = omega arith in
+    rw (year, number) (day_count-next_month (pos (year_of month)) (number_in_year month) (omega arith))
 
 first_count-december : (month : ℕ) → month % 12 ≡ 11 → first_count (month + 1) ≡ first_count month + length_of month
 first_count-december month h =
     let year : (month + 1) / 12 ≡ month / 12 + 1 = omega arith in
-    let place : (month + 1) % 12 ≡ 0 = omega arith in
+    let number : (month + 1) % 12 ≡ 0 = omega arith in
     let y = pos (year_of month) in
     let sum : 1970 + (month / 12 + 1) ≡ year_of month + 1 = omega arith in
-    rw (year, place, sum, h) (omega (arith, day_count-next_year y (pos (year_of month + 1)) (omega (arith, signed_arith)) refl, day_count-last_of_year y, day_count-day y 12 1 31 (omega arith) (omega arith)))
+    rw (year, number, sum, h) (omega (arith, day_count-next_year y (pos (year_of month + 1)) (omega (arith, signed_arith)) refl, day_count-last_of_year y, day_count-day y 12 1 31 (omega arith) (omega arith)))
 
 pub first_count-next : (month : ℕ) → first_count (month + 1) ≡ first_count month + length_of month
 first_count-next month =
@@ -35,7 +35,7 @@ first_count-next month =
 
 pub length_of_bounds : (month : ℕ) → (28 ≤ length_of month) × (length_of month ≤ 31)
 length_of_bounds month =
-    let b = days_in_month_bounds (pos (year_of month)) (place_in_year month) in (b.1, b.0)
+    let b = days_in_month_bounds (pos (year_of month)) (number_in_year month) in (b.1, b.0)
 
 first_count_low : (month : ℕ) → 4_371_953 ≤ first_count month
 first_count_low zero = omega (arith, day_count-epoch)

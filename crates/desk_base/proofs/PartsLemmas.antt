@@ -7,7 +7,7 @@ use Rattle.std.specs.Bool.{⊤}
 use Rattle.std.specs.List.{slice_split, position_or_len, join_with_byte, All}
 use Rattle.desk_base.specs.Parts.{parts_by}
 
--- where the first element that passes stands at this place, the first part ends there
+-- where the first element that passes stands at this index, the first part ends there
 pub slice_split-found : {X : Type 0} (p : X → Bool) (xs : List X) (d : X) (at : ℕ) → Some at ≡ cond (ltb (position_or_len p xs) (length xs)) (Some (position_or_len p xs)) None → slice_split p xs ≡ take at xs ∷ slice_split p (drop (at + 1) xs)
 slice_split-found p xs d at e =
     elim (cases_lt (position_or_len p xs) (length xs)) [

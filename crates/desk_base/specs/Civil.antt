@@ -1,6 +1,6 @@
 -- What civil dates and times of day, as `jiff` has them, are to the desk's minutes and months.
 use Rattle.std.specs.Prelude.{◌≡◌, ℕ, ◌+◌, ◌*◌, ◌/◌, ◌%◌, ◌<◌, List, ◌∷◌, ◌++◌, pos, ◌+ℤ◌, ◌*ℤ◌, unsigned_abs}
-use Rattle.desk_base.specs.Month.{year_of, place_in_year, two_digits}
+use Rattle.desk_base.specs.Month.{year_of, number_in_year, two_digits}
 use Rattle.jiff_core.specs.declared.civil.date.Date.{Date}
 use Rattle.jiff_core.specs.Date.{epoch_day}
 
@@ -21,7 +21,7 @@ IsInDays date = (day : ℕ) × ((epoch_day date ≡ pos day) × (day < 186_414))
 -- the month in which the civil date lies
 pub record IsMonthAt (month : ℕ) (date : Date) : Type 0 where
   pub year : date.year ≡ pos (year_of month)
-  pub place : date.month ≡ place_in_year month
+  pub number : date.month ≡ number_in_year month
 
 -- `YYYY-MM-DD HH:MM` of a civil date and a time of day
 abbrev pub civil_text : Date → ℕ → ℕ → List ℕ

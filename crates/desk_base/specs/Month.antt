@@ -7,13 +7,13 @@ use Rattle.desk_base.specs.declared.month.TheConstants.{MONTHS_BEGIN, MONTHS_END
 abbrev pub year_of : ℕ → ℕ
 year_of month = 1970 + month / 12
 
--- the month's place in its year, from 1 for January
-abbrev pub place_in_year : ℕ → ℕ
-place_in_year month = month % 12 + 1
+-- the month's number in its year, from 1 for January
+abbrev pub number_in_year : ℕ → ℕ
+number_in_year month = month % 12 + 1
 
 -- the days from 1 January 1970 to the first day of the month
 unfoldable pub first_day : ℕ → ℕ
-first_day month = day_count (pos (year_of month)) (place_in_year month) 1 - day_count (pos 1970) 1 1
+first_day month = day_count (pos (year_of month)) (number_in_year month) 1 - day_count (pos 1970) 1 1
 
 -- the month's first minute, counted from 1970-01-01 00:00
 abbrev pub first_minute : ℕ → ℕ
@@ -21,7 +21,7 @@ first_minute month = 1440 * first_day month
 
 -- how many minutes the month has
 abbrev pub minutes_of : ℕ → ℕ
-minutes_of month = 1440 * days_in_month (pos (year_of month)) (place_in_year month)
+minutes_of month = 1440 * days_in_month (pos (year_of month)) (number_in_year month)
 
 -- the latest of the months from 0 to this one that has begun by the day
 unfoldable pub latest_month : ℕ → ℕ → ℕ
@@ -47,4 +47,4 @@ two_digits n = (48 + n / 10) ∷ (48 + n % 10) ∷ []
 
 -- `YYYY-MM`
 unfoldable pub month_text : ℕ → List ℕ
-month_text month = two_digits (year_of month / 100) ++ two_digits (year_of month % 100) ++ 45 ∷ two_digits (place_in_year month)
+month_text month = two_digits (year_of month / 100) ++ two_digits (year_of month % 100) ++ 45 ∷ two_digits (number_in_year month)

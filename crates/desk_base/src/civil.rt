@@ -1,7 +1,7 @@
 //! Civil dates by the number of their day, which is 0 for 1 January 1970.
 ghost use Rattle.std.specs.Prelude.{◌≡◌, ◌≤◌, ◌<◌, pos, ◌≤ℤ◌};
 ghost use Rattle.jiff_core.specs.Date.{epoch_day, IsYmd};
-ghost use Rattle.desk_base.specs.Month.{first_day, year_of, place_in_year};
+ghost use Rattle.desk_base.specs.Month.{first_day, year_of, number_in_year};
 ghost use Rattle.desk_base.specs.Civil.{IsMonthAt};
 
 use jiff::ToSpan;
@@ -35,7 +35,7 @@ pub(crate) fn day_of(date: Date) -> u32
 /// The first date of that month.
 pub(crate) fn first_of(month: u16) -> Date
     requires { month ≤ 6124 }
-    ensures { IsYmd (pos (year_of month)) (pos (place_in_year month)) (pos 1) result }
+    ensures { IsYmd (pos (year_of month)) (pos (number_in_year month)) (pos 1) result }
 {
     date((1970 + month / 12) as i16, (month % 12 + 1) as i8, 1)
 }

@@ -1,7 +1,7 @@
 ghost use Rattle.std.specs.Prelude.{◌≡◌, ℕ, ◌+◌, ◌≤◌, ◌<◌, IfSome, pos};
 ghost use Rattle.std.specs.Option.{SomeIff};
 ghost use Rattle.std.specs.Bool.{Decides};
-ghost use Rattle.desk_base.specs.Month.{year_of, place_in_year, first_day, first_minute, minutes_of, month_text, IsMonthInYears};
+ghost use Rattle.desk_base.specs.Month.{year_of, number_in_year, first_day, first_minute, minutes_of, month_text, IsMonthInYears};
 ghost use Rattle.desk_base.specs.Minute.{month_of};
 ghost use Rattle.desk_base.specs.Civil.{IsMinuteAt, IsMonthAt, IsInDays};
 ghost use Rattle.jiff_core.specs.Calendar.{days_in_month};
@@ -112,7 +112,7 @@ impl Month {
 
     // How many days the month has, 28 to 31.
     pub(crate) fn days(self) -> u8
-        ensures value { result ≡ days_in_month (pos (year_of self)) (place_in_year self) }
+        ensures value { result ≡ days_in_month (pos (year_of self)) (number_in_year self) }
         ensures next { first_day self + result ≡ first_day (self + 1) }
         ensures most { result ≤ 31 }
     {
@@ -139,11 +139,11 @@ impl Month {
         };
         let century = number_of(*y1, *y2)?;
         let past = number_of(*y3, *y4)?;
-        let place = number_of(*m1, *m2)?;
-        if century != 20 || place < 1 || place > 12 {
+        let number = number_of(*m1, *m2)?;
+        if century != 20 || number < 1 || number > 12 {
             return None;
         }
-        Some(Month(12 * (30 + u16::from(past)) + u16::from(place - 1)))
+        Some(Month(12 * (30 + u16::from(past)) + u16::from(number - 1)))
     }
 
     /// The text `YYYY-MM` of the month.

@@ -67,13 +67,13 @@ impl Window {
         self.months
     }
 
-    /// The month at this place of the window, from 0.
-    pub fn month(&self, place: u8) -> Month
-        requires { place < self.now.months }
-        ensures value { result ≡ self.now.first + place }
+    /// The month at this index of the window, from 0.
+    pub fn month(&self, index: u8) -> Month
+        requires { index < self.now.months }
+        ensures value { result ≡ self.now.first + index }
         ensures range { IsWindow self.now }
     {
-        self.first.after(place)
+        self.first.after(index)
     }
 
     /// Whether the minute lies in the window.

@@ -35,7 +35,7 @@ impl Errors {
         ensures bound { ReadsAtMost result into.new }
         ensures bytes { ReadConsumes (R.remaining reader.old) (R.remaining reader.new) result into.new }
         ensures count { self.new ≡ errors_after result self.old }
-        ensures later { self.old ≤ self.new }
+        ensures faults_grow { self.old ≤ self.new }
     {
         let answer = reader.read(into);
         if answer.is_err() {
@@ -49,7 +49,7 @@ impl Errors {
         ensures bound { WritesAtMost result from.now }
         ensures bytes { WriteAppends (W.contents writer.old) (W.contents writer.new) result from.now }
         ensures count { self.new ≡ errors_written result (length from.now) self.old }
-        ensures later { self.old ≤ self.new }
+        ensures faults_grow { self.old ≤ self.new }
     {
         let answer = writer.write(from);
         match &answer {
@@ -63,7 +63,7 @@ impl Errors {
     pub fn write_all<W: Write>(&mut self, writer: &mut W, from: &[u8]) -> io::Result<()>
         ensures bytes { OnOk result (Appends (W.contents writer.old) (W.contents writer.new) from.now) }
         ensures count { self.new ≡ errors_after result self.old }
-        ensures later { self.old ≤ self.new }
+        ensures faults_grow { self.old ≤ self.new }
     {
         let answer = writer.write_all(from);
         if answer.is_err() {

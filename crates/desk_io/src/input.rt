@@ -29,7 +29,7 @@ pub fn take_all<S: Source>(
         → TookFront (S.left source.old) (S.left source.new) limit }
 
     ensures given { TookFront (S.left source.old) (S.left source.new) (limit + 1) }
-    ensures later { S.faults source.old ≤ S.faults source.new }
+    ensures faults_grow { S.faults source.old ≤ S.faults source.new }
 {
     let mut bytes = Vec::new(alloc);
     let mut piece = [0; PIECE];

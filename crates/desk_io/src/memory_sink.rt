@@ -80,7 +80,7 @@ impl Sink for MemorySink {
     fn write(&mut self, from: &[u8]) -> Giving
         ensures piece { TakesPiece result (length from.now) }
         ensures adds { Adds (Some self.old.held) (Some self.new.held) result from.now }
-        ensures later { self.old.faults ≤ self.new.faults }
+        ensures faults_grow { self.old.faults ≤ self.new.faults }
         ensures cause { result ≡ Giving.Failed → Rose self.old.faults self.new.faults }
         ensures no_fault { result ≢ Giving.Failed → self.new.faults ≡ self.old.faults }
 

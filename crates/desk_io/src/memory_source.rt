@@ -65,7 +65,7 @@ impl Source for MemorySource {
     fn read(&mut self, into: &mut [u8]) -> Taking
         ensures piece { TakesPiece result (length into.new) }
         ensures moves { Moves (Some self.old.left) (Some self.new.left) result into.new }
-        ensures later { self.old.faults ≤ self.new.faults }
+        ensures faults_grow { self.old.faults ≤ self.new.faults }
         ensures cause { result ≡ Taking.Failed → Rose self.old.faults self.new.faults }
         ensures no_fault { result ≢ Taking.Failed → self.new.faults ≡ self.old.faults }
 

@@ -11,7 +11,7 @@ use crate::{Giving, Sink};
 pub fn put_all<K: Sink>(sink: &mut K, bytes: &[u8]) -> bool
     ensures all { OnTrue result (Appends (K.held sink.old) (K.held sink.new) bytes.now) }
     ensures front { OnFalse result (AddsFront (K.held sink.old) (K.held sink.new) bytes.now) }
-    ensures later { K.faults sink.old ≤ K.faults sink.new }
+    ensures faults_grow { K.faults sink.old ≤ K.faults sink.new }
     ensures cause { OnFalse result (Rose (K.faults sink.old) (K.faults sink.new)) }
     ensures no_fault { OnTrue result (K.faults sink.new ≡ K.faults sink.old) }
 {

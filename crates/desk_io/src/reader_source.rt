@@ -41,7 +41,7 @@ impl<R: Read> Source for ReaderSource<R> {
     fn read(&mut self, into: &mut [u8]) -> Taking
         ensures piece { TakesPiece result (length into.new) }
         ensures moves { Moves None None result into.new }
-        ensures later { self.old.errors ≤ self.new.errors }
+        ensures faults_grow { self.old.errors ≤ self.new.errors }
         ensures cause { result ≡ Taking.Failed → Rose self.old.errors self.new.errors }
         ensures no_fault { result ≢ Taking.Failed → self.new.errors ≡ self.old.errors }
 

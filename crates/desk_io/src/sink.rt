@@ -17,7 +17,7 @@ pub trait Sink {
     fn write(&mut self, from: &[u8]) -> Giving
         ensures piece { TakesPiece result (length from.now) }
         ensures adds { Adds (held self.old) (held self.new) result from.now }
-        ensures later { faults self.old ≤ faults self.new }
+        ensures faults_grow { faults self.old ≤ faults self.new }
         ensures cause { result ≡ Giving.Failed → Rose (faults self.old) (faults self.new) }
         ensures no_fault { result ≢ Giving.Failed → faults self.new ≡ faults self.old };
 }

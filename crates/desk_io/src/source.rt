@@ -17,7 +17,7 @@ pub trait Source {
     fn read(&mut self, into: &mut [u8]) -> Taking
         ensures piece { TakesPiece result (length into.new) }
         ensures moves { Moves (left self.old) (left self.new) result into.new }
-        ensures later { faults self.old ≤ faults self.new }
+        ensures faults_grow { faults self.old ≤ faults self.new }
         ensures cause { result ≡ Taking.Failed → Rose (faults self.old) (faults self.new) }
         ensures no_fault { result ≢ Taking.Failed → faults self.new ≡ faults self.old };
 }

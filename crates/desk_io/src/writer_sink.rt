@@ -43,7 +43,7 @@ impl<W: Write> Sink for WriterSink<W> {
     fn write(&mut self, from: &[u8]) -> Giving
         ensures piece { TakesPiece result (length from.now) }
         ensures adds { Adds None None result from.now }
-        ensures later { self.old.errors ≤ self.new.errors }
+        ensures faults_grow { self.old.errors ≤ self.new.errors }
         ensures cause { result ≡ Giving.Failed → Rose self.old.errors self.new.errors }
         ensures no_fault { result ≢ Giving.Failed → self.new.errors ≡ self.old.errors }
 

@@ -4,7 +4,7 @@ use Rattle.std.proofs.lemmas.Bool.{false≢true}
 use Rattle.std.proofs.lemmas.Bool.Decides.{nat_tests}
 use Rattle.desk_base.specs.Window.{start_of}
 use Rattle.duty_events.specs.declared.event.Event.{Event}
-use Rattle.duty_events.specs.Allowed.{first_minute, last_minute, judge}
+use Rattle.duty_events.specs.Allowed.{first_minute, last_minute, allow}
 use Rattle.duty_events.specs.Lists.{stage_of, latest}
 use Rattle.duty_events.proofs.ListLemmas.{last_event-push}
 use Rattle.desk_model.specs.declared.command.Cmd.{Cmd}
@@ -27,7 +27,7 @@ told-over : (o : OpeningValue) (es : List Event) (m : ℕ) (t : Event) → is_do
 told-over o es m t done = go (nat_lt (first_minute t) (start_of o.window)) (nat_lt m (last_minute t)) refl done
   where
     go : (early ahead : Bool) → nat_lt m (last_minute t) ≡ ahead
-        → is_done (cond early reply.OutsideWindow (cond ahead (reply.EventAhead m) (judged_answer (judge (stage_of es) t (latest es))))) ≡ true → last_minute t ≤ m
+        → is_done (cond early reply.OutsideWindow (cond ahead (reply.EventAhead m) (judged_answer (allow (stage_of es) t (latest es))))) ≡ true → last_minute t ≤ m
     go true ahead is done = absurd (false≢true done)
     go false true is done = absurd (false≢true done)
     go false false is done = grind (arith, nat_tests, is)

@@ -1,4 +1,4 @@
--- At most 500 persons are on a board in a legal history, and at most 2,000 places in a chain.
+-- At most 500 persons are on a board in a legal history, and at most 2,000 positions in a chain.
 use Rattle.std.proofs.Common.{◌≡◌, ℕ, ◌+◌, ◌*◌, ◌<◌, ◌≤◌, ◌⊎◌, inl, inr, Bool, true, false, cond, nat_eq, nat_le, Option, None, Some, is_none, List, [], ◌∷◌, length, refl, subst, arith, length-append}
 use Rattle.std.specs.Str.{bytes_eq}
 use Rattle.std.proofs.lemmas.Bool.{cases_Bool, false≢true}

@@ -62,50 +62,50 @@ clear-person h m job p free = go (person_of h p) refl free
 not-free : (h : History) (m : ℕ) (job : JobValue) (p : ℕ) → IsBarred h m job p → is_free h m job p ≡ false
 not-free h m job p b = ap (may_have h m job p) b.enrolled ∙ ap is_none b.barred
 
--- ---- places of a chain
+-- ---- positions of a chain
 
 abbrev are_free : History → ℕ → JobValue → Link → Bool
 are_free h m job link = is_free h m job link.person
 
-none-barred : (h : History) (m : ℕ) (job : JobValue) (places : List Link) → All (λ (link : Link). IsEnrolled h link.person) places
-    → find (are_free h m job) places ≡ None → AreBarred h m job places
+none-barred : (h : History) (m : ℕ) (job : JobValue) (positions : List Link) → All (λ (link : Link). IsEnrolled h link.person) positions
+    → find (are_free h m job) positions ≡ None → AreBarred h m job positions
 none-barred h m job [] known none = All-nil (λ (link : Link). IsBarred h m job link.person)
-none-barred h m job (link ∷ places) known none =
-    go (is_free h m job link.person) refl none (none-barred h m job places (All-tail (λ (x : Link). IsEnrolled h x.person) link places known))
+none-barred h m job (link ∷ positions) known none =
+    go (is_free h m job link.person) refl none (none-barred h m job positions (All-tail (λ (x : Link). IsEnrolled h x.person) link positions known))
   where
-    go : (free : Bool) → is_free h m job link.person ≡ free → cond free (Some link) (find (are_free h m job) places) ≡ None
-        → (find (are_free h m job) places ≡ None → AreBarred h m job places) → AreBarred h m job (link ∷ places)
+    go : (free : Bool) → is_free h m job link.person ≡ free → cond free (Some link) (find (are_free h m job) positions) ≡ None
+        → (find (are_free h m job) positions ≡ None → AreBarred h m job positions) → AreBarred h m job (link ∷ positions)
     go true is none rest = cc
     go false is none rest =
-        All-cons (λ (x : Link). IsBarred h m job x.person) link places (barred-person h m job link.person (known 0 link (omega arith)) is) (rest none)
+        All-cons (λ (x : Link). IsBarred h m job x.person) link positions (barred-person h m job link.person (known 0 link (omega arith)) is) (rest none)
 
-barred-none : (h : History) (m : ℕ) (job : JobValue) (places : List Link) → AreBarred h m job places → find (are_free h m job) places ≡ None
+barred-none : (h : History) (m : ℕ) (job : JobValue) (positions : List Link) → AreBarred h m job positions → find (are_free h m job) positions ≡ None
 barred-none h m job [] barred = refl
-barred-none h m job (link ∷ places) barred =
+barred-none h m job (link ∷ positions) barred =
     rw (not-free h m job link.person (barred 0 link (omega arith)))
-    (barred-none h m job places (All-tail (λ (x : Link). IsBarred h m job x.person) link places barred))
+    (barred-none h m job positions (All-tail (λ (x : Link). IsBarred h m job x.person) link positions barred))
 
--- the first place whose person is free, and what stands before and behind it
-record Found (h : History) (m : ℕ) (job : JobValue) (places : List Link) (link : Link) : Type 0 where
+-- the first position whose person is free, and what stands before and behind it
+record Found (h : History) (m : ℕ) (job : JobValue) (positions : List Link) (link : Link) : Type 0 where
   before : List Link
   behind : List Link
-  places_are : places ≡ before ++ link ∷ behind
+  positions_are : positions ≡ before ++ link ∷ behind
   barred : AreBarred h m job before
   free : is_free h m job link.person ≡ true
 
-found-first : (h : History) (m : ℕ) (job : JobValue) (places : List Link) (link : Link) → All (λ (x : Link). IsEnrolled h x.person) places
-    → find (are_free h m job) places ≡ Some link → Found h m job places link
+found-first : (h : History) (m : ℕ) (job : JobValue) (positions : List Link) (link : Link) → All (λ (x : Link). IsEnrolled h x.person) positions
+    → find (are_free h m job) positions ≡ Some link → Found h m job positions link
 found-first h m job [] link known found = cc
-found-first h m job (x ∷ places) link known found =
-    go (is_free h m job x.person) refl found (found-first h m job places link (All-tail (λ (y : Link). IsEnrolled h y.person) x places known))
+found-first h m job (x ∷ positions) link known found =
+    go (is_free h m job x.person) refl found (found-first h m job positions link (All-tail (λ (y : Link). IsEnrolled h y.person) x positions known))
   where
-    go : (free : Bool) → is_free h m job x.person ≡ free → cond free (Some x) (find (are_free h m job) places) ≡ Some link
-        → (find (are_free h m job) places ≡ Some link → Found h m job places link) → Found h m job (x ∷ places) link
+    go : (free : Bool) → is_free h m job x.person ≡ free → cond free (Some x) (find (are_free h m job) positions) ≡ Some link
+        → (find (are_free h m job) positions ≡ Some link → Found h m job positions link) → Found h m job (x ∷ positions) link
     go true is found rest =
         let same : x ≡ link = cc in record {
           before = [];
-          behind = places;
-          places_are = ap (λ y. y ∷ places) same;
+          behind = positions;
+          positions_are = ap (λ y. y ∷ positions) same;
           barred = All-nil (λ (y : Link). IsBarred h m job y.person);
           free = subst (λ (y : Link). is_free h m job y.person ≡ true) same is;
         }
@@ -113,7 +113,7 @@ found-first h m job (x ∷ places) link known found =
         let later = rest found in record {
           before = x ∷ later.before;
           behind = later.behind;
-          places_are = ap (λ all. x ∷ all) later.places_are;
+          positions_are = ap (λ all. x ∷ all) later.positions_are;
           barred = All-cons (λ (y : Link). IsBarred h m job y.person) x later.before (barred-person h m job x.person (known 0 x (omega arith)) is) later.barred;
           free = later.free;
         }
@@ -148,7 +148,7 @@ found-clear h m job link legal first =
     record {
       before = found.before;
       behind = found.behind;
-      chain_is = found.places_are;
+      chain_is = found.positions_are;
       barred = found.barred;
       clear = clear-person h m job link.person found.free;
     }

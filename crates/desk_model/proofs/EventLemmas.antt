@@ -12,7 +12,7 @@ use Rattle.duty_events.specs.declared.event.Event.{Event}
 use Rattle.duty_events.specs.declared.event.Event.TheVariants as event
 use Rattle.duty_events.specs.declared.stage.Stage.{Stage}
 use Rattle.duty_events.specs.declared.event_fault.EventFault.{EventFault}
-use Rattle.duty_events.specs.Allowed.{first_minute, last_minute, judge}
+use Rattle.duty_events.specs.Allowed.{first_minute, last_minute, allow}
 use Rattle.duty_events.specs.Lists.{stage_of, latest, may_follow, IsLawful}
 use Rattle.duty_events.proofs.FollowLemmas.{may_follow-decides}
 use Rattle.duty_events.proofs.ListLemmas.{lawful-push}
@@ -84,14 +84,14 @@ event-years (event.Final t place) is = (is.0, (is.0, omega arith))
 event-years (event.Other span place) is = (is.0, (is.1, omega (arith, is.2)))
 event-years other is = (is, (is, omega arith))
 
-may_follow-allowed : (s : Stage) (last : Option ℕ) (e : Event) → IsEvent e → is_ok (judge s e last) ≡ true → may_follow s last e ≡ true
+may_follow-allowed : (s : Stage) (last : Option ℕ) (e : Event) → IsEvent e → is_ok (allow s e last) ≡ true → may_follow s last e ≡ true
 may_follow-allowed s last e is allowed =
     let years = event-years e is in
     (may_follow-decides s last e).1 (record { allowed = allowed; first_in = years.0; last_in = years.1.0; whole = years.1.1 })
 
 -- what is told and done was allowed
-pub told-done : (o : OpeningValue) (es : List Event) (m : ℕ) (e : Event) → is_done (told_answer o es m e) ≡ true → is_ok (judge (stage_of es) e (latest es)) ≡ true
-told-done o es m e done = go (nat_lt (first_minute e) (start_of o.window)) (nat_lt m (last_minute e)) (judge (stage_of es) e (latest es)) done
+pub told-done : (o : OpeningValue) (es : List Event) (m : ℕ) (e : Event) → is_done (told_answer o es m e) ≡ true → is_ok (allow (stage_of es) e (latest es)) ≡ true
+told-done o es m e done = go (nat_lt (first_minute e) (start_of o.window)) (nat_lt m (last_minute e)) (allow (stage_of es) e (latest es)) done
   where
     go : (early ahead : Bool) (r : Result Stage EventFault) → is_done (cond early reply.OutsideWindow (cond ahead (reply.EventAhead m) (judged_answer r))) ≡ true → is_ok r ≡ true
     go true ahead r done = absurd (false≢true done)
@@ -126,7 +126,7 @@ event-comes h m q p e t is tells done = go (nat_eq q p) refl tells
     go false apart tells = cc
     go true same tells =
         let self : e ≡ t = cc in
-        let allowed = subst (λ n. is_ok (judge (stage_of (events h n)) e (latest (events h n))) ≡ true) (same_number q p same) (told-done h.opening (events h q) m e done) in
+        let allowed = subst (λ n. is_ok (allow (stage_of (events h n)) e (latest (events h n))) ≡ true) (same_number q p same) (told-done h.opening (events h q) m e done) in
         subst (λ x. may_come (events h p) x ≡ true) self (may_follow-allowed (stage_of (events h p)) (latest (events h p)) e is allowed)
 
 pub command-comes : (h : History) (m : ℕ) (c : Cmd) (p : ℕ) (t : Event) → IsCommand c → tells p c ≡ Some t

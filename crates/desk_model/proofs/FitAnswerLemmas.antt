@@ -12,7 +12,7 @@ use Rattle.desk_base.proofs.MonthLemmas.{length_of_bounds}
 use Rattle.duty_events.specs.declared.event.Event.{Event}
 use Rattle.duty_events.specs.declared.stage.Stage.{Stage}
 use Rattle.duty_events.specs.declared.event_fault.EventFault.{EventFault}
-use Rattle.duty_events.specs.Allowed.{judge}
+use Rattle.duty_events.specs.Allowed.{allow}
 use Rattle.duty_events.specs.Lists.{stage_of, latest}
 use Rattle.duty_events.specs.MinuteKind.{is_worked, kind_of}
 use Rattle.duty_events.proofs.CountLemmas.{minutes_where-most}
@@ -43,7 +43,7 @@ use Rattle.desk_model.specs.answers.EventAnswer.{judged_answer, told_answer, unl
 use Rattle.desk_model.specs.answers.VacancyAnswer.{is_extra, unknown_in, bad_in, chain_answer, vacancy_answer}
 use Rattle.desk_model.specs.answers.SettleAnswer.{offered_answer, made_answer, settle_answer}
 use Rattle.desk_model.specs.answers.GiveUpAnswer.{over_answer, annul_answer}
-use Rattle.desk_model.specs.answers.LookAnswer.{seen_answer, member_at, at_answer}
+use Rattle.desk_model.specs.answers.QuestionAnswer.{seen_answer, member_at, at_answer}
 use Rattle.desk_model.specs.answers.HoursAnswer.{hours_answer}
 use Rattle.desk_model.specs.histories.Legal.{answer_to, IsLegal}
 use Rattle.desk_model.proofs.BoundLemmas.{length-order}
@@ -70,13 +70,13 @@ off-fits h p all = let rest = frozen-fits (option_or (on_offer h p) (assigned h 
     either None fits = assigned-fits h p all
     either (Some v) fits = fits
 
-judged-fits : (es : List Event) (e : Event) (r : Result Stage EventFault) → All IsEvent es → IsEvent e → judge (stage_of es) e (latest es) ≡ r → FitsReply (judged_answer r)
+judged-fits : (es : List Event) (e : Event) (r : Result Stage EventFault) → All IsEvent es → IsEvent e → allow (stage_of es) e (latest es) ≡ r → FitsReply (judged_answer r)
 judged-fits es e (Ok s) all is told = tt
 judged-fits es e (Err f) all is told = fault-fits es e f all is told
 
 told-fits : (o : OpeningValue) (es : List Event) (m : ℕ) (e : Event) → All IsEvent es → IsEvent e → IsInYears m → FitsReply (told_answer o es m e)
 told-fits o es m e all is m_in =
-    let judged = judged-fits es e (judge (stage_of es) e (latest es)) all is refl in search (either-fits, m_in, judged)
+    let judged = judged-fits es e (allow (stage_of es) e (latest es)) all is refl in search (either-fits, m_in, judged)
 
 event-fits : (h : History) (m p : ℕ) (e : Event) → IsLegal h → All Fits h.entries → IsEvent e → IsInYears m → FitsReply (event_answer h m p e)
 event-fits h m p e legal all is m_in =

@@ -21,7 +21,7 @@ use Rattle.desk_model.specs.offers.Assigned.{holder, begun, is_annulled}
 use Rattle.desk_model.specs.offers.States.{open_state, taken_state, begun_state, state_of}
 use Rattle.desk_model.specs.offers.Bars.{bar_of, is_free, first_free}
 use Rattle.desk_model.specs.answers.NextAnswer.{choice_answer, vacant_answer, unless_closed, known_answer, next_answer}
-use Rattle.desk_model.specs.answers.ExplainAnswer.{place_in, place_answer, judged_by, clear_answer, person_answer, job_answer, explain_answer}
+use Rattle.desk_model.specs.answers.ExplainAnswer.{position_in, position_answer, judged_by, clear_answer, person_answer, job_answer, explain_answer}
 use Rattle.desk_model.specs.answers.OfferAnswer.{named_answer, called_answer, offer_made_answer, offer_answer}
 use Rattle.desk_model.specs.histories.Legal.{IsLegal}
 use Rattle.desk_model.proofs.BoundLemmas.{length-chain-most}
@@ -86,14 +86,14 @@ judged_by-fits law h m v p job person rest legal all made who fits =
     let is = job-fits h v all job made in
     let late = lapsed-fits job is in
     let barred = bar-fits law h m job p person legal all is (vacancy-in_years h legal v job made) (person-fits h p all person who) in
-    let rest_fits = placed (bar_of h m job p person) (place_in (chain h job.chain) p) barred
+    let rest_fits = positioned (bar_of h m job p person) (position_in (chain h job.chain) p) barred
     (IfSome-find (λ link. nat_eq link.person p) FitsLink (chain h job.chain) (chain-fits h job.chain legal is.chain.codes)) in
     search (either-fits, late, rest_fits)
   where
-    placed : (b : Option Bar) (place : Option Link) → IfSome b FitsBar → IfSome place FitsLink → FitsReply (place_answer b rest place)
-    placed b None bar_fits link_fits = tt
-    placed None (Some link) bar_fits link_fits = fits link link_fits
-    placed (Some b) (Some link) bar_fits link_fits = bar_fits
+    positioned : (b : Option Bar) (position : Option Link) → IfSome b FitsBar → IfSome position FitsLink → FitsReply (position_answer b rest position)
+    positioned b None bar_fits link_fits = tt
+    positioned None (Some link) bar_fits link_fits = fits link link_fits
+    positioned (Some b) (Some link) bar_fits link_fits = bar_fits
 
 pub explain-fits : LawFits → (h : History) (m v p : ℕ) → IsLegal h → All Fits h.entries → FitsReply (explain_answer h m v p)
 explain-fits law h m v p legal all = known (vacancy_of h v) refl

@@ -13,7 +13,7 @@ use Rattle.duty_events.specs.declared.stage.Stage.{Stage}
 use Rattle.duty_events.specs.declared.stage.Stage.TheVariants as stage
 use Rattle.duty_events.specs.declared.event_fault.EventFault.{EventFault}
 use Rattle.duty_events.specs.declared.event_fault.EventFault.TheVariants as fault
-use Rattle.duty_events.specs.Allowed.{row, first_minute, last_minute, is_limited, behind, interim_fault, refuse, follow, judge}
+use Rattle.duty_events.specs.Allowed.{row, first_minute, last_minute, is_limited, behind, interim_fault, refuse, follow, allow}
 use Rattle.duty_events.specs.Lists.{stage_after, stage_of, last_event, latest}
 use Rattle.duty_events.specs.Places.{end_by, ends_from, last_end, place_of}
 use Rattle.desk_model.specs.declared.command.Cmd.{Cmd}
@@ -92,7 +92,7 @@ interim-fits (stage.Interim k since at) (event.Final t named) f has in_years is 
     go false is = let same : fault.OtherPlace at ≡ f = cc in subst FitsFault same has.1
 interim-fits s e f has in_years is = cc
 
-pub fault-fits : (es : List Event) (e : Event) (f : EventFault) → All IsEvent es → IsEvent e → judge (stage_of es) e (latest es) ≡ Err f → FitsFault f
+pub fault-fits : (es : List Event) (e : Event) (f : EventFault) → All IsEvent es → IsEvent e → allow (stage_of es) e (latest es) ≡ Err f → FitsFault f
 fault-fits es e f all in_years is = go (row (stage_of es) e) (stage_of es) (latest es) (stages-fit stage.Off es tt all) (latest-fits es all) is
   where
     interim : (s next : Stage) (found : Option EventFault) → FitsStage s → interim_fault s e ≡ found → refuse found (Ok next) ≡ Err f → FitsFault f

@@ -28,15 +28,15 @@ use Rattle.desk_model.specs.offers.States.{state_of}
 use Rattle.desk_model.specs.offers.Bars.{bar_of, first_free}
 use Rattle.desk_model.specs.answers.VacancyAnswer.{unknown_in, bad_in, plan_answer, chain_answer}
 use Rattle.desk_model.specs.answers.EventAnswer.{judged_answer, told_answer, unless_frozen}
-use Rattle.desk_model.specs.answers.ExplainAnswer.{place_in, place_answer, judged_by, clear_answer, person_answer, job_answer, explain_answer}
+use Rattle.desk_model.specs.answers.ExplainAnswer.{position_in, position_answer, judged_by, clear_answer, person_answer, job_answer, explain_answer}
 use Rattle.desk_model.specs.answers.NextAnswer.{choice_answer, vacant_answer, unless_closed, known_answer, next_answer}
 use Rattle.desk_model.specs.answers.OfferAnswer.{named_answer, called_answer, offer_made_answer, offer_answer}
 use Rattle.desk_model.specs.answers.SettleAnswer.{offered_answer, made_answer, settle_answer}
 use Rattle.desk_model.specs.answers.GiveUpAnswer.{over_answer}
-use Rattle.desk_model.specs.answers.LookAnswer.{seen_answer, member_at}
+use Rattle.desk_model.specs.answers.QuestionAnswer.{seen_answer, member_at}
 use Rattle.desk_model.specs.histories.Legal.{answer_to}
 
--- ---- only `next`, `offer` and `explain` judge
+-- ---- only `next`, `offer` and `explain` allow
 
 -- an answer that judges
 abbrev pub is_call : Reply → Bool
@@ -121,27 +121,27 @@ other-no h m c other = simp (is_call-cond, neither)
 
 -- ---- what such an answer says of a person whom the caller named
 
--- the moment is not after the report, the person stands at this place of the chain, and a bar holds or the place tells the answer
+-- the moment is not after the report, the person stands at this position of the chain, and a bar holds or the position tells the answer
 pub record IsJudged (h : History) (m : ℕ) (job : JobValue) (p : ℕ) (rest : Link → Reply) (person : Person) (r : Reply) : Type 0 where
   pub in_time : m ≤ job.report
   pub link : Link
-  pub place : place_in (chain h job.chain) p ≡ Some link
+  pub position : position_in (chain h job.chain) p ≡ Some link
   pub so : ((bar : Bar) × ((bar_of h m job p person ≡ Some bar) × (r ≡ reply.Denied bar))) ⊎ ((bar_of h m job p person ≡ None) × (rest link ≡ r))
 
 judged : (h : History) (m : ℕ) (job : JobValue) (p : ℕ) (rest : Link → Reply) (person : Person) (r : Reply) → is_call r ≡ true
     → judged_by h m job p rest person ≡ r → IsJudged h m job p rest person r
 judged h m job p rest person r call is = late (nat_lt job.report m) refl is
   where
-    placed : m ≤ job.report → (bar : Option Bar) (place : Option Link) → bar_of h m job p person ≡ bar → place_in (chain h job.chain) p ≡ place
-        → place_answer bar rest place ≡ r → IsJudged h m job p rest person r
-    placed in_time bar None b pl is = absurd (false≢true (ap is_call is ∙ call))
-    placed in_time (Some bar) (Some link) b pl is = record { in_time = in_time; link = link; place = pl; so = inl (bar, (b, sym is)) }
-    placed in_time None (Some link) b pl is = record { in_time = in_time; link = link; place = pl; so = inr (b, is) }
+    positioned : m ≤ job.report → (bar : Option Bar) (position : Option Link) → bar_of h m job p person ≡ bar → position_in (chain h job.chain) p ≡ position
+        → position_answer bar rest position ≡ r → IsJudged h m job p rest person r
+    positioned in_time bar None b pl is = absurd (false≢true (ap is_call is ∙ call))
+    positioned in_time (Some bar) (Some link) b pl is = record { in_time = in_time; link = link; position = pl; so = inl (bar, (b, sym is)) }
+    positioned in_time None (Some link) b pl is = record { in_time = in_time; link = link; position = pl; so = inr (b, is) }
 
     late : (after : Bool) → nat_lt job.report m ≡ after
-        → cond after (reply.Lapsed job.report) (place_answer (bar_of h m job p person) rest (place_in (chain h job.chain) p)) ≡ r → IsJudged h m job p rest person r
+        → cond after (reply.Lapsed job.report) (position_answer (bar_of h m job p person) rest (position_in (chain h job.chain) p)) ≡ r → IsJudged h m job p rest person r
     late true now is = absurd (false≢true (ap is_call is ∙ call))
-    late false now is = placed (grind (arith, nat_tests, now)) (bar_of h m job p person) (place_in (chain h job.chain) p) refl refl is
+    late false now is = positioned (grind (arith, nat_tests, now)) (bar_of h m job p person) (position_in (chain h job.chain) p) refl refl is
 
 -- the vacancy was made as this job, and the person is enrolled as this
 pub record IsKnown (h : History) (v p : ℕ) (job : JobValue) (person : Person) : Type 0 where

@@ -18,7 +18,7 @@ use Rattle.desk_model.specs.offers.Offers.{asks_for}
 use Rattle.desk_model.specs.offers.States.{state_of}
 use Rattle.desk_model.specs.offers.Bars.{bar_of, may_have, is_free, first_free}
 use Rattle.desk_model.specs.answers.NextAnswer.{choice_answer}
-use Rattle.desk_model.specs.answers.ExplainAnswer.{place_in}
+use Rattle.desk_model.specs.answers.ExplainAnswer.{position_in}
 use Rattle.desk_model.specs.answers.OfferAnswer.{named_answer}
 use Rattle.desk_model.specs.histories.Legal.{answer_to, IsNext}
 use Rattle.desk_model.proofs.LegalLemmas.{reply-is}
@@ -70,7 +70,7 @@ find-nothing wide narrow fits (y ∷ ys) none = go (wide y) (narrow y) refl refl
 abbrev pub link_of : List ℕ → ℕ → ℕ → Link
 link_of b k p = record { board = b; position = k; person = p }
 
--- the vacancy was made as a job; it is vacant, and the moment is not after its report; and this place is the first of its chain whose person is free
+-- the vacancy was made as a job; it is vacant, and the moment is not after its report; and this position is the first of its chain whose person is free
 pub record WasOffered (h : History) (m v : ℕ) (link : Link) : Type 0 where
   pub job : JobValue
   pub made : vacancy_of h v ≡ Some job
@@ -92,12 +92,12 @@ next-offered h m v p k b is = record { job = is.job; made = is.made; vacant = is
     go None so = cc
     go (Some link) so = ap Some (same_link link p k b so)
 
--- whom no bar holds is free, and so is each place of theirs
+-- whom no bar holds is free, and so is each position of theirs
 free-person : (h : History) (m : ℕ) (job : JobValue) (p : ℕ) (person : Person) → person_of h p ≡ Some person → bar_of h m job p person ≡ None → is_free h m job p ≡ true
 free-person h m job p person enrolled none = ap (may_have h m job p) enrolled ∙ ap is_none none
 
-free-places : (h : History) (m : ℕ) (job : JobValue) (p : ℕ) → is_free h m job p ≡ true → (link : Link) → nat_eq link.person p ≡ true → is_free h m job link.person ≡ true
-free-places h m job p free link same = ap (is_free h m job) (same_number link.person p same) ∙ free
+free-positions : (h : History) (m : ℕ) (job : JobValue) (p : ℕ) → is_free h m job p ≡ true → (link : Link) → nat_eq link.person p ≡ true → is_free h m job link.person ≡ true
+free-positions h m job p free link same = ap (is_free h m job) (same_number link.person p same) ∙ free
 
 -- the first of the chain who is free, where a person is who stands there
 pub record IsFirstFor (h : History) (m : ℕ) (job : JobValue) (p : ℕ) (link : Link) (r : Reply) : Type 0 where
@@ -105,13 +105,13 @@ pub record IsFirstFor (h : History) (m : ℕ) (job : JobValue) (p : ℕ) (link :
   pub is : first_free h m job ≡ Some first
   pub so : cond (nat_eq first.person p) (reply.Offered p link.board link.position) (reply.RunAround first.person) ≡ r
 
-named : (h : History) (m : ℕ) (job : JobValue) (p : ℕ) (link : Link) (r : Reply) → is_free h m job p ≡ true → place_in (chain h job.chain) p ≡ Some link
+named : (h : History) (m : ℕ) (job : JobValue) (p : ℕ) (link : Link) (r : Reply) → is_free h m job p ≡ true → position_in (chain h job.chain) p ≡ Some link
     → named_answer p (first_free h m job) link ≡ r → IsFirstFor h m job p link r
-named h m job p link r free place is = go (first_free h m job) refl is
+named h m job p link r free position is = go (first_free h m job) refl is
   where
     go : (first : Option Link) → first_free h m job ≡ first → named_answer p first link ≡ r → IsFirstFor h m job p link r
     go None none is =
-        let nowhere = find-nothing (λ (l : Link). is_free h m job l.person) (λ l. nat_eq l.person p) (free-places h m job p free) (chain h job.chain) none in cc
+        let nowhere = find-nothing (λ (l : Link). is_free h m job l.person) (λ l. nat_eq l.person p) (free-positions h m job p free) (chain h job.chain) none in cc
     go (Some first) some is = record { first = first; is = some; so = is }
 
 offer-offered : (h : History) (m v q p k : ℕ) (b : List ℕ) (job : JobValue) (person : Person) → IsKnown h v q job person → state_of h v ≡ state.Vacant
@@ -120,7 +120,7 @@ offer-offered h m v q p k b job person known vacant judged = elim judged.so [
   | inl denied ↦ let no : reply.Offered p b k ≡ reply.Denied denied.0 = denied.1.1 in cc
   | inr clear ↦
       let free = free-person h m job q person known.enrolled clear.0 in
-      let found = named h m job q judged.link (reply.Offered p b k) free judged.place clear.1 in
+      let found = named h m job q judged.link (reply.Offered p b k) free judged.position clear.1 in
       go free found.first found.is (nat_eq found.first.person q) refl found.so
 ]
   where
@@ -128,9 +128,9 @@ offer-offered h m v q p k b job person known vacant judged = elim judged.so [
         → cond mine (reply.Offered q judged.link.board judged.link.position) (reply.RunAround first.person) ≡ reply.Offered p b k → WasOffered h m v (link_of b k p)
     go free first is false other so = cc
     go free first is true mine so =
-        let narrow = find-narrow (λ (l : Link). is_free h m job l.person) (λ l. nat_eq l.person q) (free-places h m job q free) (chain h job.chain) first is mine in
+        let narrow = find-narrow (λ (l : Link). is_free h m job l.person) (λ l. nat_eq l.person q) (free-positions h m job q free) (chain h job.chain) first is mine in
         let same : first ≡ judged.link = cc in
-        let person_is : judged.link.person ≡ q = same_number judged.link.person q (find-passes (λ (l : Link). nat_eq l.person q) (chain h job.chain) judged.link judged.place) in
+        let person_is : judged.link.person ≡ q = same_number judged.link.person q (find-passes (λ (l : Link). nat_eq l.person q) (chain h job.chain) judged.link judged.position) in
         let link_is : judged.link ≡ link_of b k p = same_link judged.link p k b (ap (λ n. reply.Offered n judged.link.board judged.link.position) person_is ∙ so) in
         record { job = job; made = known.made; vacant = vacant; in_time = judged.in_time; first = is ∙ ap Some (same ∙ link_is) }
 

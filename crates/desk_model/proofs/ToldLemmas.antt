@@ -4,7 +4,7 @@ use Rattle.std.proofs.lemmas.Bool.{false≢true}
 use Rattle.std.proofs.lemmas.Bool.Decides.{nat_tests}
 use Rattle.desk_base.specs.Window.{WindowValue, start_of, end_of, Holds}
 use Rattle.duty_events.specs.declared.event.Event.{Event}
-use Rattle.duty_events.specs.Allowed.{first_minute, last_minute, judge}
+use Rattle.duty_events.specs.Allowed.{first_minute, last_minute, allow}
 use Rattle.duty_events.specs.Lists.{stage_of, latest}
 use Rattle.desk_model.specs.declared.command.Cmd.{Cmd}
 use Rattle.desk_model.specs.declared.command.Cmd.TheVariants as cmd
@@ -55,7 +55,7 @@ told-lies o es m t is within done = go (nat_lt (first_minute t) (start_of o.wind
     whole = (event-years t is).1.1
 
     go : (early ahead : Bool) → nat_lt (first_minute t) (start_of o.window) ≡ early → nat_lt m (last_minute t) ≡ ahead
-        → is_done (cond early reply.OutsideWindow (cond ahead (reply.EventAhead m) (judged_answer (judge (stage_of es) t (latest es))))) ≡ true → Lies o.window t
+        → is_done (cond early reply.OutsideWindow (cond ahead (reply.EventAhead m) (judged_answer (allow (stage_of es) t (latest es))))) ≡ true → Lies o.window t
     go true ahead x y done = absurd (false≢true done)
     go false true x y done = absurd (false≢true done)
     go false false x y done =

@@ -29,7 +29,7 @@ use Rattle.desk_model.proofs.DenialLemmas.{open-answer, unfilled-barred, found-c
 -- ---- a vacancy that is unfilled
 
 next-unfilled : (h : History) (m v n : ℕ) → IsLegal h → IsChosen h m v (reply.Unfilled n) → IsRightlyUnfilled h m v n
-next-unfilled h m v n legal is = record { job = is.job; is_open = is_open; barred = unfilled-barred h m v is.job legal is_open told; places = many }
+next-unfilled h m v n legal is = record { job = is.job; is_open = is_open; barred = unfilled-barred h m v is.job legal is_open told; positions = many }
   where
     is_open : IsOpen h m v is.job
     is_open = record { made = is.made; vacant = is.vacant; in_time = is.in_time }
@@ -81,7 +81,7 @@ right-denial h m v p bar other job person rest known judged apart = elim judged.
         person = person;
         made = known.made;
         in_time = judged.in_time;
-        listed = find-any (λ (l : Link). nat_eq l.person p) (chain h job.chain) judged.link judged.place;
+        listed = find-any (λ (l : Link). nat_eq l.person p) (chain h job.chain) judged.link judged.position;
         enrolled = known.enrolled;
         barred = denied.1.0 ∙ ap Some same;
       }
@@ -133,7 +133,7 @@ right-run_around h m v p q job person legal known vacant judged = elim judged.so
               job = job;
               first = first;
               is_open = record { made = known.made; vacant = vacant; in_time = judged.in_time };
-              listed = find-any (λ (l : Link). nat_eq l.person p) (chain h job.chain) judged.link judged.place;
+              listed = find-any (λ (l : Link). nat_eq l.person p) (chain h job.chain) judged.link judged.position;
               clear = record { person = person; enrolled = known.enrolled; clear = none };
               comes_first = found-clear h m job first legal is;
               is = first_is;

@@ -5,7 +5,7 @@ pub mod ExplainAnswer
 pub mod GiveUpAnswer
 pub mod HoursAnswer
 pub mod ListAnswer
-pub mod LookAnswer
+pub mod QuestionAnswer
 pub mod MarkAnswer
 pub mod NextAnswer
 pub mod OfferAnswer

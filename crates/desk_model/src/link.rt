@@ -1,6 +1,6 @@
 use desk_base::{Code, PersonNo};
 
-/// A place in the chain of a vacancy.
+/// A position in the chain of a vacancy.
 #[derive(Clone, Copy, Debug, PartialEq, Eq)]
 pub struct Link {
     /// The board.

@@ -31,13 +31,13 @@ pub enum Reply {
     },
     /// The vacancy stands so.
     State(VacState),
-    /// The person isn't on the board, or has no place in the vacancy's chain.
+    /// The person isn't on the board, or has no position in the vacancy's chain.
     NotListed,
     /// This bar is the first that keeps the person from the vacancy.
     Denied(Bar),
     /// This person, whom nothing bars, comes before in the vacancy's chain.
     RunAround(PersonNo),
-    /// Nothing bars the person from the vacancy: the first place in its chain that is theirs is this position of this
+    /// Nothing bars the person from the vacancy: the first position in its chain that is theirs is this position of this
     /// board, from 1.
     Clear {
         board: Code,

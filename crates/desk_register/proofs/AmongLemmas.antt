@@ -1,4 +1,4 @@
--- What is made has a place among all that was made.
+-- What is made has an index among all that was made.
 use Rattle.std.proofs.Common.{◌≡◌, ◌+◌, ℕ, suc, Bool, true, false, not, cond, ◌||◌, nat_eq, nat_lt, List, [], ◌∷◌, length, Option, None, Some, is_some, refl, sym, ap, ◌∙◌, arith}
 use Rattle.std.specs.Prelude.{position}
 use Rattle.std.specs.Str.{bytes_eq}
@@ -12,9 +12,9 @@ use Rattle.desk_model.specs.declared.command.Cmd.TheVariants as cmd
 use Rattle.desk_model.specs.statements.Entry.{EntryValue}
 use Rattle.desk_model.specs.histories.History.{History, is_done, said, first_of}
 use Rattle.desk_model.specs.histories.Register.{enrols, enrols_any, sets_up, sets_up_any, person_of, board_of, persons, boards}
-use Rattle.desk_register.specs.Among.{place_among, board_place}
+use Rattle.desk_register.specs.Among.{index_among, board_index}
 
--- a place is there where the test passes anywhere
+-- an index is there where the test passes anywhere
 position-any : {X : Type 0} (test : X → Bool) (xs : List X) → is_some (position test xs) ≡ list_any test xs
 position-any test [] = refl
 position-any test (x ∷ xs) = go (test x) (position-any test xs)
@@ -93,8 +93,8 @@ sets_up-same : (b : List ℕ) (c : Cmd) → is_some (sets_up b c) ≡ list_any (
 sets_up-same b (cmd.Board board extra place) = tested (bytes_eq board b) _ ∙ ap (λ x. x || false) (bytes_eq-turn board b)
 sets_up-same b other = refl
 
-pub person-placed : (h : History) (p : ℕ) → is_some (place_among (persons h) p) ≡ is_some (person_of h p)
-person-placed h p = position-any (nat_eq p) (persons h) ∙ sym (first-any (nat_eq p) (said (enrols p)) (said enrols_any) (said-same (nat_eq p) (enrols p) enrols_any (enrols-same p)) h.entries)
+pub person-indexed : (h : History) (p : ℕ) → is_some (index_among (persons h) p) ≡ is_some (person_of h p)
+person-indexed h p = position-any (nat_eq p) (persons h) ∙ sym (first-any (nat_eq p) (said (enrols p)) (said enrols_any) (said-same (nat_eq p) (enrols p) enrols_any (enrols-same p)) h.entries)
 
-pub board-placed : (h : History) (b : List ℕ) → is_some (board_place (boards h) b) ≡ is_some (board_of h b)
-board-placed h b = position-any (bytes_eq b) (boards h) ∙ sym (first-any (bytes_eq b) (said (sets_up b)) (said sets_up_any) (said-same (bytes_eq b) (sets_up b) sets_up_any (sets_up-same b)) h.entries)
+pub board-indexed : (h : History) (b : List ℕ) → is_some (board_index (boards h) b) ≡ is_some (board_of h b)
+board-indexed h b = position-any (bytes_eq b) (boards h) ∙ sym (first-any (bytes_eq b) (said (sets_up b)) (said sets_up_any) (said-same (bytes_eq b) (sets_up b) sets_up_any (sets_up-same b)) h.entries)

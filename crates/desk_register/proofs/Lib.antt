@@ -1,5 +1,5 @@
 pub mod PersonLemmas
-pub mod PlaceAmongLemmas
+pub mod IndexAmongLemmas
 mod ValueLemmas
 mod AmongLemmas
 mod AgreeLemmas
@@ -7,7 +7,7 @@ pub mod AnswerLemmas
 mod ChangeLemmas
 mod OfferLemmas
 mod RosterLemmas
-mod PlaceLemmas
+mod WordLemmas
 mod SaidLemmas
 mod VacancyLemmas
 mod KeepLemmas

@@ -13,8 +13,8 @@ use Rattle.desk_model.specs.histories.Legal.{IsNext}
 use Rattle.desk_register.specs.Done.{IsDone}
 use Rattle.desk_register.specs.Persons.{ArePersons}
 use Rattle.desk_register.specs.Boards.{AreBoards}
-use Rattle.desk_register.specs.Among.{place_among}
-use Rattle.desk_register.specs.Vacancies.{target, turner, turner_place, had_by, AreVacancies}
+use Rattle.desk_register.specs.Among.{index_among}
+use Rattle.desk_register.specs.Vacancies.{target, turner, turner_index, had_by, AreVacancies}
 use Rattle.desk_register.specs.TurnedDown.{turned_vac, AreTurned}
 use Rattle.desk_register.specs.declared.kept_person.KeptPerson.{KeptPerson}
 use Rattle.desk_register.specs.declared.kept_vacancy.KeptVacancy.{KeptVacancy}
@@ -23,16 +23,16 @@ use Rattle.desk_register.proofs.AnswerLemmas.{turner-known, done-answer}
 use Rattle.desk_register.proofs.PersonLemmas.{same}
 use Rattle.desk_register.proofs.RosterLemmas.{TakenIsAssigned, unknown-is}
 use Rattle.desk_register.proofs.KeepLemmas.{target-made}
-use Rattle.desk_register.proofs.TurnedLemmas.{HasPlace}
+use Rattle.desk_register.proofs.TurnedLemmas.{HasIndex}
 
--- who turns a vacancy down by a command that is done has a place
-pub turner-placed : (h : History) (e : EntryValue) (c : Cmd) (under : ℕ → Option KeptPerson) (numbers : List ℕ) (place : Option ℕ) → IsNext h e → IsDone e c
-    → ArePersons under numbers h → place ≡ turner_place (persons h) c → ((p : ℕ) → turner c ≡ Some p → is_none place ≡ is_none (under p)) → HasPlace (persons h) (turner c)
-turner-placed h e c under numbers place next is are place_is found = go (turner c) refl (turner-known h e.moment c (done-answer h e c next is))
+-- who turns a vacancy down by a command that is done has an index
+pub turner-indexed : (h : History) (e : EntryValue) (c : Cmd) (under : ℕ → Option KeptPerson) (numbers : List ℕ) (index : Option ℕ) → IsNext h e → IsDone e c
+    → ArePersons under numbers h → index ≡ turner_index (persons h) c → ((p : ℕ) → turner c ≡ Some p → is_none index ≡ is_none (under p)) → HasIndex (persons h) (turner c)
+turner-indexed h e c under numbers index next is are index_is found = go (turner c) refl (turner-known h e.moment c (done-answer h e c next is))
   where
-    go : (who : Option ℕ) → turner c ≡ who → OfNumber (λ p. is_none (person_of h p) ≡ false) who → HasPlace (persons h) who
+    go : (who : Option ℕ) → turner c ≡ who → OfNumber (λ p. is_none (person_of h p) ≡ false) who → HasIndex (persons h) who
     go None is known = tt
-    go (Some p) is known = ap is_none (sym (place_is ∙ ap (option_and_then (place_among (persons h))) is)) ∙ found p is ∙ unknown-is (under p) h p (are.each p) ∙ known
+    go (Some p) is known = ap is_none (sym (index_is ∙ ap (option_and_then (index_among (persons h))) is)) ∙ found p is ∙ unknown-is (under p) h p (are.each p) ∙ known
 
 -- the vacancy that is turned down is the one whose state is changed
 turned-target : (h : History) (c : Cmd) (v : ℕ) → turned_vac h c ≡ Some v → is_of v (target c (had_by h c)) ≡ true
@@ -42,16 +42,16 @@ turned-target h c v is = go (turner c) is
     go None is = absurd (false≢true (ap is_some is))
     go (Some p) is = ap (is_of v) is ∙ same v
 
--- and one that is turned down by a command that is done has a place
-pub turned-placed : (h : History) (e : EntryValue) (c : Cmd) (under : ℕ → Option KeptVacancy) (numbers : List ℕ) (place : Option ℕ) → TakenIsAssigned h → IsNext h e → IsDone e c
-    → AreVacancies under numbers h → place ≡ option_and_then (place_among (vacancies h)) (turned_vac h c)
-    → ((v : ℕ) → turned_vac h c ≡ Some v → is_none place ≡ is_none (under v)) → HasPlace (vacancies h) (turned_vac h c)
-turned-placed h e c under numbers place law next is are place_is found = go (turned_vac h c) refl
+-- and one that is turned down by a command that is done has an index
+pub turned-indexed : (h : History) (e : EntryValue) (c : Cmd) (under : ℕ → Option KeptVacancy) (numbers : List ℕ) (index : Option ℕ) → TakenIsAssigned h → IsNext h e → IsDone e c
+    → AreVacancies under numbers h → index ≡ option_and_then (index_among (vacancies h)) (turned_vac h c)
+    → ((v : ℕ) → turned_vac h c ≡ Some v → is_none index ≡ is_none (under v)) → HasIndex (vacancies h) (turned_vac h c)
+turned-indexed h e c under numbers index law next is are index_is found = go (turned_vac h c) refl
   where
-    go : (vac : Option ℕ) → turned_vac h c ≡ vac → HasPlace (vacancies h) vac
+    go : (vac : Option ℕ) → turned_vac h c ≡ vac → HasIndex (vacancies h) vac
     go None is_it = tt
     go (Some v) is_it =
-        ap is_none (sym (place_is ∙ ap (option_and_then (place_among (vacancies h))) is_it)) ∙ found v is_it
+        ap is_none (sym (index_is ∙ ap (option_and_then (index_among (vacancies h))) is_it)) ∙ found v is_it
         ∙ target-made h e.moment c v (under v) law (are.each v) (done-answer h e c next is) (turned-target h c v is_it)
 
 -- where nothing has happened yet nothing is kept

@@ -27,7 +27,7 @@ use Rattle.desk_model.specs.histories.Legal.{answer_to, is_within, moment, IsNex
 use Rattle.desk_register.specs.Changes.{with_offer, put_under}
 use Rattle.desk_register.specs.Persons.{offered_in, IsPerson, ArePersons}
 use Rattle.desk_register.specs.Boards.{AreBoards}
-use Rattle.desk_register.specs.Among.{place_among}
+use Rattle.desk_register.specs.Among.{index_among}
 use Rattle.desk_register.specs.TurnedDown.{turned_for, AreTurned}
 use Rattle.desk_register.specs.Vacancies.{IsVacancy, AreVacancies, offered_vac, offered_person, on_offer_to}
 use Rattle.desk_register.specs.declared.kept_person.KeptPerson.{KeptPerson}
@@ -105,8 +105,8 @@ turned-stays h e at comes refused are =
     let same_vacancies : vacancies (with_entry h e) ≡ vacancies h = comes.vacancies ∙ none-more makes_any e (vacancies h) refused in
     record {
       each = λ p v.
-          ap (λ ns. turned_for at (place_among ns p) (place_among (vacancies (with_entry h e)) v)) same_persons
-          ∙ ap (λ vs. turned_for at (place_among (persons h) p) (place_among vs v)) same_vacancies ∙ are.each p v ∙ or_false (has_turned_down h v p)
+          ap (λ ns. turned_for at (index_among ns p) (index_among (vacancies (with_entry h e)) v)) same_persons
+          ∙ ap (λ vs. turned_for at (index_among (persons h) p) (index_among vs v)) same_vacancies ∙ are.each p v ∙ or_false (has_turned_down h v p)
           ∙ sym (comes.turned_down v p ∙ rw (said-refused (turns_down v p h) e refused) refl);
       behind = λ i j above. are.behind i j (subst (λ ns. length ns ≤ i) same_persons above);
       beyond = λ i j above. are.beyond i j (subst (λ vs. length vs ≤ j) same_vacancies above);

@@ -2,7 +2,7 @@ pub mod Hashed
 pub mod Persons
 pub mod Changes
 pub mod Done
-pub mod Places
+pub mod Words
 pub mod Among
 pub mod Vacancies
 pub mod TurnedDown

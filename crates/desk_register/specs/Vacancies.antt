@@ -1,7 +1,7 @@
 -- What is kept of vacancies, beside what a history says of them.
 use Rattle.std.specs.Prelude.{◌≡◌, ℕ, ◌<◌, Bool, true, false, nat_eq, Option, None, Some, if◌then◌else◌, List, length}
 use Rattle.std.specs.Option.{option_map, option_map_or, option_and_then}
-use Rattle.desk_register.specs.Among.{place_among}
+use Rattle.desk_register.specs.Among.{index_among}
 use Rattle.indexmap.specs.IndexMap.{get, keys}
 use Rattle.desk_model.specs.declared.limits.TheConstants.{VACANCY_LIMIT}
 use Rattle.desk_model.specs.statements.Job.{JobValue}
@@ -103,9 +103,9 @@ giver other = None
 abbrev pub had_by : History → Cmd → Option ℕ
 had_by h c = option_and_then (assigned h) (giver c)
 
--- the place of who turns a vacancy down by a command
-abbrev pub turner_place : List ℕ → Cmd → Option ℕ
-turner_place numbers c = option_and_then (place_among numbers) (turner c)
+-- the index of who turns a vacancy down by a command
+abbrev pub turner_index : List ℕ → Cmd → Option ℕ
+turner_index numbers c = option_and_then (index_among numbers) (turner c)
 
 -- what is kept under a number, and under which something is, in the order in which these came
 abbrev pub vacancy_under : Vacancies → ℕ → Option KeptVacancy

@@ -4,7 +4,7 @@ ghost use Rattle.desk_model.specs.declared.limits.TheConstants.{BOARD_LIMIT};
 ghost use Rattle.std.specs.List.{slice_get, cons_option};
 ghost use Rattle.std.specs.Str.{bytes_eq};
 ghost use Rattle.std.specs.Option.{option_copied, option_map, option_or};
-ghost use Rattle.desk_register.specs.Among.{board_place};
+ghost use Rattle.desk_register.specs.Among.{board_index};
 ghost use Rattle.desk_model.specs.statements.Entry.{EntryValue};
 ghost use Rattle.desk_model.specs.histories.History.{History, with_entry};
 ghost use Rattle.desk_model.specs.histories.Legal.{IsNext};
@@ -13,8 +13,8 @@ ghost use Rattle.desk_register.specs.Done.{IsDone};
 
 use crate::add_last::add_last;
 use crate::copy_of::copy_of;
-use crate::find_in::{HINT_BITS, Placed, find_in};
-use desk_base::{Code, NoMemory, PlaceHints};
+use crate::find_in::{HINT_BITS, Indexed, find_in};
+use desk_base::{Code, NoMemory, IndexHints};
 use desk_model::{BOARD_LIMIT, BoardSetup, Cmd, what_an_entry_makes_of_the_desk};
 use indexmap::IndexMap;
 use std::alloc::Global;
@@ -23,7 +23,7 @@ use std::alloc::Global;
 #[derive(Drop)]
 pub struct Boards {
     pub(crate) kept: IndexMap<Code, BoardSetup>,
-    pub(crate) hints: PlaceHints,
+    pub(crate) hints: IndexHints,
     ghost room: { BOARD_LIMIT ≤ index_map_len kept + spare kept },
     ghost few: { index_map_len kept ≤ BOARD_LIMIT },
 }
@@ -37,7 +37,7 @@ impl Boards {
         ensures keys { IfOk result (λ r. board_codes r ≡ []) }
     {
         let kept = IndexMap::with_capacity(alloc, BOARD_LIMIT)?;
-        let hints = PlaceHints::new(alloc, HINT_BITS)?;
+        let hints = IndexHints::new(alloc, HINT_BITS)?;
         Ok(Boards { kept, hints })
     }
 
@@ -52,11 +52,11 @@ impl Boards {
         })
     }
 
-    // What the board was set up as, with its place among all; `None` where the code is no board.
-    fn find(&self, board: &Code) -> Option<Placed<'_, BoardSetup>>
-        ensures place { option_map (λ x. x.place) result ≡ board_place (board_codes self.now) board.now }
+    // What the board was set up as, with its index among all; `None` where the code is no board.
+    fn find(&self, board: &Code) -> Option<Indexed<'_, BoardSetup>>
+        ensures index { option_map (λ x. x.index) result ≡ board_index (board_codes self.now) board.now }
         ensures setup { option_map (λ x. x.value.now) result ≡ board_under self.now board.now }
-        ensures range { IfSome result (λ x. x.place < BOARD_LIMIT) }
+        ensures range { IfSome result (λ x. x.index < BOARD_LIMIT) }
     {
         find_in(&self.kept, board, self.hints.of(board.hint_number()))
     }
@@ -68,20 +68,20 @@ impl Boards {
         Some(self.find(board)?.value)
     }
 
-    /// The place of the board among all, below 64; `None` where the code is no board.
-    pub fn place(&self, board: &Code) -> Option<usize>
-        ensures place { result ≡ board_place (board_codes self.now) board.now }
+    /// The index of the board among all, below 64; `None` where the code is no board.
+    pub fn index(&self, board: &Code) -> Option<usize>
+        ensures index { result ≡ board_index (board_codes self.now) board.now }
         ensures range { IfSome result (λ i. i < BOARD_LIMIT) }
         ensures found { is_some result ≡ is_some (board_under self.now board.now) }
     {
-        Some(self.find(board)?.place)
+        Some(self.find(board)?.index)
     }
 
-    /// The code of the board at this place among all; `None` where there are fewer.
-    pub fn code(&self, place: usize) -> Option<&Code>
-        ensures { option_copied result ≡ slice_get (board_codes self.now) place }
+    /// The code of the board at this index among all; `None` where there are fewer.
+    pub fn code(&self, index: usize) -> Option<&Code>
+        ensures { option_copied result ≡ slice_get (board_codes self.now) index }
     {
-        match self.kept.get_index(place) {
+        match self.kept.get_index(index) {
             Some((code, _)) => Some(code),
             None => None,
         }

@@ -13,38 +13,38 @@ pub(crate) const HINT_BITS: u32 = 12;
 fn search_in<'a, K: Eq + Hash, V, S: BuildHasher>(
     map: &'a IndexMap<K, V, S>,
     key: &K,
-) -> Option<Placed<'a, V>>
-    ensures place { option_map (λ x. x.place) result ≡ index_of K.eq map.now key.now }
+) -> Option<Indexed<'a, V>>
+    ensures index { option_map (λ x. x.index) result ≡ index_of K.eq map.now key.now }
     ensures value { option_map (λ x. x.value.now) result ≡ get K.eq map.now key.now }
-    ensures within { IfSome result (λ x. x.place < index_map_len map.now) }
+    ensures within { IfSome result (λ x. x.index < index_map_len map.now) }
 {
-    let (place, _, value) = map.get_full(key)?;
-    Some(Placed { place, value })
+    let (index, _, value) = map.get_full(key)?;
+    Some(Indexed { index, value })
 }
 
-/// What is kept under a key, with its place among all; `None` exactly where nothing is. It is looked for at the hint first.
+/// What is kept under a key, with its index among all; `None` exactly where nothing is. It is looked for at the hint first.
 pub(crate) fn find_in<'a, K: Eq + Hash, V, S: BuildHasher>(
     map: &'a IndexMap<K, V, S>,
     key: &K,
     hint: usize,
-) -> Option<Placed<'a, V>>
-    ensures place { option_map (λ x. x.place) result ≡ index_of K.eq map.now key.now }
+) -> Option<Indexed<'a, V>>
+    ensures index { option_map (λ x. x.index) result ≡ index_of K.eq map.now key.now }
     ensures value { option_map (λ x. x.value.now) result ≡ get K.eq map.now key.now }
-    ensures within { IfSome result (λ x. x.place < index_map_len map.now) }
+    ensures within { IfSome result (λ x. x.index < index_map_len map.now) }
 {
     // It is called for its clause, that no key is there twice.
     map.len();
     if let Some((there, value)) = map.get_index(hint) {
         if there == key {
-            return Some(Placed { place: hint, value });
+            return Some(Indexed { index: hint, value });
         }
     }
     search_in(map, key)
 }
 
-/// What is kept in a map, and its place among all, from 0.
+/// What is kept in a map, and its index among all, from 0.
 #[derive(Clone, Copy)]
-pub(crate) struct Placed<'a, V> {
-    pub(crate) place: usize,
+pub(crate) struct Indexed<'a, V> {
+    pub(crate) index: usize,
     pub(crate) value: &'a V,
 }

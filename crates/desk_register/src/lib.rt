@@ -19,6 +19,6 @@ pub use enrolled::Enrolled;
 pub use kept_person::KeptPerson;
 pub use kept_vacancy::KeptVacancy;
 pub use register::Register;
-pub use roster::{Roster, who_is_enrolled_has_a_place};
+pub use roster::{Roster, who_is_enrolled_has_an_index};
 pub use turned_down::TurnedDown;
 pub use vacancies::Vacancies;

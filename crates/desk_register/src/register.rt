@@ -9,9 +9,9 @@ ghost use Rattle.desk_model.specs.offers.TurnedDown.{has_turned_down};
 ghost use Rattle.desk_model.specs.histories.Legal.{IsLegal, IsNext};
 ghost use Rattle.desk_register.specs.Changes.{loser, offeree};
 ghost use Rattle.desk_register.specs.Done.{IsDone};
-ghost use Rattle.desk_register.specs.Among.{place_among};
+ghost use Rattle.desk_register.specs.Among.{index_among};
 ghost use Rattle.desk_register.specs.TurnedDown.{turned_vac};
-ghost use Rattle.desk_register.specs.Vacancies.{vacancy_under, had_by, turner, turner_place, offered_vac, offered_person};
+ghost use Rattle.desk_register.specs.Vacancies.{vacancy_under, had_by, turner, turner_index, offered_vac, offered_person};
 ghost use Rattle.desk_register.specs.Register.{roster_of, boards_kept, vacancies_kept, turned_down_of, Keeps};
 
 use crate::boards::Boards;
@@ -157,23 +157,23 @@ impl Register {
         self.persons.get(giver(cmd)?)?.assigned
     }
 
-    // The place of who turns a vacancy down by the command.
-    fn turner_place(&self, cmd: &Cmd) -> Option<usize>
-        ensures place { (h : History) → Keeps self.now h → result ≡ turner_place (persons h) cmd.now }
+    // The index of who turns a vacancy down by the command.
+    fn turner_index(&self, cmd: &Cmd) -> Option<usize>
+        ensures index { (h : History) → Keeps self.now h → result ≡ turner_index (persons h) cmd.now }
         ensures found { (p : ℕ) → turner cmd.now ≡ Some p → is_none result ≡ is_none (get nat_eq self.now.persons.kept p) }
         ensures range { IfSome result (λ i. i < PERSON_LIMIT) }
     {
-        self.persons.place(turner(cmd)?)
+        self.persons.index(turner(cmd)?)
     }
 
-    // The place of the vacancy that is turned down by the command.
-    fn turned_place(&self, cmd: &Cmd) -> Option<usize>
-        ensures place { (h : History) → Keeps self.now h → result ≡ option_and_then (place_among (vacancies h)) (turned_vac h cmd.now) }
+    // The index of the vacancy that is turned down by the command.
+    fn turned_index(&self, cmd: &Cmd) -> Option<usize>
+        ensures index { (h : History) → Keeps self.now h → result ≡ option_and_then (index_among (vacancies h)) (turned_vac h cmd.now) }
         ensures found { (h : History) (v : ℕ) → Keeps self.now h → turned_vac h cmd.now ≡ Some v → is_none result ≡ is_none (vacancy_under self.now.vacancies v) }
         ensures range { IfSome result (λ j. j < VACANCY_LIMIT) }
     {
         turner(cmd)?;
-        self.vacancies.place(target(cmd, self.had_by(cmd))?)
+        self.vacancies.index(target(cmd, self.had_by(cmd))?)
     }
 
     // Keeps what a command changes that was done.
@@ -185,8 +185,8 @@ impl Register {
         let lost = self.loser(cmd);
         let settled = self.offeree(cmd);
         let had = self.had_by(cmd);
-        let turner = self.turner_place(cmd);
-        let turned = self.turned_place(cmd);
+        let turner = self.turner_index(cmd);
+        let turned = self.turned_index(cmd);
         self.persons.change(cmd, lost, settled);
         self.boards.change(cmd);
         self.vacancies.change(cmd, had);
@@ -211,7 +211,7 @@ impl Register {
     pub fn has_turned_down(&self, vac: VacNo, person: PersonNo) -> bool
         ensures { (h : History) → Keeps self.now h → result ≡ has_turned_down h vac person }
     {
-        match (self.persons.place(person), self.vacancies.place(vac)) {
+        match (self.persons.index(person), self.vacancies.index(vac)) {
             (Some(person), Some(vacancy)) => self.turned_down.has(person, vacancy),
             _ => false,
         }

@@ -2,7 +2,7 @@ ghost use Rattle.std.specs.Prelude.{◌≤◌, ◌+◌, ◌≡◌, ◌<◌, ℕ,
 ghost use Rattle.indexmap.specs.IndexMap.{spare, index_map_len, get, keys};
 ghost use Rattle.desk_model.specs.declared.limits.TheConstants.{PERSON_LIMIT};
 ghost use Rattle.std.specs.Option.{option_copied, option_map};
-ghost use Rattle.desk_register.specs.Among.{place_among, board_place};
+ghost use Rattle.desk_register.specs.Among.{index_among, board_index};
 ghost use Rattle.std.specs.List.{cons_option};
 ghost use Rattle.desk_model.specs.histories.Register.{enrols_any, person_of, board_of, persons, boards};
 ghost use Rattle.desk_model.specs.statements.Entry.{EntryValue};
@@ -16,7 +16,7 @@ use crate::copy_of::copy_of;
 use crate::enrolled::Enrolled;
 use crate::find_in::{HINT_BITS, find_in};
 use crate::kept_person::{KeptPerson, subject};
-use desk_base::{NoMemory, PersonNo, PlaceHints, VacNo};
+use desk_base::{NoMemory, PersonNo, IndexHints, VacNo};
 use desk_model::{
     Cmd, PERSON_LIMIT, a_vacancy_is_in_one_state, one_offer_to_a_person,
     what_an_entry_makes_of_the_desk, what_is_done_rests_on,
@@ -28,16 +28,16 @@ use std::alloc::Global;
 #[derive(Drop)]
 pub struct Roster {
     pub(crate) kept: IndexMap<PersonNo, KeptPerson>,
-    pub(crate) hints: PlaceHints,
+    pub(crate) hints: IndexHints,
     ghost room: { PERSON_LIMIT ≤ index_map_len kept + spare kept },
     ghost few: { index_map_len kept ≤ PERSON_LIMIT },
 }
 
-/// Who is enrolled has a place among all persons, and nobody else has; and a board that was set up among all boards, and no other
+/// Who is enrolled has an index among all persons, and nobody else has; and a board that was set up among all boards, and no other
 /// code. It does nothing: its clauses are the laws.
-pub fn who_is_enrolled_has_a_place()
-    ensures persons { (h : History) (p : ℕ) → is_some (place_among (persons h) p) ≡ is_some (person_of h p) }
-    ensures boards { (h : History) (b : List ℕ) → is_some (board_place (boards h) b) ≡ is_some (board_of h b) }
+pub fn who_is_enrolled_has_an_index()
+    ensures persons { (h : History) (p : ℕ) → is_some (index_among (persons h) p) ≡ is_some (person_of h p) }
+    ensures boards { (h : History) (b : List ℕ) → is_some (board_index (boards h) b) ≡ is_some (board_of h b) }
 {}
 
 impl Roster {
@@ -49,7 +49,7 @@ impl Roster {
         ensures keys { IfOk result (λ r. person_numbers r ≡ []) }
     {
         let kept = IndexMap::with_capacity(alloc, PERSON_LIMIT)?;
-        let hints = PlaceHints::new(alloc, HINT_BITS)?;
+        let hints = IndexHints::new(alloc, HINT_BITS)?;
         Ok(Roster { kept, hints })
     }
 
@@ -71,25 +71,25 @@ impl Roster {
         Some(self.find(person)?.kept)
     }
 
-    /// The place of this person among all, below 1,000; `None` where nobody has the number.
-    pub fn place(&self, person: PersonNo) -> Option<usize>
-        ensures place { result ≡ place_among (person_numbers self.now) person }
+    /// The index of this person among all, below 1,000; `None` where nobody has the number.
+    pub fn index(&self, person: PersonNo) -> Option<usize>
+        ensures index { result ≡ index_among (person_numbers self.now) person }
         ensures range { IfSome result (λ i. i < PERSON_LIMIT) }
         ensures found { is_some result ≡ is_some (person_under self.now person) }
     {
-        Some(self.find(person)?.place)
+        Some(self.find(person)?.index)
     }
 
-    /// The place of this person among all, below 1,000, and what is kept of them; `None` where nobody has the number.
+    /// The index of this person among all, below 1,000, and what is kept of them; `None` where nobody has the number.
     pub fn find(&self, person: PersonNo) -> Option<Enrolled<'_>>
-        ensures place { option_map (λ x. x.place) result ≡ place_among (person_numbers self.now) person }
+        ensures index { option_map (λ x. x.index) result ≡ index_among (person_numbers self.now) person }
         ensures kept { option_map (λ x. x.kept.now) result ≡ person_under self.now person }
-        ensures range { IfSome result (λ x. x.place < PERSON_LIMIT) }
+        ensures range { IfSome result (λ x. x.index < PERSON_LIMIT) }
     {
         let hint = self.hints.of(person.number());
         let found = find_in(&self.kept, &person, hint)?;
         Some(Enrolled {
-            place: found.place,
+            index: found.index,
             kept: found.value,
         })
     }
@@ -101,13 +101,13 @@ impl Roster {
         self.kept.len()
     }
 
-    /// Puts what is kept of this person at the place that they have among all.
-    fn put(&mut self, person: PersonNo, place: usize, kept: KeptPerson)
-        requires { place_among (person_numbers self.old) person ≡ Some place }
+    /// Puts what is kept of this person at the index that they have among all.
+    fn put(&mut self, person: PersonNo, index: usize, kept: KeptPerson)
+        requires { index_among (person_numbers self.old) person ≡ Some index }
         ensures under { (q : ℕ) → person_under self.new q ≡ (if nat_eq person q then Some kept else person_under self.old q) }
         ensures keys { person_numbers self.new ≡ person_numbers self.old }
     {
-        if let Some(here) = self.kept.get_index_mut(place) {
+        if let Some(here) = self.kept.get_index_mut(index) {
             *here = kept;
         }
     }
@@ -152,10 +152,10 @@ impl Roster {
             return;
         };
         if let Some(found) = self.find(person) {
-            let place = found.place;
+            let index = found.index;
             let mut kept = *found.kept;
             kept.change(cmd);
-            self.put(person, place, kept);
+            self.put(person, index, kept);
         }
     }
 
@@ -168,10 +168,10 @@ impl Roster {
             return;
         };
         if let Some(found) = self.find(person) {
-            let place = found.place;
+            let index = found.index;
             let mut kept = *found.kept;
             kept.assigned = None;
-            self.put(person, place, kept);
+            self.put(person, index, kept);
         }
     }
 
@@ -184,10 +184,10 @@ impl Roster {
             return;
         };
         if let Some(found) = self.find(person) {
-            let place = found.place;
+            let index = found.index;
             let mut kept = *found.kept;
             kept.on_offer = on_offer;
-            self.put(person, place, kept);
+            self.put(person, index, kept);
         }
     }
 

@@ -9,7 +9,7 @@ use std::alloc::Global;
 // How many words there are: for each 64 of 1,000 persons, 16 times, one of each of 20,000 vacancies.
 const WORDS: usize = 320_000;
 
-/// Who has turned which vacancy down, by the places of both among all: for each 64 persons a word of each vacancy, up to the last word
+/// Who has turned which vacancy down, by the indexes of both among all: for each 64 persons a word of each vacancy, up to the last word
 /// with a bit that is set. So the words of vacancies that were made one after the other lie side by side. There is memory for all.
 #[derive(Drop)]
 pub struct TurnedDown {
@@ -21,7 +21,7 @@ pub struct TurnedDown {
 impl TurnedDown {
     ghost use Rattle.desk_register.specs.TurnedDown.{bit_of, turned_at, TurnsDown};
 
-    // The bit of the person at one place and the vacancy at another.
+    // The bit of the person at one index and the vacancy at another.
     fn bit_of(person: usize, vacancy: usize) -> usize
         requires person { person < PERSON_LIMIT }
         requires vacancy { vacancy < VACANCY_LIMIT }
@@ -48,7 +48,7 @@ impl TurnedDown {
         Ok(TurnedDown { words })
     }
 
-    /// Whether the person at one place, below 1,000, has turned down the vacancy at another.
+    /// Whether the person at one index, below 1,000, has turned down the vacancy at another.
     pub fn has(&self, person: usize, vacancy: usize) -> bool
         requires { person < PERSON_LIMIT }
         ensures { result ≡ turned_at self.now person vacancy }
@@ -63,18 +63,18 @@ impl TurnedDown {
         }
     }
 
-    // Keeps the words up to a place, of which those that were not kept have no bit.
-    fn reach(&mut self, place: usize)
-        requires { place < WORDS }
-        ensures reached { place < length self.new.words.items }
+    // Keeps the words up to an index, of which those that were not kept have no bit.
+    fn reach(&mut self, index: usize)
+        requires { index < WORDS }
+        ensures reached { index < length self.new.words.items }
         ensures same { (i : ℕ) → slice_index_or self.new.words.items i 0 ≡ slice_index_or self.old.words.items i 0 }
     {
-        if self.words.len() <= place {
-            let _reached = self.words.resize(place + 1, 0);
+        if self.words.len() <= index {
+            let _reached = self.words.resize(index + 1, 0);
         }
     }
 
-    // Keeps that the person at one place has turned down the vacancy at another.
+    // Keeps that the person at one index has turned down the vacancy at another.
     fn add(&mut self, person: usize, vacancy: usize)
         requires person { person < PERSON_LIMIT }
         requires vacancy { vacancy < VACANCY_LIMIT }
@@ -86,7 +86,7 @@ impl TurnedDown {
         self.words[bit / 64] = word | 1 << (bit % 64);
     }
 
-    /// Keeps that the person at one place has turned down the vacancy at another, where there are both.
+    /// Keeps that the person at one index has turned down the vacancy at another, where there are both.
     pub(crate) fn keep(&mut self, person: Option<usize>, vacancy: Option<usize>)
         requires person { IfSome person (λ i. i < PERSON_LIMIT) }
         requires vacancy { IfSome vacancy (λ j. j < VACANCY_LIMIT) }

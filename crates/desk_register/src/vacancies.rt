@@ -2,7 +2,7 @@ ghost use Rattle.std.specs.Prelude.{◌≤◌, ◌+◌, ◌≡◌, ◌<◌, ◌+
 ghost use Rattle.indexmap.specs.IndexMap.{spare, index_map_len, get, keys};
 ghost use Rattle.desk_model.specs.declared.limits.TheConstants.{VACANCY_LIMIT};
 ghost use Rattle.std.specs.Option.{option_copied, option_map};
-ghost use Rattle.desk_register.specs.Among.{place_among};
+ghost use Rattle.desk_register.specs.Among.{index_among};
 ghost use Rattle.std.specs.List.{cons_option};
 ghost use Rattle.desk_model.specs.histories.Register.{makes_any};
 ghost use Rattle.desk_model.specs.statements.Entry.{EntryValue};
@@ -12,10 +12,10 @@ ghost use Rattle.desk_register.specs.Done.{IsDone};
 
 use crate::add_last::add_last;
 use crate::copy_of::copy_of;
-use crate::find_in::{HINT_BITS, Placed, find_in};
+use crate::find_in::{HINT_BITS, Indexed, find_in};
 use crate::kept_vacancy::{KeptVacancy, target};
 use crate::row_hasher::RowHasher;
-use desk_base::{NoMemory, PersonNo, PlaceHints, VacNo};
+use desk_base::{NoMemory, PersonNo, IndexHints, VacNo};
 use desk_model::{
     Cmd, Job, VACANCY_LIMIT, VacState, a_vacancy_is_in_one_state, what_an_entry_makes_of_the_desk,
 };
@@ -27,7 +27,7 @@ use std::hash::BuildHasherDefault;
 #[derive(Drop)]
 pub struct Vacancies {
     pub(crate) kept: IndexMap<VacNo, KeptVacancy, BuildHasherDefault<RowHasher>>,
-    pub(crate) hints: PlaceHints,
+    pub(crate) hints: IndexHints,
     ghost room: { VACANCY_LIMIT ≤ index_map_len kept + spare kept },
     ghost few: { index_map_len kept ≤ VACANCY_LIMIT },
 }
@@ -45,7 +45,7 @@ impl Vacancies {
             VACANCY_LIMIT,
             BuildHasherDefault::new(),
         )?;
-        let hints = PlaceHints::new(alloc, HINT_BITS)?;
+        let hints = IndexHints::new(alloc, HINT_BITS)?;
         Ok(Vacancies { kept, hints })
     }
 
@@ -60,11 +60,11 @@ impl Vacancies {
         })
     }
 
-    // What is kept of this vacancy, with its place among all; `None` where it was never made.
-    pub(crate) fn find(&self, vac: VacNo) -> Option<Placed<'_, KeptVacancy>>
-        ensures place { option_map (λ x. x.place) result ≡ place_among (vacancy_numbers self.now) vac }
+    // What is kept of this vacancy, with its index among all; `None` where it was never made.
+    pub(crate) fn find(&self, vac: VacNo) -> Option<Indexed<'_, KeptVacancy>>
+        ensures index { option_map (λ x. x.index) result ≡ index_among (vacancy_numbers self.now) vac }
         ensures kept { option_map (λ x. x.value.now) result ≡ vacancy_under self.now vac }
-        ensures range { IfSome result (λ x. x.place < VACANCY_LIMIT) }
+        ensures range { IfSome result (λ x. x.index < VACANCY_LIMIT) }
     {
         find_in(&self.kept, &vac, self.hints.of(vac.number()))
     }
@@ -76,13 +76,13 @@ impl Vacancies {
         Some(self.find(vac)?.value)
     }
 
-    /// The place of this vacancy among all, below 20,000; `None` where it was never made.
-    pub fn place(&self, vac: VacNo) -> Option<usize>
-        ensures place { result ≡ place_among (vacancy_numbers self.now) vac }
+    /// The index of this vacancy among all, below 20,000; `None` where it was never made.
+    pub fn index(&self, vac: VacNo) -> Option<usize>
+        ensures index { result ≡ index_among (vacancy_numbers self.now) vac }
         ensures range { IfSome result (λ i. i < VACANCY_LIMIT) }
         ensures found { is_some result ≡ is_some (vacancy_under self.now vac) }
     {
-        Some(self.find(vac)?.place)
+        Some(self.find(vac)?.index)
     }
 
     /// How many were made.
@@ -129,7 +129,7 @@ impl Vacancies {
         let Some(found) = self.find(vac) else {
             return;
         };
-        let at = found.place;
+        let at = found.index;
         if let Some(kept) = self.kept.get_index_mut(at) {
             kept.change(cmd);
         }
@@ -156,7 +156,7 @@ impl Vacancies {
         let Some(found) = self.find(vac) else {
             return;
         };
-        let at = found.place;
+        let at = found.index;
         if let Some(kept) = self.kept.get_index_mut(at) {
             kept.state = VacState::OnOffer(person);
         }

@@ -8,7 +8,7 @@ use Rattle.std.proofs.lemmas.Nat.{and_le_l}
 use Rattle.std.proofs.lemmas.Bool.{false≢true}
 use Rattle.std.specs.Int.{bit_at, bit_not, trailing_zeros}
 use Rattle.desk_model.specs.declared.limits.TheConstants.{BOARD_LIMIT}
-use Rattle.desk_state.specs.Places.{has_board, is_in, set_at}
+use Rattle.desk_state.specs.Words.{has_board, is_in, set_at}
 
 pub no-board : (j : ℕ) → has_board 0 j ≡ false
 no-board j = go (nat_lt j BOARD_LIMIT)
@@ -43,7 +43,7 @@ clear-lesser word k within has =
     let gone : has_board later k ≡ false = clear-board word k k within ∙ ap (λ t. if t then false else has_board word k) here in
     omega (arith, and_le_l word (bit_not w64 (1 * 2 ^ k % 18446744073709551616)), λ (e : later ≡ word). false≢true (sym gone ∙ ap (λ w. has_board w k) e ∙ has))
 
--- the place of the lowest 1 is that of a board
+-- the index of the lowest 1 is that of a board
 pub first-board : (word : ℕ) → 0 < word → word < 2 ^ 64 → (trailing_zeros w64 word < 64) × (has_board word (trailing_zeros w64 word) ≡ true)
 first-board word some fits =
     let lowest = bit_at-trailing_zeros w64 word some fits in

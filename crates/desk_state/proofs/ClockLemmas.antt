@@ -23,12 +23,12 @@ use Rattle.desk_model.specs.histories.Register.{enrols, enrols_any, person_of, p
 use Rattle.desk_model.specs.histories.Duty.{tells, told, may_come, events}
 use Rattle.desk_model.specs.laws.Comes.{Comes, kept}
 use Rattle.desk_model.specs.laws.RestsOn.{RestsOn}
-use Rattle.desk_register.specs.Among.{place_among}
+use Rattle.desk_register.specs.Among.{index_among}
 use Rattle.desk_register.proofs.PersonLemmas.{same, same_number, option_or-none}
-use Rattle.desk_register.proofs.PlaceAmongLemmas.{place-is, places-apart, place-grown}
+use Rattle.desk_register.proofs.IndexAmongLemmas.{index-is, indexes-apart, index-grown}
 use Rattle.desk_state.specs.DutyTold.{teller, home_of, told_event}
 use Rattle.desk_state.specs.Clocks.{IsClock, AreClocks, HasTaken, Tells, Enrols}
-use Rattle.desk_state.proofs.DutyPlaceLemmas.{teller-placed}
+use Rattle.desk_state.proofs.DutyIndexLemmas.{teller-indexed}
 use Rattle.desk_state.proofs.HeardLemmas.{EnrolsOne, TellsOne, TellsNothing, heard}
 
 -- ---- lists of clocks
@@ -74,11 +74,11 @@ no-more h e comes none = comes.persons ∙ ap (λ o. persons h ++ cons_option o 
 
 idle-keeps : (h : History) (e : EntryValue) (clocks : List ClockValue) → Comes h e → TellsNothing e → AreClocks clocks h → AreClocks clocks (with_entry h e)
 idle-keeps h e clocks comes says are =
-    let places : (q : ℕ) → place_among (persons (with_entry h e)) q ≡ place_among (persons h) q = λ q. ap (λ ns. place_among ns q) (no-more h e comes says.any) in
+    let indexes : (q : ℕ) → index_among (persons (with_entry h e)) q ≡ index_among (persons h) q = λ q. ap (λ ns. index_among ns q) (no-more h e comes says.any) in
     record {
-      each = λ q i at. let was = are.each q i (sym (places q) ∙ at) in
+      each = λ q i at. let was = are.each q i (sym (indexes q) ∙ at) in
           (was.0, (was.1.0, clock-stays h e q was.0 comes (silent-events h e q comes (says.tells_none q)) (silent-home h e q comes (says.who q)) was.1.1));
-      none = λ q at. silent-events h e q comes (says.tells_none q) ∙ are.none q (sym (places q) ∙ at);
+      none = λ q at. silent-events h e q comes (says.tells_none q) ∙ are.none q (sym (indexes q) ∙ at);
       many = are.many ∙ ap length (sym (no-more h e comes says.any));
     }
 
@@ -102,26 +102,26 @@ told-clock h e p t c later comes told nobody may is taken = record {
 told-keeps : (h : History) (e : EntryValue) (i : ℕ) (clocks later : List ClockValue) → Comes h e → (says : TellsOne e)
     → ((s : Stage) (last : Option ℕ) (x : Event) → Decides (may_follow s last x) (Follows s last x))
     → may_come (events h says.person) says.event ≡ true → Holds h.opening.window (first_minute says.event) → Holds h.opening.window (last_minute says.event)
-    → place_among (persons h) says.person ≡ Some i → Tells i says.event clocks later → AreClocks clocks h → AreClocks later (with_entry h e)
+    → index_among (persons h) says.person ≡ Some i → Tells i says.event clocks later → AreClocks clocks h → AreClocks later (with_entry h e)
 told-keeps h e i clocks later comes says decides may first end at_i tells_it are =
     let p = says.person in
     let was = are.each p i at_i in
     let done = tells_it was.0 was.1.0 (may-take h e p says.event was.0 decides may first end was.1.1) in
     let same_persons = no-more h e comes says.any in
     record {
-      each = λ q j at. each q j (ap (λ ns. place_among ns q) (sym same_persons) ∙ at) was done (nat_eq i j) refl;
-      none = λ q at. none q (ap (λ ns. place_among ns q) (sym same_persons) ∙ at) (nat_eq p q) refl;
+      each = λ q j at. each q j (ap (λ ns. index_among ns q) (sym same_persons) ∙ at) was done (nat_eq i j) refl;
+      none = λ q at. none q (ap (λ ns. index_among ns q) (sym same_persons) ∙ at) (nat_eq p q) refl;
       many = ap length done.1.0 ∙ length-set clocks i done.0 ∙ are.many ∙ ap length (sym same_persons);
     }
   where
     told_p : said (tells says.person) e ≡ Some says.event
     told_p = says.tells_is says.person ∙ rw (same says.person) refl
 
-    each : (q j : ℕ) → place_among (persons h) q ≡ Some j → (was : (c : ClockValue) × ((slice_get clocks i ≡ Some c) × IsClock c h says.person))
+    each : (q j : ℕ) → index_among (persons h) q ≡ Some j → (was : (c : ClockValue) × ((slice_get clocks i ≡ Some c) × IsClock c h says.person))
         → (done : (x : ClockValue) × ((later ≡ slice_set clocks i x) × HasTaken was.0 x says.event)) → (here : Bool) → nat_eq i j ≡ here
         → (c : ClockValue) × ((slice_get later j ≡ Some c) × IsClock c (with_entry h e) q)
     each q j at was done true here =
-        let whose : says.person ≡ q = place-is (persons h) says.person i at_i ∙ ap (λ k. get_or (persons h) k 0) (same_number i j here) ∙ sym (place-is (persons h) q j at) in
+        let whose : says.person ≡ q = index-is (persons h) says.person i at_i ∙ ap (λ k. get_or (persons h) k 0) (same_number i j here) ∙ sym (index-is (persons h) q j at) in
         let stored : slice_get later j ≡ Some done.0 = ap (λ cs. slice_get cs j) done.1.0 ∙ subst (λ k. slice_get (slice_set clocks i done.0) k ≡ Some done.0) (same_number i j here)
         (get-set_same clocks i done.0 (slice_get_within clocks i was.0 was.1.0)) in
         (done.0, (stored, subst (IsClock done.0 (with_entry h e)) whose (told-clock h e says.person says.event was.0 done.0 comes told_p (says.who says.person) may was.1.1 done.1.1)))
@@ -129,11 +129,11 @@ told-keeps h e i clocks later comes says decides may first end at_i tells_it are
         let other = are.each q j at in
         let apart : j ≢ i = grind (arith, nat_tests, here) in
         let stored : slice_get later j ≡ Some other.0 = ap (λ cs. slice_get cs j) done.1.0 ∙ get-set_other clocks i j done.0 other.0 apart other.1.0 in
-        let not_them : nat_eq says.person q ≡ false = sym (places-apart (persons h) says.person q i j at_i at) ∙ here in
+        let not_them : nat_eq says.person q ≡ false = sym (indexes-apart (persons h) says.person q i j at_i at) ∙ here in
         (other.0, (stored, clock-stays h e q other.0 comes (silent-events h e q comes (says.tells_is q ∙ rw not_them refl)) (silent-home h e q comes (says.who q)) other.1.1))
 
-    none : (q : ℕ) → place_among (persons h) q ≡ None → (them : Bool) → nat_eq says.person q ≡ them → events (with_entry h e) q ≡ []
-    none q at true them = absurd (false≢true (ap is_some (sym at ∙ ap (place_among (persons h)) (sym (same_number says.person q them)) ∙ at_i)))
+    none : (q : ℕ) → index_among (persons h) q ≡ None → (them : Bool) → nat_eq says.person q ≡ them → events (with_entry h e) q ≡ []
+    none q at true them = absurd (false≢true (ap is_some (sym at ∙ ap (index_among (persons h)) (sym (same_number says.person q them)) ∙ at_i)))
     none q at false them = silent-events h e q comes (says.tells_is q ∙ rw them refl) ∙ are.none q at
 
 enrolled-keeps : (h : History) (e : EntryValue) (clocks later : List ClockValue) → Comes h e → (says : EnrolsOne e) → person_of h says.person ≡ None
@@ -141,11 +141,11 @@ enrolled-keeps : (h : History) (e : EntryValue) (clocks later : List ClockValue)
 enrolled-keeps h e clocks later comes says unknown enrols_it are =
     let p = says.person in
     let grows : persons (with_entry h e) ≡ persons h ++ p ∷ [] = comes.persons ∙ ap (λ o. persons h ++ cons_option o []) says.any in
-    let places : (q : ℕ) → place_among (persons (with_entry h e)) q ≡ option_or (place_among (persons h) q) (cond (nat_eq q p) (Some (length (persons h))) None)
-    = λ q. ap (λ ns. place_among ns q) grows ∙ place-grown (persons h) p q in
+    let indexes : (q : ℕ) → index_among (persons (with_entry h e)) q ≡ option_or (index_among (persons h) q) (cond (nat_eq q p) (Some (length (persons h))) None)
+    = λ q. ap (λ ns. index_among ns q) grows ∙ index-grown (persons h) p q in
     record {
-      each = λ q j at. each q j (place_among (persons h) q) refl (sym (places q) ∙ at);
-      none = λ q at. none q (place_among (persons h) q) refl (sym (places q) ∙ at);
+      each = λ q j at. each q j (index_among (persons h) q) refl (sym (indexes q) ∙ at);
+      none = λ q at. none q (index_among (persons h) q) refl (sym (indexes q) ∙ at);
       many = ap length enrols_it.1.0 ∙ length-append clocks (enrols_it.0 ∷ []) ∙ ap (λ n. n + 1) are.many ∙ sym (ap length grows ∙ length-append (persons h) (p ∷ []));
     }
   where
@@ -165,7 +165,7 @@ enrolled-keeps h e clocks later comes says unknown enrols_it are =
     keeps-home None more home is = absurd (false≢true (ap is_some is))
     keeps-home (Some x) more home is = is
 
-    each : (q j : ℕ) (was : Option ℕ) → place_among (persons h) q ≡ was → option_or was (cond (nat_eq q says.person) (Some (length (persons h))) None) ≡ Some j
+    each : (q j : ℕ) (was : Option ℕ) → index_among (persons h) q ≡ was → option_or was (cond (nat_eq q says.person) (Some (length (persons h))) None) ≡ Some j
         → (c : ClockValue) × ((slice_get later j ≡ Some c) × IsClock c (with_entry h e) q)
     each q j (Some k) had at =
         let other = are.each q j (had ∙ at) in (
@@ -185,10 +185,10 @@ enrolled-keeps h e clocks later comes says unknown enrols_it are =
         go false them at = absurd (false≢true (ap is_some at))
         go true them at =
             let who : q ≡ says.person = same_number q says.person them in
-            let place : length clocks ≡ j = are.many ∙ ap (λ o. unwrap_or o 0) at in (
+            let index : length clocks ≡ j = are.many ∙ ap (λ o. unwrap_or o 0) at in (
               enrols_it.0,
               (
-                ap (λ cs. slice_get cs j) enrols_it.1.0 ∙ subst (λ k. slice_get (clocks ++ enrols_it.0 ∷ []) k ≡ Some enrols_it.0) place (get-last clocks enrols_it.0),
+                ap (λ cs. slice_get cs j) enrols_it.1.0 ∙ subst (λ k. slice_get (clocks ++ enrols_it.0 ∷ []) k ≡ Some enrols_it.0) index (get-last clocks enrols_it.0),
                 record {
                   stands = subst (Stands enrols_it.0) (sym (quiet q ∙ are.none q had)) enrols_it.1.1.stands;
                   window = enrols_it.1.1.window_is;
@@ -197,7 +197,7 @@ enrolled-keeps h e clocks later comes says unknown enrols_it are =
               ),
             )
 
-    none : (q : ℕ) (was : Option ℕ) → place_among (persons h) q ≡ was → option_or was (cond (nat_eq q says.person) (Some (length (persons h))) None) ≡ None → events (with_entry h e) q ≡ []
+    none : (q : ℕ) (was : Option ℕ) → index_among (persons h) q ≡ was → option_or was (cond (nat_eq q says.person) (Some (length (persons h))) None) ≡ None → events (with_entry h e) q ≡ []
     none q (Some k) had at = absurd (false≢true (sym (ap is_some at)))
     none q None had at = quiet q ∙ are.none q had
 
@@ -241,23 +241,23 @@ event-is a b is = cc
 pub event-keeps : (h : History) (e : EntryValue) (i : ℕ) (t : Event) (clocks later : List ClockValue) → Comes h e
     → ((s : Stage) (last : Option ℕ) (x : Event) → Decides (may_follow s last x) (Follows s last x))
     → ((p : ℕ) (x : Event) → said (tells p) e ≡ Some x → may_come (events h p) x ≡ true) → ((p : ℕ) (x : Event) → said (tells p) e ≡ Some x → Holds h.opening.window (first_minute x))
-    → ((p : ℕ) (x : Event) → said (tells p) e ≡ Some x → Holds h.opening.window (last_minute x)) → said told_event e ≡ Some t → ((p : ℕ) → said teller e ≡ Some p → Some i ≡ place_among (persons h) p)
+    → ((p : ℕ) (x : Event) → said (tells p) e ≡ Some x → Holds h.opening.window (last_minute x)) → said told_event e ≡ Some t → ((p : ℕ) → said teller e ≡ Some p → Some i ≡ index_among (persons h) p)
     → Tells i t clocks later → AreClocks clocks h → AreClocks later (with_entry h e)
-event-keeps h e i t clocks later comes decides may first end event_is place_is tells_it are = elim (heard e) [
+event-keeps h e i t clocks later comes decides may first end event_is index_is tells_it are = elim (heard e) [
   | inl says ↦ absurd (other-event e t says.event event_is)
   | inr (inl says) ↦
       let told : said (tells says.person) e ≡ Some says.event = says.tells_is says.person ∙ rw (same says.person) refl in
       told-keeps h e i clocks later comes says decides (may says.person says.event told) (first says.person says.event told) (end says.person says.event told)
-      (sym (place_is says.person says.teller_is))
+      (sym (index_is says.person says.teller_is))
       (subst (λ x. Tells i x clocks later) (event-is t says.event (sym event_is ∙ says.event_is)) tells_it) are
   | inr (inr says) ↦ absurd (other-event e t says.event event_is)
 ]
 
--- who is told of has a place
-pub placed : (h : History) (e : EntryValue) (t : Event) → (is_done e.reply ≡ true → RestsOn h e.stated.cmd)
-    → ((q : ℕ) → is_some (place_among (persons h) q) ≡ is_some (person_of h q)) → said told_event e ≡ Some t → ((p : ℕ) → said teller e ≡ Some p → None ≡ place_among (persons h) p) → ⊥
-placed h e t rests places event_is place_is = elim (heard e) [
+-- who is told of has an index
+pub indexed : (h : History) (e : EntryValue) (t : Event) → (is_done e.reply ≡ true → RestsOn h e.stated.cmd)
+    → ((q : ℕ) → is_some (index_among (persons h) q) ≡ is_some (person_of h q)) → said told_event e ≡ Some t → ((p : ℕ) → said teller e ≡ Some p → None ≡ index_among (persons h) p) → ⊥
+indexed h e t rests indexes event_is index_is = elim (heard e) [
   | inl says ↦ other-event e t says.event event_is
-  | inr (inl says) ↦ false≢true (sym (teller-placed h e says.person rests places says.teller_is) ∙ sym (ap is_none (place_is says.person says.teller_is)))
+  | inr (inl says) ↦ false≢true (sym (teller-indexed h e says.person rests indexes says.teller_is) ∙ sym (ap is_none (index_is says.person says.teller_is)))
   | inr (inr says) ↦ other-event e t says.event event_is
 ]

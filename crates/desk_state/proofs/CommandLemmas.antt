@@ -25,19 +25,19 @@ use Rattle.desk_model.specs.boards.Boards.{is_on, order}
 use Rattle.desk_model.specs.histories.Duty.{tells}
 use Rattle.desk_model.specs.laws.Comes.{sent_last}
 use Rattle.desk_model.specs.laws.RestsOn.{RestsOn}
-use Rattle.desk_register.specs.Among.{place_among, board_place}
+use Rattle.desk_register.specs.Among.{index_among, board_index}
 use Rattle.desk_register.specs.Done.{IsDone}
 use Rattle.desk_register.proofs.PersonLemmas.{same, same_number}
-use Rattle.desk_state.specs.declared.named.Named.{Named}
-use Rattle.desk_state.specs.Places.{has_board, word_of, is_in}
+use Rattle.desk_state.specs.declared.named_indexes.NamedIndexes.{NamedIndexes}
+use Rattle.desk_state.specs.Words.{has_board, word_of, is_in}
 use Rattle.desk_state.specs.Changes.{is_final_at, SetsUp, TakesOn, LetsGo, Moves, IsThen, BecomesBy}
 use Rattle.desk_state.specs.Laws.{Laws}
 use Rattle.desk_state.specs.Lists.{ready_minute, setup_of, KeepsLists, Names, mover, mover_board}
 use Rattle.desk_state.proofs.LawLemmas.{said-done, ordered_by, ordered, ready-same}
-use Rattle.desk_state.proofs.PlacedLemmas.{board-at, boards-apart}
+use Rattle.desk_state.proofs.IndexedLemmas.{board-at, boards-apart}
 use Rattle.desk_state.proofs.BoardLemmas.{AllReady, ready-empty, ready-stays, ready-taken, ready-gone, ready-moved}
 
--- the board at a place before an entry, and after it
+-- the board at an index before an entry, and after it
 pub record Before (h : History) (j : ℕ) (v : BoardValue) : Type 0 where
   pub order_is : (b : List ℕ) → slice_get (boards h) j ≡ Some b → members_in v.members ≡ order h b
   pub empty : length (boards h) ≤ j → v.members ≡ []
@@ -50,30 +50,30 @@ pub record After (h : History) (e : EntryValue) (c : Cmd) (j : ℕ) (v x : Board
   pub ready : AllReady (ready_minute (with_entry h e)) x.members
   pub setup : (b : List ℕ) → slice_get (boards h) j ≡ Some b → setup_of x ≡ setup_of v
 
--- ---- the places that are named
+-- ---- the indexes that are named
 
--- there is a board at the place, or it lies behind them
+-- there is a board at the index, or it lies behind them
 board-or-past : (codes : List (List ℕ)) (j : ℕ) → ((b : List ℕ) × (slice_get codes j ≡ Some b)) ⊎ (length codes ≤ j)
 board-or-past codes j = elim (cases_lt j (length codes)) [
   | inl within ↦ inl (get_or codes j [], slice_get-get_or codes j [] within)
   | inr past ↦ inr past
 ]
 
-some-place : (named known : Option ℕ) → named ≡ known → is_some known ≡ true → (i : ℕ) × ((named ≡ Some i) × (known ≡ Some i))
-some-place named None is some = absurd (false≢true some)
-some-place named (Some i) is some = (i, (is, refl))
+some-index : (named known : Option ℕ) → named ≡ known → is_some known ≡ true → (i : ℕ) × ((named ≡ Some i) × (known ≡ Some i))
+some-index named None is some = absurd (false≢true some)
+some-index named (Some i) is some = (i, (is, refl))
 
 pub rests-done : (h : History) (e : EntryValue) (c : Cmd) → Laws h e → IsDone e c → RestsOn h c
 rests-done h e c laws is = subst (RestsOn h) is.of (laws.rests is.done)
 
-pub person-place : (h : History) (e : EntryValue) (c : Cmd) (n : Named) (p : ℕ) → Laws h e → IsDone e c → Names h e n → mover c ≡ Some p
-    → (is_some (place_among (persons h) p) ≡ true) → (i : ℕ) × ((n.person ≡ Some i) × (place_among (persons h) p ≡ Some i))
-person-place h e c n p laws is names mine enrolled = some-place n.person (place_among (persons h) p) (names.person p (said-done mover e c is ∙ mine)) enrolled
+pub person-index : (h : History) (e : EntryValue) (c : Cmd) (n : NamedIndexes) (p : ℕ) → Laws h e → IsDone e c → Names h e n → mover c ≡ Some p
+    → (is_some (index_among (persons h) p) ≡ true) → (i : ℕ) × ((n.person ≡ Some i) × (index_among (persons h) p ≡ Some i))
+person-index h e c n p laws is names mine enrolled = some-index n.person (index_among (persons h) p) (names.person p (said-done mover e c is ∙ mine)) enrolled
 
-pub named-place : (h : History) (e : EntryValue) (c : Cmd) (n : Named) (b : List ℕ) → Laws h e → IsDone e c → Names h e n → mover_board h c ≡ Some b
+pub named-index : (h : History) (e : EntryValue) (c : Cmd) (n : NamedIndexes) (b : List ℕ) → Laws h e → IsDone e c → Names h e n → mover_board h c ≡ Some b
     → is_some (board_of h b) ≡ true → (j : ℕ) × ((n.board ≡ Some j) × (slice_get (boards h) j ≡ Some b))
-named-place h e c n b laws is names mine set_up =
-    let found = some-place n.board (board_place (boards h) b) (names.board b (said-done (mover_board h) e c is ∙ mine)) (laws.boards_placed b ∙ set_up) in
+named-index h e c n b laws is names mine set_up =
+    let found = some-index n.board (board_index (boards h) b) (names.board b (said-done (mover_board h) e c is ∙ mine)) (laws.boards_indexed b ∙ set_up) in
     (found.0, (found.1.0, board-at (boards h) b found.0 found.1.1))
 
 -- who is on a board is listed there
@@ -101,7 +101,7 @@ untold h e c laws is none p = ready-same h e p laws.comes (said-done (tells p) e
 
 -- ---- a board is set up
 
-set_up-row : (h : History) (e : EntryValue) (b place : List ℕ) (extra : Bool) (n : Named) (j : ℕ) (v x : BoardValue) → Laws h e → IsDone e (cmd.Board b extra place) → Names h e n
+set_up-row : (h : History) (e : EntryValue) (b place : List ℕ) (extra : Bool) (n : NamedIndexes) (j : ℕ) (v x : BoardValue) → Laws h e → IsDone e (cmd.Board b extra place) → Names h e n
     → Before h j v → IsThen (is_of j n.board) (SetsUp extra place) v x → After h e (cmd.Board b extra place) j v x
 set_up-row h e b place extra n j v x laws is names before becomes =
     let last : n.board ≡ Some (length (boards h)) = names.set_up b (said-done sets_up_any e (cmd.Board b extra place) is) in
@@ -123,11 +123,11 @@ set_up-row h e b place extra n j v x laws is names before becomes =
 
 -- ---- a person is put on a board
 
-list-row : (h : History) (e : EntryValue) (p : ℕ) (b : List ℕ) (n : Named) (kept : List BoardValue) (listed : ℕ → ℕ → Bool) (j : ℕ) (v x : BoardValue) → Laws h e → IsDone e (cmd.List p b)
+list-row : (h : History) (e : EntryValue) (p : ℕ) (b : List ℕ) (n : NamedIndexes) (kept : List BoardValue) (listed : ℕ → ℕ → Bool) (j : ℕ) (v x : BoardValue) → Laws h e → IsDone e (cmd.List p b)
     → Names h e n → KeepsLists kept listed h → Before h j v → IsThen (is_of j n.board) (TakesOn p n.ready) v x → After h e (cmd.List p b) j v x
 list-row h e p b n kept listed j v x laws is names keeps before becomes =
     let rests = rests-done h e (cmd.List p b) laws is in
-    let named = named-place h e (cmd.List p b) n b laws is names refl rests.board in
+    let named = named-index h e (cmd.List p b) n b laws is names refl rests.board in
     go named.0 named.1.1 (nat_eq named.0 j) refl (subst (λ o. IsThen (is_of j o) (TakesOn p n.ready) v x) named.1.0 becomes)
   where
     ready_same : (q : ℕ) → ready_minute (with_entry h e) q ≡ ready_minute h q
@@ -156,11 +156,11 @@ list-row h e p b n kept listed j v x laws is names keeps before becomes =
 
 -- ---- and taken off it
 
-unlist-row : (h : History) (e : EntryValue) (p : ℕ) (b : List ℕ) (n : Named) (kept : List BoardValue) (listed : ℕ → ℕ → Bool) (j : ℕ) (v x : BoardValue) → Laws h e → IsDone e (cmd.Unlist p b)
+unlist-row : (h : History) (e : EntryValue) (p : ℕ) (b : List ℕ) (n : NamedIndexes) (kept : List BoardValue) (listed : ℕ → ℕ → Bool) (j : ℕ) (v x : BoardValue) → Laws h e → IsDone e (cmd.Unlist p b)
     → Names h e n → KeepsLists kept listed h → Before h j v → IsThen (is_of j n.board) (LetsGo p) v x → After h e (cmd.Unlist p b) j v x
 unlist-row h e p b n kept listed j v x laws is names keeps before becomes =
     let rests = rests-done h e (cmd.Unlist p b) laws is in
-    let named = named-place h e (cmd.Unlist p b) n b laws is names refl rests.board in
+    let named = named-index h e (cmd.Unlist p b) n b laws is names refl rests.board in
     go named.0 named.1.1 (nat_eq named.0 j) refl (subst (λ o. IsThen (is_of j o) (LetsGo p) v x) named.1.0 becomes)
   where
     ready_same : (q : ℕ) → ready_minute (with_entry h e) q ≡ ready_minute h q
@@ -233,21 +233,21 @@ untold-others : (h : History) (e : EntryValue) (c : Cmd) (p : ℕ) → Laws h e 
 untold-others h e c p laws is none q other = ready-same h e q laws.comes (said-done (tells q) e c is ∙ none q (ne_eqb p q (λ this. other (sym this))))
 
 -- the boards of the person whom a command names, by their word
-word-on : (h : History) (n : Named) (words : List ℕ) (kept : List BoardValue) (word i j p : ℕ) (b : List ℕ) → KeepsLists kept (is_in words) h → word ≡ word_of words n.person → n.person ≡ Some i
-    → place_among (persons h) p ≡ Some i → slice_get (boards h) j ≡ Some b → has_board word j ≡ is_on h p b
-word-on h n words kept word i j p b keeps word_is named placed at = ap (λ w. has_board w j) (word_is ∙ ap (word_of words) named) ∙ keeps.on p i j b placed at
+word-on : (h : History) (n : NamedIndexes) (words : List ℕ) (kept : List BoardValue) (word i j p : ℕ) (b : List ℕ) → KeepsLists kept (is_in words) h → word ≡ word_of words n.person → n.person ≡ Some i
+    → index_among (persons h) p ≡ Some i → slice_get (boards h) j ≡ Some b → has_board word j ≡ is_on h p b
+word-on h n words kept word i j p b keeps word_is named indexed at = ap (λ w. has_board w j) (word_is ∙ ap (word_of words) named) ∙ keeps.on p i j b indexed at
 
-word-past : (h : History) (n : Named) (words : List ℕ) (kept : List BoardValue) (word i j : ℕ) → KeepsLists kept (is_in words) h → word ≡ word_of words n.person → n.person ≡ Some i
+word-past : (h : History) (n : NamedIndexes) (words : List ℕ) (kept : List BoardValue) (word i j : ℕ) → KeepsLists kept (is_in words) h → word ≡ word_of words n.person → n.person ≡ Some i
     → length (boards h) ≤ j → has_board word j ≡ false
 word-past h n words kept word i j keeps word_is named past = ap (λ w. has_board w j) (word_is ∙ ap (word_of words) named) ∙ keeps.nowhere i j past
 
-moves-row : (h : History) (e : EntryValue) (c : Cmd) (n : Named) (words : List ℕ) (kept : List BoardValue) (word p j : ℕ) (last : Bool) (v x : BoardValue) → Laws h e → IsDone e c → Names h e n
-    → KeepsLists kept (is_in words) h → word ≡ word_of words n.person → mover c ≡ Some p → is_some (place_among (persons h) p) ≡ true → ((q : ℕ) → nat_eq p q ≡ false → tells q c ≡ None)
+moves-row : (h : History) (e : EntryValue) (c : Cmd) (n : NamedIndexes) (words : List ℕ) (kept : List BoardValue) (word p j : ℕ) (last : Bool) (v x : BoardValue) → Laws h e → IsDone e c → Names h e n
+    → KeepsLists kept (is_in words) h → word ≡ word_of words n.person → mover c ≡ Some p → is_some (index_among (persons h) p) ≡ true → ((q : ℕ) → nat_eq p q ≡ false → tells q c ≡ None)
     → Before h j v
     → ((b : List ℕ) → slice_get (boards h) j ≡ Some b → ordered h c b (members_in v.members) ≡ (if last then sent_last false p (members_in v.members) else members_in v.members))
     → IsThen (has_board word j) (Moves last p n.ready) v x → After h e c j v x
 moves-row h e c n words kept word p j last v x laws is names keeps word_is mine enrolled none before ordered_is becomes =
-    let found = person-place h e c n p laws is names mine enrolled in
+    let found = person-index h e c n p laws is names mine enrolled in
     move-row h e c p n.ready j (has_board word j) last v x laws before (λ b at. word-on h n words kept word found.0 j p b keeps word_is found.1.0 found.1.1 at)
     (λ past. word-past h n words kept word found.0 j keeps word_is found.1.0 past) (names.ready p (said-done mover e c is ∙ mine)) (untold-others h e c p laws is none) ordered_is becomes
 
@@ -257,14 +257,14 @@ pub offer-to : (o : Option Offer) (p : ℕ) → is_to p o ≡ true → (offer : 
 offer-to None p to = absurd (false≢true to)
 offer-to (Some offer) p to = (offer, refl)
 
--- a place among all boards tells whether a board there is this one, also where it is none
-place-tells : (h : History) (e : EntryValue) (b a : List ℕ) (k : Option ℕ) (j : ℕ) (v : BoardValue) → Laws h e → (kept : List BoardValue) → (listed : ℕ → ℕ → Bool) → KeepsLists kept listed h
-    → board_place (boards h) b ≡ k → slice_get (boards h) j ≡ Some a → board_of h a ≡ Some (setup_of v) → is_of j k ≡ bytes_eq b a
-place-tells h e b a (Some k) j v laws kept listed keeps is at set_up = boards-apart (boards h) b a k j keeps.apart (board-at (boards h) b k is) at
-place-tells h e b a None j v laws kept listed keeps is at set_up = go (bytes_eq b a) refl
+-- an index among all boards tells whether a board there is this one, also where it is none
+position-tells : (h : History) (e : EntryValue) (b a : List ℕ) (k : Option ℕ) (j : ℕ) (v : BoardValue) → Laws h e → (kept : List BoardValue) → (listed : ℕ → ℕ → Bool) → KeepsLists kept listed h
+    → board_index (boards h) b ≡ k → slice_get (boards h) j ≡ Some a → board_of h a ≡ Some (setup_of v) → is_of j k ≡ bytes_eq b a
+position-tells h e b a (Some k) j v laws kept listed keeps is at set_up = boards-apart (boards h) b a k j keeps.apart (board-at (boards h) b k is) at
+position-tells h e b a None j v laws kept listed keeps is at set_up = go (bytes_eq b a) refl
   where
     go : (one : Bool) → bytes_eq b a ≡ one → false ≡ one
-    go true one = absurd (false≢true (ap is_some (sym is) ∙ ap (λ x. is_some (board_place (boards h) x)) ((bytes_eq-Decides b a).0 one) ∙ laws.boards_placed a ∙ ap is_some set_up))
+    go true one = absurd (false≢true (ap is_some (sym is) ∙ ap (λ x. is_some (board_index (boards h) x)) ((bytes_eq-Decides b a).0 one) ∙ laws.boards_indexed a ∙ ap is_some set_up))
     go false one = refl
 
 decline-ordered : (h : History) (vac p : ℕ) (offer : Offer) (b : List ℕ) (last : Bool) (ps : List ℕ) → open_offer h vac ≡ Some offer → last ≡ bytes_eq offer.board b
@@ -286,27 +286,27 @@ happened-ordered h p other b v ps is = refl
 
 -- ---- each command
 
-pub command-makes : (h : History) (e : EntryValue) (c : Cmd) (n : Named) (words : List ℕ) (kept : List BoardValue) (word j : ℕ) (v x : BoardValue) → Laws h e → IsDone e c → Names h e n
+pub command-makes : (h : History) (e : EntryValue) (c : Cmd) (n : NamedIndexes) (words : List ℕ) (kept : List BoardValue) (word j : ℕ) (v x : BoardValue) → Laws h e → IsDone e c → Names h e n
     → KeepsLists kept (is_in words) h → word ≡ word_of words n.person → Before h j v → BecomesBy c n word j v x → After h e c j v x
 command-makes h e (cmd.Board b extra place) n words kept word j v x laws is names keeps word_is before becomes = set_up-row h e b place extra n j v x laws is names before becomes
 command-makes h e (cmd.List p b) n words kept word j v x laws is names keeps word_is before becomes = list-row h e p b n kept (is_in words) j v x laws is names keeps before becomes
 command-makes h e (cmd.Unlist p b) n words kept word j v x laws is names keeps word_is before becomes = unlist-row h e p b n kept (is_in words) j v x laws is names keeps before becomes
 command-makes h e (cmd.MarkOn p) n words kept word j v x laws is names keeps word_is before becomes =
-    moves-row h e (cmd.MarkOn p) n words kept word p j true v x laws is names keeps word_is refl (laws.persons_placed p ∙ rests-done h e (cmd.MarkOn p) laws is)
+    moves-row h e (cmd.MarkOn p) n words kept word p j true v x laws is names keeps word_is refl (laws.persons_indexed p ∙ rests-done h e (cmd.MarkOn p) laws is)
     (λ q other. refl) before (λ b at. refl) becomes
 command-makes h e (cmd.Decline vac p) n words kept word j v x laws is names keeps word_is before becomes =
     let rests = rests-done h e (cmd.Decline vac p) laws is in
     let offer = offer-to (open_offer h vac) p rests.to in
-    let whose : n.board ≡ board_place (boards h) offer.0.board = names.board offer.0.board (said-done (mover_board h) e (cmd.Decline vac p) is ∙ ap (option_map (λ o. o.board)) offer.1) in
-    moves-row h e (cmd.Decline vac p) n words kept word p j (is_of j n.board) v x laws is names keeps word_is refl (laws.persons_placed p ∙ rests.enrolled)
+    let whose : n.board ≡ board_index (boards h) offer.0.board = names.board offer.0.board (said-done (mover_board h) e (cmd.Decline vac p) is ∙ ap (option_map (λ o. o.board)) offer.1) in
+    moves-row h e (cmd.Decline vac p) n words kept word p j (is_of j n.board) v x laws is names keeps word_is refl (laws.persons_indexed p ∙ rests.enrolled)
     (λ q other. refl) before
     (λ b at. decline-ordered h vac p offer.0 b (is_of j n.board) (members_in v.members) offer.1
-    (ap (is_of j) whose ∙ place-tells h e offer.0.board b (board_place (boards h) offer.0.board) j v laws kept (is_in words) keeps refl at (before.setup b at))) becomes
+    (ap (is_of j) whose ∙ position-tells h e offer.0.board b (board_index (boards h) offer.0.board) j v laws kept (is_in words) keeps refl at (before.setup b at))) becomes
 command-makes h e (cmd.Past p t) n words kept word j v x laws is names keeps word_is before becomes =
-    moves-row h e (cmd.Past p t) n words kept word p j false v x laws is names keeps word_is refl (laws.persons_placed p ∙ rests-done h e (cmd.Past p t) laws is)
+    moves-row h e (cmd.Past p t) n words kept word p j false v x laws is names keeps word_is refl (laws.persons_indexed p ∙ rests-done h e (cmd.Past p t) laws is)
     (λ q other. rw other refl) before (λ b at. refl) becomes
 command-makes h e (cmd.Happened p t) n words kept word j v x laws is names keeps word_is before becomes =
-    moves-row h e (cmd.Happened p t) n words kept word p j (is_final_at v.place t) v x laws is names keeps word_is refl (laws.persons_placed p ∙ rests-done h e (cmd.Happened p t) laws is)
+    moves-row h e (cmd.Happened p t) n words kept word p j (is_final_at v.place t) v x laws is names keeps word_is refl (laws.persons_indexed p ∙ rests-done h e (cmd.Happened p t) laws is)
     (λ q other. rw other refl) before (λ b at. happened-ordered h p t b v (members_in v.members) (before.setup b at)) becomes
 command-makes h e other n words kept word j v x laws is names keeps word_is before becomes =
     stays h e other j v x before (λ b at. refl) (λ p in_it. untold h e other laws is (λ q. refl) p) becomes

@@ -19,11 +19,11 @@ use Rattle.desk_model.specs.histories.History.{History, with_entry, said}
 use Rattle.desk_model.specs.histories.Register.{enrols, sets_up_any, person_of, persons, boards}
 use Rattle.desk_model.specs.offers.Offers.{asks_for, offer_in, settles, open_offer, on_offer}
 use Rattle.desk_model.specs.laws.Comes.{Comes, left_open, on_offer_after}
-use Rattle.desk_register.specs.Among.{place_among}
+use Rattle.desk_register.specs.Among.{index_among}
 use Rattle.desk_register.proofs.PersonLemmas.{same, same_number}
-use Rattle.desk_register.proofs.PlaceAmongLemmas.{place-lt, place-is}
+use Rattle.desk_register.proofs.IndexAmongLemmas.{index-lt, index-is}
 use Rattle.desk_state.specs.OpenOffers.{IsSame, IsOffer, AreOffers}
-use Rattle.desk_state.proofs.HoldPlaceLemmas.{position-stays}
+use Rattle.desk_state.proofs.HoldIndexLemmas.{position-stays}
 use Rattle.desk_state.proofs.HearLemmas.{OffersNothing, settled-offer, settled-to, made-offer, made-to, silent-offer, silent-to}
 use Rattle.desk_state.proofs.HoldLemmas.{number-decides}
 
@@ -171,29 +171,29 @@ among (x ∷ flight) q is = go (nat_eq q x.person) refl is (among flight q)
     go true here is rest = let mine : (x.person == q) ≡ true = grind (arith, nat_tests, here) in rw mine refl
     go false here is rest = let other : (x.person == q) ≡ false = grind (arith, nat_tests, here) in rw other (rest is)
 
--- who has a place is among them
-enrolled-among : (numbers : List ℕ) (q : ℕ) → is_some (place_among numbers q) ≡ true → is_member nat_eq numbers q ≡ true
-enrolled-among numbers q placed = go (place_among numbers q) refl placed
+-- who has an index is among them
+enrolled-among : (numbers : List ℕ) (q : ℕ) → is_some (index_among numbers q) ≡ true → is_member nat_eq numbers q ≡ true
+enrolled-among numbers q indexed = go (index_among numbers q) refl indexed
   where
-    go : (place : Option ℕ) → place_among numbers q ≡ place → is_some place ≡ true → is_member nat_eq numbers q ≡ true
-    go None is placed = absurd (false≢true placed)
-    go (Some i) is placed = (is_member-Decides number-decides numbers q).1
-        (subst (Contains numbers) (sym (place-is numbers q i is)) (Contains-get_or numbers i 0 (place-lt numbers q i is)))
+    go : (index : Option ℕ) → index_among numbers q ≡ index → is_some index ≡ true → is_member nat_eq numbers q ≡ true
+    go None is indexed = absurd (false≢true indexed)
+    go (Some i) is indexed = (is_member-Decides number-decides numbers q).1
+        (subst (Contains numbers) (sym (index-is numbers q i is)) (Contains-get_or numbers i 0 (index-lt numbers q i is)))
 
 differ : (flight : List InFlight) (p : ℕ) → IsDistinct nat_eq (persons_of flight) → of_person flight p ≡ None → IsDistinct nat_eq (p ∷ persons_of flight)
 unfolding IsDistinct
 differ flight p apart none = (not-among flight p none, apart)
 
 -- there are fewer open offers than persons, where one of these has none
-pub offers-few : (h : History) (flight : List InFlight) (minutes p : ℕ) → ((q : ℕ) → is_some (place_among (persons h) q) ≡ is_some (person_of h q))
+pub offers-few : (h : History) (flight : List InFlight) (minutes p : ℕ) → ((q : ℕ) → is_some (index_among (persons h) q) ≡ is_some (person_of h q))
     → IsDistinct nat_eq (persons_of flight) → AreOffers flight minutes h → of_person flight p ≡ None → is_some (person_of h p) ≡ true → length flight < length (persons h)
-offers-few h flight minutes p places apart are none known =
+offers-few h flight minutes p indexes apart are none known =
     let most : length (p ∷ persons_of flight) ≤ length (persons h) = length-le_from_is_member nat_eq_equiv (p ∷ persons_of flight) (persons h) (differ flight p apart none) (λ q is. members q (nat_eq q p) refl is) in
     omega (arith, most, length-map flight (λ (offer : InFlight). offer.person))
   where
     members : (q : ℕ) (mine : Bool) → nat_eq q p ≡ mine → (mine || is_member nat_eq (persons_of flight) q) ≡ true → is_member nat_eq (persons h) q ≡ true
-    members q true here is = enrolled-among (persons h) q (places q ∙ subst (λ x. is_some (person_of h x) ≡ true) (sym (same_number q p here)) known)
-    members q false here is = enrolled-among (persons h) q (places q ∙ are.enrolled q (among flight q is))
+    members q true here is = enrolled-among (persons h) q (indexes q ∙ subst (λ x. is_some (person_of h x) ≡ true) (sym (same_number q p here)) known)
+    members q false here is = enrolled-among (persons h) q (indexes q ∙ are.enrolled q (among flight q is))
 
 offer-made : (codes : List (List ℕ)) (minutes : ℕ) (here : Bool) (made : InFlight) (offer : Offer) (kept : Option InFlight) (was : Option Offer) → IsSame codes minutes made offer
     → IsOffer codes minutes kept was → IsOffer codes minutes (cond here (Some made) kept) (cond here (Some offer) was)

@@ -14,11 +14,11 @@ use Rattle.desk_model.specs.histories.Register.{enrols_any, sets_up_any, persons
 use Rattle.desk_model.specs.offers.Offers.{open_offer}
 use Rattle.desk_model.specs.offers.Held.{hold_end}
 use Rattle.desk_model.specs.laws.Comes.{Comes}
-use Rattle.desk_register.specs.Among.{place_among, board_place}
+use Rattle.desk_register.specs.Among.{index_among, board_index}
 use Rattle.desk_register.proofs.PersonLemmas.{same, same_number}
 use Rattle.desk_state.specs.OfferTold.{decliner}
 use Rattle.desk_state.specs.Holds.{end_for, AreHolds}
-use Rattle.desk_state.proofs.HoldPlaceLemmas.{position-stays, position-new, position-lt, places-differ, placed-differ}
+use Rattle.desk_state.proofs.HoldIndexLemmas.{position-stays, position-new, position-lt, indexes-differ, indexed-differ}
 use Rattle.desk_state.proofs.HearLemmas.{Declines, no-hold, hold-told}
 
 pub number-decides : (a b : ℕ) → Decides (nat_eq a b) (a ≡ b)
@@ -48,12 +48,12 @@ boards-grown ends test xs more (Some i) beyond = go (position test xs) (position
 
 grown : (h : History) (e : EntryValue) (ends : ℕ → ℕ → ℕ) (p : ℕ) (b : List ℕ) → Comes h e → ((i j : ℕ) → length (persons h) ≤ i → ends i j ≡ 0)
     → ((i j : ℕ) → length (boards h) ≤ j → ends i j ≡ 0)
-    → end_for ends (place_among (persons (with_entry h e)) p) (board_place (boards (with_entry h e)) b) ≡ end_for ends (place_among (persons h) p) (board_place (boards h) b)
+    → end_for ends (index_among (persons (with_entry h e)) p) (board_index (boards (with_entry h e)) b) ≡ end_for ends (index_among (persons h) p) (board_index (boards h) b)
 grown h e ends p b comes behind beyond =
-    ap (λ ns. end_for ends (place_among ns p) (board_place (boards (with_entry h e)) b)) comes.persons
-    ∙ persons-grown ends (nat_eq p) (persons h) (said enrols_any e) (board_place (boards (with_entry h e)) b) behind
-    ∙ ap (λ codes. end_for ends (place_among (persons h) p) (board_place codes b)) comes.boards
-    ∙ boards-grown ends (bytes_eq b) (boards h) (said sets_up_any e) (place_among (persons h) p) beyond
+    ap (λ ns. end_for ends (index_among ns p) (board_index (boards (with_entry h e)) b)) comes.persons
+    ∙ persons-grown ends (nat_eq p) (persons h) (said enrols_any e) (board_index (boards (with_entry h e)) b) behind
+    ∙ ap (λ codes. end_for ends (index_among (persons h) p) (board_index codes b)) comes.boards
+    ∙ boards-grown ends (bytes_eq b) (boards h) (said sets_up_any e) (index_among (persons h) p) beyond
 
 longer : {X : Type 0} (xs ys : List X) (more : Option X) (i : ℕ) → ys ≡ xs ++ cons_option more [] → length ys ≤ i → length xs ≤ i
 longer xs ys more i is above = omega (arith, ap length is, length-append xs (cons_option more []), above)
@@ -73,24 +73,24 @@ holds-stay h e ends comes none are = record {
 
 -- ---- where somebody declines
 
--- the table holds the person at this place by the board at this one until then
+-- the table holds the person at this index by the board at this one until then
 abbrev pub Raises : ℕ → ℕ → ℕ → (ℕ → ℕ → ℕ) → (ℕ → ℕ → ℕ) → Type 0
-Raises place board until ends later = (i j : ℕ) → later i j ≡ (if nat_eq place i && nat_eq board j then max (ends i j) until else ends i j)
+Raises index board until ends later = (i j : ℕ) → later i j ≡ (if nat_eq index i && nat_eq board j then max (ends i j) until else ends i j)
 
 module _
-    (h : History) (e : EntryValue) (ends later : ℕ → ℕ → ℕ) (who place board until : ℕ) (offer : Offer) (comes : Comes h e) (is : Declines e who) (was : open_offer h is.vac ≡ Some offer)
-    (placed : place_among (persons h) who ≡ Some place) (from : board_place (boards h) offer.board ≡ Some board) (until_is : until ≡ e.moment + HOLD)
-    (raises : Raises place board until ends later) (are : AreHolds ends h) where
-  raised-at : (i j : ℕ) (mine here : Bool) → nat_eq place i ≡ mine → nat_eq board j ≡ here → later i j ≡ max (ends i j) (cond (mine && here) until 0)
+    (h : History) (e : EntryValue) (ends later : ℕ → ℕ → ℕ) (who index board until : ℕ) (offer : Offer) (comes : Comes h e) (is : Declines e who) (was : open_offer h is.vac ≡ Some offer)
+    (indexed : index_among (persons h) who ≡ Some index) (from : board_index (boards h) offer.board ≡ Some board) (until_is : until ≡ e.moment + HOLD)
+    (raises : Raises index board until ends later) (are : AreHolds ends h) where
+  raised-at : (i j : ℕ) (mine here : Bool) → nat_eq index i ≡ mine → nat_eq board j ≡ here → later i j ≡ max (ends i j) (cond (mine && here) until 0)
   raised-at i j true true x y = raises i j ∙ rw (x, y) refl
   raised-at i j true false x y = raises i j ∙ rw (x, y) (sym (max-none (ends i j)))
   raised-at i j false here x y = raises i j ∙ rw x (sym (max-none (ends i j)))
 
-  other-place : (i j : ℕ) → nat_eq place i ≡ false → later i j ≡ ends i j
-  other-place i j x = raises i j ∙ rw x refl
+  other-index : (i j : ℕ) → nat_eq index i ≡ false → later i j ≡ ends i j
+  other-index i j x = raises i j ∙ rw x refl
 
   other-board : (i j : ℕ) → nat_eq board j ≡ false → later i j ≡ ends i j
-  other-board i j y = raises i j ∙ rw y (go (nat_eq place i))
+  other-board i j y = raises i j ∙ rw y (go (nat_eq index i))
     where
       go : (mine : Bool) → cond (mine && false) (max (ends i j) until) (ends i j) ≡ ends i j
       go true = refl
@@ -98,21 +98,21 @@ module _
 
   behind : (i j : ℕ) → length (persons h) ≤ i → later i j ≡ 0
   behind i j above =
-      let low = position-lt (nat_eq who) (persons h) place 0 placed in
-      other-place i j (grind (arith, nat_tests, low, above)) ∙ are.behind i j above
+      let low = position-lt (nat_eq who) (persons h) index 0 indexed in
+      other-index i j (grind (arith, nat_tests, low, above)) ∙ are.behind i j above
 
   beyond : (i j : ℕ) → length (boards h) ≤ j → later i j ≡ 0
   beyond i j above =
       let low = position-lt (bytes_eq offer.board) (boards h) board [] from in
       other-board i j (grind (arith, nat_tests, low, above)) ∙ are.beyond i j above
 
-  raised : (p : ℕ) (b : List ℕ) (i j : Option ℕ) → place_among (persons h) p ≡ i → board_place (boards h) b ≡ j
+  raised : (p : ℕ) (b : List ℕ) (i j : Option ℕ) → index_among (persons h) p ≡ i → board_index (boards h) b ≡ j
       → end_for later i j ≡ max (end_for ends i j) (cond (nat_eq who p && bytes_eq offer.board b) until 0)
   raised p b (Some i) (Some j) x y =
-      raised-at i j (nat_eq who p) (bytes_eq offer.board b) (places-differ nat_eq number-decides (persons h) 0 who p place i placed x)
-      (places-differ bytes_eq bytes_eq-Decides (boards h) [] offer.board b board j from y)
-  raised p b None j x y = rw (placed-differ nat_eq number-decides (persons h) 0 who p place placed x) refl
-  raised p b (Some i) None x y = rw (placed-differ bytes_eq bytes_eq-Decides (boards h) [] offer.board b board from y) (go (nat_eq who p))
+      raised-at i j (nat_eq who p) (bytes_eq offer.board b) (indexes-differ nat_eq number-decides (persons h) 0 who p index i indexed x)
+      (indexes-differ bytes_eq bytes_eq-Decides (boards h) [] offer.board b board j from y)
+  raised p b None j x y = rw (indexed-differ nat_eq number-decides (persons h) 0 who p index indexed x) refl
+  raised p b (Some i) None x y = rw (indexed-differ bytes_eq bytes_eq-Decides (boards h) [] offer.board b board from y) (go (nat_eq who p))
     where
       go : (mine : Bool) → 0 ≡ max 0 (cond (mine && false) until 0)
       go true = refl
@@ -120,7 +120,7 @@ module _
 
   pub holds-raised : AreHolds later (with_entry h e)
   holds-raised = record {
-    each = λ p b. grown h e later p b comes behind beyond ∙ raised p b (place_among (persons h) p) (board_place (boards h) b) refl refl
+    each = λ p b. grown h e later p b comes behind beyond ∙ raised p b (index_among (persons h) p) (board_index (boards h) b) refl refl
         ∙ ap (λ m. max m (cond (nat_eq who p && bytes_eq offer.board b) until 0)) (are.each p b)
         ∙ ap (λ m. max (hold_end h (b ∷ []) p) (cond (nat_eq who p && bytes_eq offer.board b) m 0)) until_is
         ∙ ap (max (hold_end h (b ∷ []) p)) (sym (hold-told h e who p b offer is was)) ∙ sym (comes.hold_end (b ∷ []) p);

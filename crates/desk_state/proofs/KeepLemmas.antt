@@ -17,14 +17,14 @@ use Rattle.desk_model.specs.histories.Register.{enrols_any, sets_up, sets_up_any
 use Rattle.desk_model.specs.boards.Boards.{is_on, order, puts, sends}
 use Rattle.desk_model.specs.histories.Duty.{tells}
 use Rattle.desk_model.specs.laws.Comes.{takes_off, left_by, order_by}
-use Rattle.desk_register.specs.Among.{place_among}
+use Rattle.desk_register.specs.Among.{index_among}
 use Rattle.desk_state.specs.Laws.{Laws}
 use Rattle.desk_state.specs.Lists.{ready_minute, setup_of, KeepsLists}
 use Rattle.desk_state.proofs.LawLemmas.{ready-same, may-enrol, enrols-on, may-set_up, set_up-on, set_up-order, nobody-on, nowhere-on}
 use Rattle.desk_state.proofs.ListLemmas.{get-within}
-use Rattle.desk_state.proofs.PlacedLemmas.{get-grown, place-grew, length-grown, length-grows}
+use Rattle.desk_state.proofs.IndexedLemmas.{get-grown, index-grew, length-grown, length-grows}
 
--- what is kept says at the old places what the longer history says, and nothing at the new ones but where a new board is
+-- what is kept says at the old indexes what the longer history says, and nothing at the new ones but where a new board is
 pub record Follows (later : List BoardValue) (listed : ℕ → ℕ → Bool) (h : History) (e : EntryValue) : Type 0 where
   pub many : length later ≡ BOARD_LIMIT
   pub order_is : (j : ℕ) (b : List ℕ) → slice_get (boards h) j ≡ Some b → members_in (members_at later j) ≡ order (with_entry h e) b
@@ -32,7 +32,7 @@ pub record Follows (later : List BoardValue) (listed : ℕ → ℕ → Bool) (h 
   pub ready : (j p r : ℕ) → ready_of p (members_at later j) ≡ Some r → r ≡ ready_minute (with_entry h e) p
   pub setup : (j : ℕ) (b : List ℕ) → slice_get (boards h) j ≡ Some b → board_of h b ≡ option_map setup_of (slice_get later j)
   pub new_setup : (b : List ℕ) → said sets_up_any e ≡ Some b → board_of (with_entry h e) b ≡ option_map setup_of (slice_get later (length (boards h)))
-  pub on : (p i j : ℕ) (b : List ℕ) → place_among (persons h) p ≡ Some i → slice_get (boards h) j ≡ Some b → listed i j ≡ is_on (with_entry h e) p b
+  pub on : (p i j : ℕ) (b : List ℕ) → index_among (persons h) p ≡ Some i → slice_get (boards h) j ≡ Some b → listed i j ≡ is_on (with_entry h e) p b
   pub nobody : (i j : ℕ) → length (persons h) ≤ i → listed i j ≡ false
   pub nowhere : (i j : ℕ) → length (boards h) ≤ j → listed i j ≡ false
 
@@ -40,7 +40,7 @@ none-of : {X : Type 0} (o : Option X) → is_some o ≡ false → o ≡ None
 none-of None is = refl
 none-of (Some x) is = absurd (false≢true (sym is))
 
--- a board that has a place was set up
+-- a board that has an index was set up
 set_up-known : (kept : List BoardValue) (listed : ℕ → ℕ → Bool) (h : History) (j : ℕ) (b : List ℕ) → KeepsLists kept listed h → slice_get (boards h) j ≡ Some b → is_some (board_of h b) ≡ true
 set_up-known kept listed h j b keeps at = go (slice_get kept j) (board_of h b) (keeps.setup j b at) (get-within kept j within)
   where
@@ -83,7 +83,7 @@ follows-keep kept later was listed h e laws keeps follows = record {
     | inl old ↦ old-board h e b laws (set_up-known kept was h j b keeps old) ∙ follows.setup j b old
     | inr new ↦ follows.new_setup b new.1 ∙ ap (λ i. option_map setup_of (slice_get later i)) (sym new.0)
   ];
-  on = λ p i j b placed at. elim (place-grew (persons h) (said enrols_any e) p i (ap (λ ns. place_among ns p) (sym laws.comes.persons) ∙ placed)) [
+  on = λ p i j b indexed at. elim (index-grew (persons h) (said enrols_any e) p i (ap (λ ns. index_among ns p) (sym laws.comes.persons) ∙ indexed)) [
     | inl old ↦ elim (grown j b at) [
       | inl old_board ↦ follows.on p i j b old old_board
       | inr new ↦ follows.nowhere i j (omega (arith, new.0)) ∙ sym (set_up-on h e b p b laws new.1 ∙ nowhere-on h e p b laws (may-set_up h e b laws new.1).0)
@@ -125,7 +125,7 @@ refused-keep kept listed h e laws refused keeps = follows-keep kept kept listed 
   ready = λ j p r at. keeps.ready j p r at ∙ sym (ready-same h e p laws.comes (quiet (tells p) e refused));
   setup = keeps.setup;
   new_setup = λ b is. absurd (false≢true (ap is_some (sym (quiet sets_up_any e refused) ∙ is)));
-  on = λ p i j b placed at. keeps.on p i j b placed at ∙ sym (laws.comes.on p b ∙ ap (λ o. unwrap_or o (is_on h p b)) (quiet (puts b p) e refused));
+  on = λ p i j b indexed at. keeps.on p i j b indexed at ∙ sym (laws.comes.on p b ∙ ap (λ o. unwrap_or o (is_on h p b)) (quiet (puts b p) e refused));
   nobody = keeps.nobody;
   nowhere = keeps.nowhere;
 }

@@ -1,7 +1,7 @@
 mod HeardLemmas
-mod DutyPlaceLemmas
+mod DutyIndexLemmas
 mod ClockLemmas
-mod HoldPlaceLemmas
+mod HoldIndexLemmas
 mod HearLemmas
 mod HoldLemmas
 mod FlightLemmas
@@ -9,7 +9,7 @@ mod OfferKeepLemmas
 pub mod BitLemmas
 mod ListLemmas
 mod LawLemmas
-mod PlacedLemmas
+mod IndexedLemmas
 mod BoardLemmas
 mod CommandLemmas
 mod KeepLemmas

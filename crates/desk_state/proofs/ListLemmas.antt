@@ -11,10 +11,10 @@ use Rattle.desk_model.specs.declared.command.Cmd.{Cmd}
 use Rattle.desk_model.specs.declared.command.Cmd.TheVariants as cmd
 use Rattle.desk_model.specs.offers.Offers.{is_of}
 use Rattle.desk_model.specs.declared.limits.TheConstants.{BOARD_LIMIT}
-use Rattle.desk_state.specs.Places.{has_board}
+use Rattle.desk_state.specs.Words.{has_board}
 use Rattle.desk_state.proofs.BitLemmas.{no-board}
 use Rattle.desk_state.specs.Changes.{IsThen, EachBecomes, BecomesBy}
-use Rattle.desk_state.specs.declared.named.Named.{Named}
+use Rattle.desk_state.specs.declared.named_indexes.NamedIndexes.{NamedIndexes}
 
 get-set_same : {X : Type 0} (xs : List X) (i : ℕ) (x : X) → i < length xs → slice_get (slice_set xs i x) i ≡ Some x
 get-set_same xs i x within = slice_get-get_or (slice_set xs i x) i x (subst (λ n. i < n) (sym (length-set xs i x)) within) ∙ ap Some (get_or-set_same xs i x x within)
@@ -66,7 +66,7 @@ except-past Becomes i left later old now all less past k b at =
 no-then : (t : Bool) (Becomes : BoardValue → BoardValue → Type 0) (b : BoardValue) → t ≡ false → IsThen t Becomes b b
 no-then t Becomes b not = subst (λ u. IsThen u Becomes b b) (sym not) refl
 
-pub becomes-untouched : (c : Cmd) (n : Named) (word j : ℕ) (b : BoardValue) → (is_of j n.board || has_board word j) ≡ false → BecomesBy c n word j b b
+pub becomes-untouched : (c : Cmd) (n : NamedIndexes) (word j : ℕ) (b : BoardValue) → (is_of j n.board || has_board word j) ≡ false → BecomesBy c n word j b b
 becomes-untouched c n word j b not = by_both c (or-none (is_of j n.board) (has_board word j) not)
   where
     or-none : (x y : Bool) → (x || y) ≡ false → (x ≡ false) × (y ≡ false)
@@ -84,7 +84,7 @@ becomes-untouched c n word j b not = by_both c (or-none (is_of j n.board) (has_b
     by_both other both = refl
 
 -- so before any is changed, all are as they were that a command touches, and the others are what it makes of them
-pub except-touched : (c : Cmd) (n : Named) (word touched : ℕ) (old : List BoardValue) → length old ≤ BOARD_LIMIT
+pub except-touched : (c : Cmd) (n : NamedIndexes) (word touched : ℕ) (old : List BoardValue) → length old ≤ BOARD_LIMIT
     → ((j : ℕ) → j < BOARD_LIMIT → has_board touched j ≡ (is_of j n.board || has_board word j)) → Except touched (BecomesBy c n word) old old
 except-touched c n word touched old few are k b at = (b, (at, go (has_board touched k) refl))
   where
@@ -102,7 +102,7 @@ empty-more [] x (suc j) none empty = refl
 empty-more (y ∷ boards) x zero none empty = none zero
 empty-more (y ∷ boards) x (suc j) none empty = empty-more boards x j (λ i. none (suc i)) empty
 
--- a place within a list has something
+-- an index within a list has something
 pub get-within : {X : Type 0} (xs : List X) (j : ℕ) → j < length xs → is_some (slice_get xs j) ≡ true
 get-within [] j low = absurd (omega (arith, low))
 get-within (x ∷ xs) zero low = refl

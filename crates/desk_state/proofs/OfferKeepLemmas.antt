@@ -23,12 +23,12 @@ use Rattle.desk_model.specs.laws.Comes.{Comes, on_offer_after}
 use Rattle.desk_model.specs.laws.RestsOn.{RestsOn, MayOffer}
 use Rattle.desk_model.specs.histories.Legal.{IsLegal}
 use Rattle.desk_model.proofs.SaidLemmas.{said-some}
-use Rattle.desk_register.specs.Among.{place_among, board_place}
+use Rattle.desk_register.specs.Among.{index_among, board_index}
 use Rattle.desk_state.specs.OfferTold.{decliner, offered_from}
 use Rattle.desk_state.specs.OpenOffers.{IsSame, IsOffer, AreOffers, CanStart}
 use Rattle.desk_state.specs.Holds.{AreHolds}
 use Rattle.desk_state.specs.Keeps.{AreFew}
-use Rattle.desk_state.proofs.HoldPlaceLemmas.{position-lt}
+use Rattle.desk_state.proofs.HoldIndexLemmas.{position-lt}
 use Rattle.desk_state.proofs.HearLemmas.{Declines, declines, may-decline, IsMadeTo}
 use Rattle.desk_state.proofs.HoldLemmas.{Raises, holds-raised}
 use Rattle.desk_state.proofs.FlightLemmas.{closed-vacancy, offers-few, offers-made}
@@ -84,34 +84,34 @@ idle-none h e flight minutes vac rests settled found are = go (said decliner e) 
         let by = declines e p is in
         absurd (false≢true (sym (ap (is_to p) (ap (open_offer h) (sym (same_vac e vac p settled by)) ∙ closed-vacancy h flight minutes vac are found)) ∙ (may-decline h e p by rests).to))
 
--- who declines has a place
-pub decliner-placed : (h : History) (e : EntryValue) (p : ℕ) → (is_done e.reply ≡ true → RestsOn h e.stated.cmd)
-    → ((q : ℕ) → is_some (place_among (persons h) q) ≡ is_some (person_of h q)) → said decliner e ≡ Some p → None ≡ place_among (persons h) p → ⊥
-decliner-placed h e p rests places told none = false≢true (ap is_some none ∙ places p ∙ (may-decline h e p (declines e p told) rests).enrolled)
+-- who declines has an index
+pub decliner-indexed : (h : History) (e : EntryValue) (p : ℕ) → (is_done e.reply ≡ true → RestsOn h e.stated.cmd)
+    → ((q : ℕ) → is_some (index_among (persons h) q) ≡ is_some (person_of h q)) → said decliner e ≡ Some p → None ≡ index_among (persons h) p → ⊥
+decliner-indexed h e p rests indexes told none = false≢true (ap is_some none ∙ indexes p ∙ (may-decline h e p (declines e p told) rests).enrolled)
 
 -- who declines is held
-pub declined-held : (h : History) (e : EntryValue) (ends later : ℕ → ℕ → ℕ) (flight : List InFlight) (minutes vac who place board until : ℕ) (done : InFlight) → Comes h e → IsLegal h
+pub declined-held : (h : History) (e : EntryValue) (ends later : ℕ → ℕ → ℕ) (flight : List InFlight) (minutes vac who index board until : ℕ) (done : InFlight) → Comes h e → IsLegal h
     → Holds h.opening.window e.moment → (is_done e.reply ≡ true → RestsOn h e.stated.cmd) → said settles e ≡ Some vac → said decliner e ≡ Some who → Some done ≡ of_vacancy flight vac
-    → Some place ≡ place_among (persons h) who → board ≡ done.board → (e.moment + HOLD < 2 ^ 28 → until ≡ e.moment + HOLD)
-    → (place < PERSON_LIMIT → board < BOARD_LIMIT → Raises place board until ends later) → AreOffers flight minutes h → AreFew h → AreHolds ends h → AreHolds later (with_entry h e)
-declined-held h e ends later flight minutes vac who place board until done comes legal lies rests settled told found placed board_is until_is raises offers few are =
+    → Some index ≡ index_among (persons h) who → board ≡ done.board → (e.moment + HOLD < 2 ^ 28 → until ≡ e.moment + HOLD)
+    → (index < PERSON_LIMIT → board < BOARD_LIMIT → Raises index board until ends later) → AreOffers flight minutes h → AreFew h → AreHolds ends h → AreHolds later (with_entry h e)
+declined-held h e ends later flight minutes vac who index board until done comes legal lies rests settled told found indexed board_is until_is raises offers few are =
     let by = declines e who told in
     let kept = open-of (boards h) minutes done (open_offer h vac) (subst (λ o. IsOffer (boards h) minutes o (open_offer h vac)) (sym found) (offers.each vac)) in
-    let from : board_place (boards h) kept.0.board ≡ Some board = kept.1.1.board ∙ ap Some (sym board_is) in
-    let low = position-lt (nat_eq who) (persons h) place 0 (sym placed) in
+    let from : board_index (boards h) kept.0.board ≡ Some board = kept.1.1.board ∙ ap Some (sym board_is) in
+    let low = position-lt (nat_eq who) (persons h) index 0 (sym indexed) in
     let low_board = position-lt (bytes_eq kept.0.board) (boards h) board [] from in
-    holds-raised h e ends later who place board until kept.0 comes by (ap (open_offer h) (sym (same_vac e vac who settled by)) ∙ kept.1.0) (sym placed) from
+    holds-raised h e ends later who index board until kept.0 comes by (ap (open_offer h) (sym (same_vac e vac who settled by)) ∙ kept.1.0) (sym indexed) from
     (until_is (minute-fits h.opening.window e.moment HOLD legal.opening.window lies (omega arith)))
     (raises (omega (arith, low, few.enrolled)) (omega (arith, low_board, few.set_up))) are
 
 -- ---- what is offered
 
--- the board that an offer is made from has a place, among the first 64
-pub from-placed : (h : History) (e : EntryValue) (vac p : ℕ) (board : Option ℕ) → (made : IsMadeTo e p) → MayOffer h vac made.offer.person made.offer.board
-    → ((b : List ℕ) → is_some (board_place (boards h) b) ≡ is_some (board_of h b)) → ((b : List ℕ) → offered_from e ≡ Some b → board ≡ board_place (boards h) b) → is_some board ≡ true
-from-placed h e vac p board made may places from = ap is_some (from made.offer.board made.board) ∙ places made.offer.board ∙ may.listed.board
+-- the board that an offer is made from has an index, among the first 64
+pub from-indexed : (h : History) (e : EntryValue) (vac p : ℕ) (board : Option ℕ) → (made : IsMadeTo e p) → MayOffer h vac made.offer.person made.offer.board
+    → ((b : List ℕ) → is_some (board_index (boards h) b) ≡ is_some (board_of h b)) → ((b : List ℕ) → offered_from e ≡ Some b → board ≡ board_index (boards h) b) → is_some board ≡ true
+from-indexed h e vac p board made may indexes from = ap is_some (from made.offer.board made.board) ∙ indexes made.offer.board ∙ may.listed.board
 
-pub from-few : (h : History) (e : EntryValue) (p board : ℕ) → (made : IsMadeTo e p) → ((b : List ℕ) → offered_from e ≡ Some b → Some board ≡ board_place (boards h) b) → AreFew h
+pub from-few : (h : History) (e : EntryValue) (p board : ℕ) → (made : IsMadeTo e p) → ((b : List ℕ) → offered_from e ≡ Some b → Some board ≡ board_index (boards h) b) → AreFew h
     → board < BOARD_LIMIT
 from-few h e p board made from few =
     let low = position-lt (bytes_eq made.offer.board) (boards h) board [] (sym (from made.offer.board made.board)) in
@@ -122,26 +122,26 @@ free-of None none = refl
 free-of (Some f) none = absurd (false≢true (sym (ap is_some none)))
 
 -- the offer may be opened
-can-start : (h : History) (flight : List InFlight) (minutes vac p : ℕ) (b : List ℕ) (made : InFlight) → ((q : ℕ) → is_some (place_among (persons h) q) ≡ is_some (person_of h q))
+can-start : (h : History) (flight : List InFlight) (minutes vac p : ℕ) (b : List ℕ) (made : InFlight) → ((q : ℕ) → is_some (index_among (persons h) q) ≡ is_some (person_of h q))
     → IsDistinct nat_eq (persons_of flight) → MayOffer h vac p b → made.vac ≡ vac → made.person ≡ p → AreOffers flight minutes h → AreFew h → CanStart flight made
-can-start h flight minutes vac p b made places apart may vac_is person_is are few =
+can-start h flight minutes vac p b made indexes apart may vac_is person_is are few =
     let free = free-of (of_person flight p) (are.to p ∙ may.free) in
     record {
       vacancy = ap (of_vacancy flight) vac_is ∙ closed-of (boards h) minutes (of_vacancy flight vac) (subst (IsOffer (boards h) minutes (of_vacancy flight vac)) may.closed (are.each vac));
       person = ap (of_person flight) person_is ∙ free;
-      room = omega (arith, offers-few h flight minutes p places apart are free may.listed.enrolled, few.enrolled);
+      room = omega (arith, offers-few h flight minutes p indexes apart are free may.listed.enrolled, few.enrolled);
     }
 
 pub offers-started : (h : History) (e : EntryValue) (flight later : List InFlight) (minutes vac p : ℕ) (made : InFlight) (is : IsMadeTo e p) → Comes h e → IsLegal h
     → ((q : ℕ) → on_offer (with_entry h e) q ≡ on_offer_after q e (on_offer h q)) → Holds h.opening.window e.moment → MayOffer h vac is.offer.person is.offer.board
-    → ((q : ℕ) → is_some (place_among (persons h) q) ≡ is_some (person_of h q)) → IsDistinct nat_eq (persons_of flight) → said settles e ≡ None → asks_for e.stated.cmd ≡ Some vac
-    → minutes ≡ h.opening.answer → made.vac ≡ vac → made.person ≡ p → Some made.board ≡ board_place (boards h) is.offer.board
+    → ((q : ℕ) → is_some (index_among (persons h) q) ≡ is_some (person_of h q)) → IsDistinct nat_eq (persons_of flight) → said settles e ≡ None → asks_for e.stated.cmd ≡ Some vac
+    → minutes ≡ h.opening.answer → made.vac ≡ vac → made.person ≡ p → Some made.board ≡ board_index (boards h) is.offer.board
     → (e.moment + minutes < 2 ^ 28 → made.deadline ≡ e.moment + minutes)
     → (CanStart flight made → (v : ℕ) → of_vacancy later v ≡ (if nat_eq made.vac v then Some made else of_vacancy flight v))
     → (CanStart flight made → (q : ℕ) → of_person later q ≡ (if nat_eq made.person q then Some made else of_person flight q)) → AreFew h
     → AreOffers flight minutes h → AreOffers later minutes (with_entry h e)
-offers-started h e flight later minutes vac p made is comes legal to lies may places apart none asked minutes_is vac_is person_is board_is deadline vacancies_are persons_are few are =
-    let can = can-start h flight minutes vac is.offer.person is.offer.board made places apart may vac_is (person_is ∙ sym is.person) are few in
+offers-started h e flight later minutes vac p made is comes legal to lies may indexes apart none asked minutes_is vac_is person_is board_is deadline vacancies_are persons_are few are =
+    let can = can-start h flight minutes vac is.offer.person is.offer.board made indexes apart may vac_is (person_is ∙ sym is.person) are few in
     let most : minutes ≤ 480 = omega (arith, legal.opening.most, minutes_is) in
     offers-made h e flight later minutes vac made is.offer comes to none asked is.is vac_is
     (record {

@@ -12,37 +12,37 @@ use Rattle.std.specs.List.{slice_get, list_any, find}
 use Rattle.std.specs.Option.{option_map}
 use Rattle.pool_board.specs.Board.{BoardValue}
 use Rattle.pool_board.specs.Members.{persons as members_in}
-use Rattle.pool_board.specs.Places.{at_place}
-use Rattle.pool_board.proofs.PlaceLemmas.{at_place-from}
+use Rattle.pool_board.specs.Positions.{at_position}
+use Rattle.pool_board.proofs.PositionLemmas.{at_position-from}
 use Rattle.vacancy_fill.specs.Chain.{members_of}
 use Rattle.desk_model.specs.declared.limits.TheConstants.{BOARD_LIMIT}
 use Rattle.desk_model.specs.histories.History.{History}
 use Rattle.desk_model.specs.histories.Register.{persons, boards}
 use Rattle.desk_model.specs.boards.Boards.{is_on, boards_of, links, order}
 use Rattle.desk_model.specs.boards.Rank.{IsOnce}
-use Rattle.desk_register.specs.Among.{place_among, board_place}
+use Rattle.desk_register.specs.Among.{index_among, board_index}
 use Rattle.desk_register.proofs.PersonLemmas.{same}
-use Rattle.desk_state.specs.Places.{has_board, is_in}
+use Rattle.desk_state.specs.Words.{has_board, is_in}
 use Rattle.desk_state.specs.Lists.{KeepsLists, IsOnOne}
 use Rattle.desk_state.proofs.BitLemmas.{first-board, both-have}
-use Rattle.desk_state.proofs.PlacedLemmas.{board-at}
+use Rattle.desk_state.proofs.IndexedLemmas.{board-at}
 use Rattle.desk_state.proofs.ListLemmas.{get-within}
 
 -- ---- the members of a board
 
-pub members-are : (kept : List BoardValue) (listed : ℕ → ℕ → Bool) (h : History) (b : List ℕ) (j : ℕ) (v : BoardValue) → KeepsLists kept listed h → board_place (boards h) b ≡ Some j
+pub members-are : (kept : List BoardValue) (listed : ℕ → ℕ → Bool) (h : History) (b : List ℕ) (j : ℕ) (v : BoardValue) → KeepsLists kept listed h → board_index (boards h) b ≡ Some j
     → Some v ≡ slice_get kept j → members_in v.members ≡ order h b
 members-are kept listed h b j v keeps at is = ap (λ o. members_in (members_of o)) is ∙ keeps.order j b (board-at (boards h) b j at)
 
-pub is-kept : (kept : List BoardValue) (listed : ℕ → ℕ → Bool) (h : History) (b : List ℕ) (j : ℕ) → KeepsLists kept listed h → board_place (boards h) b ≡ Some j → None ≡ slice_get kept j → ⊥
+pub is-kept : (kept : List BoardValue) (listed : ℕ → ℕ → Bool) (h : History) (b : List ℕ) (j : ℕ) → KeepsLists kept listed h → board_index (boards h) b ≡ Some j → None ≡ slice_get kept j → ⊥
 is-kept kept listed h b j keeps at none =
     let low : j < length kept = omega (arith, slice_get_within (boards h) j b (board-at (boards h) b j at), keeps.few_boards, keeps.many) in
     false≢true (ap is_some none ∙ get-within kept j low)
 
-pub place-tells : (ps : List ℕ) (place : ℕ) → at_place ps (max place 1) ≡ slice_get ps (place - 1)
-place-tells ps place = let same_place : max place 1 - 1 ≡ place - 1 = omega arith in at_place-from ps (max place 1) (omega arith) ∙ ap (slice_get ps) same_place
+pub position-tells : (ps : List ℕ) (position : ℕ) → at_position ps (max position 1) ≡ slice_get ps (position - 1)
+position-tells ps position = let same_position : max position 1 - 1 ≡ position - 1 = omega arith in at_position-from ps (max position 1) (omega arith) ∙ ap (slice_get ps) same_position
 
--- ---- the place of a person
+-- ---- the position of a person
 
 number-other : (p q : ℕ) → nat_eq p q ≡ false → nat_eq q p ≡ false
 number-other p q other = grind (arith, nat_tests, other)
@@ -80,14 +80,14 @@ find-none b p (q ∷ ps) n out = go (nat_eq p q) refl out (find-none b p ps (n +
     go true is out rest = absurd (false≢true (sym out))
     go false is out rest = rw (number-other p q is) (rest out)
 
-pub found : (b : List ℕ) (p : ℕ) (ps : List ℕ) (place : Option ℕ) → IsOnce ps → IfSome place (λ k. at_place ps k ≡ Some p) → is_some place ≡ list_any (nat_eq p) ps
-    → find (λ link. nat_eq link.person p) (links b 1 ps) ≡ option_map (λ k. record { board = b; position = k; person = p }) place
+pub found : (b : List ℕ) (p : ℕ) (ps : List ℕ) (position : Option ℕ) → IsOnce ps → IfSome position (λ k. at_position ps k ≡ Some p) → is_some position ≡ list_any (nat_eq p) ps
+    → find (λ link. nat_eq link.person p) (links b 1 ps) ≡ option_map (λ k. record { board = b; position = k; person = p }) position
 found b p ps None once at listed = find-none b p ps 1 (sym listed)
 found b p ps (Some zero) once at listed = absurd (false≢true (ap is_some at))
 found b p ps (Some (suc k)) once at listed =
     let before : suc k - 1 ≡ k = omega arith in
     let next : 1 + k ≡ suc k = omega arith in
-    find-at b p ps 1 k once (ap (slice_get ps) (sym before) ∙ sym (at_place-from ps (suc k) (omega arith)) ∙ at) ∙ ap (λ i. Some (record { board = b; position = i; person = p })) next
+    find-at b p ps 1 k once (ap (slice_get ps) (sym before) ∙ sym (at_position-from ps (suc k) (omega arith)) ∙ at) ∙ ap (λ i. Some (record { board = b; position = i; person = p })) next
 
 -- ---- how many boards a person is on
 
@@ -102,7 +102,7 @@ ones-none (suc d) n none =
     even : (bit_at n 0 == 1) ≡ false → n % 2 ≡ 0
     even is = grind (arith, nat_tests, is, bit_at_lowest n)
 
--- as many bits are set as pass a test, where each bit says whether the one at its place does
+-- as many bits are set as pass a test, where each bit says whether the one at its index does
 ones-count : {X : Type 0} (test : X → Bool) (xs : List X) (d n : ℕ) → n ≤ d → ((j : ℕ) (x : X) → slice_get xs j ≡ Some x → (bit_at n j == 1) ≡ test x)
     → ((j : ℕ) → length xs ≤ j → (bit_at n j == 1) ≡ false) → ones_in d n ≡ length (filter test xs)
 unfolding ones_in
@@ -131,10 +131,10 @@ ones-are : (n : ℕ) → ones n ≡ ones_in n n
 unfolding ones
 ones-are n = refl
 
-pub boards-counted : (kept : List BoardValue) (words : List ℕ) (h : History) (p i word : ℕ) → KeepsLists kept (is_in words) h → place_among (persons h) p ≡ Some i → word < 2 ^ 64
+pub boards-counted : (kept : List BoardValue) (words : List ℕ) (h : History) (p i word : ℕ) → KeepsLists kept (is_in words) h → index_among (persons h) p ≡ Some i → word < 2 ^ 64
     → word ≡ slice_index_or words i 0 → ones word ≡ length (boards_of h p)
-boards-counted kept words h p i word keeps placed fits is = ones-are word ∙ ones-count (is_on h p) (boards h) word word (omega arith)
-    (λ j b at. bit j (omega (arith, slice_get_within (boards h) j b at, keeps.few_boards)) ∙ ap (λ w. has_board w j) is ∙ keeps.on p i j b placed at)
+boards-counted kept words h p i word keeps indexed fits is = ones-are word ∙ ones-count (is_on h p) (boards h) word word (omega arith)
+    (λ j b at. bit j (omega (arith, slice_get_within (boards h) j b at, keeps.few_boards)) ∙ ap (λ w. has_board w j) is ∙ keeps.on p i j b indexed at)
     (λ j past. elim (cases_lt j BOARD_LIMIT) [
       | inl low ↦ bit j low ∙ ap (λ w. has_board w j) is ∙ keeps.nowhere i j past
       | inr high ↦ ap (λ k. k == 1) (bit_at_above word 64 j fits high)
@@ -145,9 +145,9 @@ boards-counted kept words h p i word keeps placed fits is = ones-are word ∙ on
 
 -- ---- on one of some boards
 
-pub on-one : (kept : List BoardValue) (words : List ℕ) (h : History) (p i searched : ℕ) → KeepsLists kept (is_in words) h → searched < 2 ^ 64 → place_among (persons h) p ≡ Some i
+pub on-one : (kept : List BoardValue) (words : List ℕ) (h : History) (p i searched : ℕ) → KeepsLists kept (is_in words) h → searched < 2 ^ 64 → index_among (persons h) p ≡ Some i
     → not (bit_and (slice_index_or words i 0) searched == 0) ≡ true → IsOnOne h p searched
-on-one kept words h p i searched keeps fits placed some =
+on-one kept words h p i searched keeps fits indexed some =
     let word = slice_index_or words i 0 in
     let both = bit_and word searched in
     let above : 0 < both = grind (arith, nat_tests, some) in
@@ -160,4 +160,4 @@ on-one kept words h p i searched keeps fits placed some =
     go j listed has None at =
         let past : length (boards h) ≤ j = omega (arith, λ (low : j < length (boards h)). false≢true (ap is_some (sym at) ∙ get-within (boards h) j low)) in
         absurd (false≢true (sym (keeps.nowhere i j past) ∙ listed))
-    go j listed has (Some b) at = record { place = j; board = b; at = at; has = has; on_it = sym (keeps.on p i j b placed at) ∙ listed }
+    go j listed has (Some b) at = record { index = j; board = b; at = at; has = has; on_it = sym (keeps.on p i j b indexed at) ∙ listed }

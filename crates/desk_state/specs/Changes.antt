@@ -10,8 +10,8 @@ use Rattle.desk_model.specs.declared.limits.TheConstants.{BOARD_LIMIT, MEMBER_LI
 use Rattle.desk_model.specs.declared.command.Cmd.{Cmd}
 use Rattle.desk_model.specs.declared.command.Cmd.TheVariants as cmd
 use Rattle.desk_model.specs.offers.Offers.{is_of}
-use Rattle.desk_state.specs.Places.{has_board, set_at}
-use Rattle.desk_state.specs.declared.named.Named.{Named}
+use Rattle.desk_state.specs.Words.{has_board, set_at}
+use Rattle.desk_state.specs.declared.named_indexes.NamedIndexes.{NamedIndexes}
 
 -- the event is a final release at this place
 abbrev pub is_final_at : List ℕ → Event → Bool
@@ -55,8 +55,8 @@ abbrev pub IsThen : Bool → (BoardValue → BoardValue → Type 0) → BoardVal
 IsThen false Becomes b x = x ≡ b
 IsThen true Becomes b x = Becomes b x
 
--- what the board at a place becomes by a command, where the word has the boards of the person whom it names
-abbrev pub BecomesBy : Cmd → Named → ℕ → ℕ → BoardValue → BoardValue → Type 0
+-- what the board at an index becomes by a command, where the word has the boards of the person whom it names
+abbrev pub BecomesBy : Cmd → NamedIndexes → ℕ → ℕ → BoardValue → BoardValue → Type 0
 BecomesBy (cmd.Board board extra place) n word j b x = IsThen (is_of j n.board) (SetsUp extra place) b x
 BecomesBy (cmd.List p board) n word j b x = IsThen (is_of j n.board) (TakesOn p n.ready) b x
 BecomesBy (cmd.Unlist p board) n word j b x = IsThen (is_of j n.board) (LetsGo p) b x
@@ -72,21 +72,21 @@ EachBecomes Becomes old new = (j : ℕ) (b : BoardValue) → slice_get old j ≡
 
 -- ---- who is on which
 
--- whether the person at one place is on the board at another after a command, where they were so before
+-- whether the person at one index is on the board at another after a command, where they were so before
 abbrev pub put_by_both : Cmd → Option ℕ → Option ℕ → ℕ → ℕ → Bool → Bool
 put_by_both (cmd.List p board) (Some person) (Some at) i j was = set_at person at true i j was
 put_by_both (cmd.Unlist p board) (Some person) (Some at) i j was = set_at person at false i j was
 put_by_both other person at i j was = was
 
-abbrev pub put_by : Cmd → Named → ℕ → ℕ → Bool → Bool
+abbrev pub put_by : Cmd → NamedIndexes → ℕ → ℕ → Bool → Bool
 put_by c n i j was = put_by_both c n.person n.board i j was
 
--- the places that are named are among those of so many persons, and of the boards
-abbrev pub AreWithin : ℕ → Named → Type 0
+-- the indexes that are named are among those of so many persons, and of the boards
+abbrev pub AreWithin : ℕ → NamedIndexes → Type 0
 AreWithin many n = IfSome n.person (λ i. i < many) × IfSome n.board (λ j. j < BOARD_LIMIT)
 
 -- they are for a command that puts somebody on a board or takes them off
-abbrev pub HasRoom : Cmd → ℕ → Named → Type 0
+abbrev pub HasRoom : Cmd → ℕ → NamedIndexes → Type 0
 HasRoom (cmd.List p board) many n = AreWithin many n
 HasRoom (cmd.Unlist p board) many n = AreWithin many n
 HasRoom other many n = ⊤

@@ -8,10 +8,10 @@ use Rattle.person_clock.specs.Clock.{ClockValue, Stands, MayTake}
 use Rattle.desk_model.specs.histories.History.{History}
 use Rattle.desk_model.specs.histories.Register.{person_of, persons}
 use Rattle.desk_model.specs.histories.Duty.{events}
-use Rattle.desk_register.specs.Among.{place_among}
+use Rattle.desk_register.specs.Among.{index_among}
 use Rattle.desk_state.specs.declared.duty.Duty.{Duty}
 
--- the clocks of a desk's persons, by their places
+-- the clocks of a desk's persons, by their indexes
 abbrev pub clocks_of : Duty → List ClockValue
 clocks_of d = d.clocks.items
 
@@ -25,10 +25,10 @@ pub record IsClock (c : ClockValue) (h : History) (p : ℕ) : Type 0 where
   pub window : c.window ≡ h.opening.window
   pub home : option_map (λ x. x.home) (person_of h p) ≡ Some c.home
 
--- at the place of each person is their clock, and who isn't enrolled did nothing
+-- at the index of each person is their clock, and who isn't enrolled did nothing
 pub record AreClocks (clocks : List ClockValue) (h : History) : Type 0 where
-  pub each : (p i : ℕ) → place_among (persons h) p ≡ Some i → (c : ClockValue) × ((slice_get clocks i ≡ Some c) × IsClock c h p)
-  pub none : (p : ℕ) → place_among (persons h) p ≡ None → events h p ≡ []
+  pub each : (p i : ℕ) → index_among (persons h) p ≡ Some i → (c : ClockValue) × ((slice_get clocks i ≡ Some c) × IsClock c h p)
+  pub none : (p : ℕ) → index_among (persons h) p ≡ None → events h p ≡ []
   pub many : length clocks ≡ length (persons h)
 
 -- ---- one event more, and one person more
@@ -39,7 +39,7 @@ pub record HasTaken (c later : ClockValue) (t : Event) : Type 0 where
   pub home : later.home ≡ c.home
   pub stands : (es : List Event) → Stands c es → Stands later (es ++ t ∷ [])
 
--- so has the one at this place, and no other changes
+-- so has the one at this index, and no other changes
 abbrev pub Tells : ℕ → Event → List ClockValue → List ClockValue → Type 0
 Tells i t clocks later = (c : ClockValue) → slice_get clocks i ≡ Some c → MayTake c t → (x : ClockValue) × ((later ≡ slice_set clocks i x) × HasTaken c x t)
 

@@ -7,15 +7,15 @@ use Rattle.desk_model.specs.histories.Register.{person_of, board_of, persons, bo
 use Rattle.desk_model.specs.boards.Boards.{is_on, order}
 use Rattle.desk_model.specs.laws.Comes.{Comes}
 use Rattle.desk_model.specs.laws.RestsOn.{RestsOn, IsListed}
-use Rattle.desk_register.specs.Among.{place_among, board_place}
+use Rattle.desk_register.specs.Among.{index_among, board_index}
 
 -- what the entry makes of the desk, and what it rests on where its command is done; who is on a board is enrolled, and the board was
--- set up; a board that wasn't has nobody; an order has just those who are on the board; and who is enrolled has a place, and each board
+-- set up; a board that wasn't has nobody; an order has just those who are on the board; and who is enrolled has an index, and each board
 pub record Laws (h : History) (e : EntryValue) : Type 0 where
   pub comes : Comes h e
   pub rests : is_done e.reply ≡ true → RestsOn h e.stated.cmd
   pub listed : (p : ℕ) (b : List ℕ) → is_on h p b ≡ true → IsListed h p b
   pub empty : (b : List ℕ) → board_of h b ≡ None → order h b ≡ []
   pub those : (b : List ℕ) (p : ℕ) → list_any (nat_eq p) (order h b) ≡ is_on h p b
-  pub persons_placed : (p : ℕ) → is_some (place_among (persons h) p) ≡ is_some (person_of h p)
-  pub boards_placed : (b : List ℕ) → is_some (board_place (boards h) b) ≡ is_some (board_of h b)
+  pub persons_indexed : (p : ℕ) → is_some (index_among (persons h) p) ≡ is_some (person_of h p)
+  pub boards_indexed : (b : List ℕ) → is_some (board_index (boards h) b) ≡ is_some (board_of h b)

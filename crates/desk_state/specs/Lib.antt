@@ -4,7 +4,7 @@ pub mod OfferTold
 pub mod OpenOffers
 pub mod Holds
 pub mod Keeps
-pub mod Places
+pub mod Words
 pub mod Changes
 pub mod Lists
 pub mod Laws

@@ -16,10 +16,10 @@ use Rattle.desk_model.specs.histories.Register.{board_of, persons, boards, sets_
 use Rattle.desk_model.specs.offers.Offers.{open_offer}
 use Rattle.desk_model.specs.boards.Boards.{is_on, order}
 use Rattle.desk_model.specs.histories.Duty.{events, in_tour}
-use Rattle.desk_register.specs.Among.{place_among, board_place}
-use Rattle.desk_state.specs.Places.{has_board, is_in}
-use Rattle.desk_state.specs.declared.named.Named.{Named}
-use Rattle.desk_state.specs.declared.named.TheConstants.{NEVER}
+use Rattle.desk_register.specs.Among.{index_among, board_index}
+use Rattle.desk_state.specs.Words.{has_board, is_in}
+use Rattle.desk_state.specs.declared.named_indexes.NamedIndexes.{NamedIndexes}
+use Rattle.desk_state.specs.declared.named_indexes.TheConstants.{NEVER}
 use Rattle.desk_state.specs.declared.lists.Lists.{Lists}
 
 -- the minute from which a person is ready: the last that there is in a tour of duty, and else the end of their rest
@@ -31,7 +31,7 @@ abbrev pub setup_of : BoardValue → BoardSetup
 setup_of x = record { extra = x.extra; place = x.place }
 
 -- of 64 boards the first are the desk's, as they were set up: each has its members in its order, each of them ready from their minute,
--- and the others have none; who is on which board is kept by the places of both; and no board was set up twice
+-- and the others have none; who is on which board is kept by the indexes of both; and no board was set up twice
 pub record KeepsLists (kept : List BoardValue) (listed : ℕ → ℕ → Bool) (h : History) : Type 0 where
   pub many : length kept ≡ BOARD_LIMIT
   pub few_persons : length (persons h) ≤ PERSON_LIMIT
@@ -40,7 +40,7 @@ pub record KeepsLists (kept : List BoardValue) (listed : ℕ → ℕ → Bool) (
   pub empty : (j : ℕ) → length (boards h) ≤ j → members_at kept j ≡ []
   pub ready : (j p r : ℕ) → ready_of p (members_at kept j) ≡ Some r → r ≡ ready_minute h p
   pub setup : (j : ℕ) (b : List ℕ) → slice_get (boards h) j ≡ Some b → board_of h b ≡ option_map setup_of (slice_get kept j)
-  pub on : (p i j : ℕ) (b : List ℕ) → place_among (persons h) p ≡ Some i → slice_get (boards h) j ≡ Some b → listed i j ≡ is_on h p b
+  pub on : (p i j : ℕ) (b : List ℕ) → index_among (persons h) p ≡ Some i → slice_get (boards h) j ≡ Some b → listed i j ≡ is_on h p b
   pub nobody : (i j : ℕ) → length (persons h) ≤ i → listed i j ≡ false
   pub nowhere : (i j : ℕ) → length (boards h) ≤ j → listed i j ≡ false
   pub apart : (i j : ℕ) (b : List ℕ) → slice_get (boards h) i ≡ Some b → slice_get (boards h) j ≡ Some b → i ≡ j
@@ -58,16 +58,16 @@ pub record Keeps (l : Lists) (h : History) : Type 0 where
   pub lists : KeepsLists (boards_kept l) (is_in (words_kept l)) h
   pub words : length (words_kept l) ≡ PERSON_LIMIT
 
--- the person at this place is kept as on one of the boards of the word
+-- the person at this index is kept as on one of the boards of the word
 abbrev pub is_on_one : Lists → ℕ → ℕ → Bool
 is_on_one l i boards = not (bit_and (slice_index_or (words_kept l) i 0) boards == 0)
 
 -- the person is on a board that the word has
 pub record IsOnOne (h : History) (p word : ℕ) : Type 0 where
-  pub place : ℕ
+  pub index : ℕ
   pub board : List ℕ
-  pub at : slice_get (boards h) place ≡ Some board
-  pub has : has_board word place ≡ true
+  pub at : slice_get (boards h) index ≡ Some board
+  pub has : has_board word index ≡ true
   pub on_it : is_on h p board ≡ true
 
 -- ---- what an entry names
@@ -89,9 +89,9 @@ mover_board h (cmd.Unlist person board) = Some board
 mover_board h (cmd.Decline vac person) = option_map (λ x. x.board) (open_offer h vac)
 mover_board h other = None
 
--- these are their places, and the minute from which the person is ready after the entry
-pub record Names (h : History) (e : EntryValue) (n : Named) : Type 0 where
-  pub person : (p : ℕ) → said mover e ≡ Some p → n.person ≡ place_among (persons h) p
-  pub board : (b : List ℕ) → said (mover_board h) e ≡ Some b → n.board ≡ board_place (boards h) b
+-- these are their indexes, and the minute from which the person is ready after the entry
+pub record Names (h : History) (e : EntryValue) (n : NamedIndexes) : Type 0 where
+  pub person : (p : ℕ) → said mover e ≡ Some p → n.person ≡ index_among (persons h) p
+  pub board : (b : List ℕ) → said (mover_board h) e ≡ Some b → n.board ≡ board_index (boards h) b
   pub set_up : (b : List ℕ) → said sets_up_any e ≡ Some b → n.board ≡ Some (length (boards h))
   pub ready : (p : ℕ) → said mover e ≡ Some p → n.ready ≡ ready_minute (with_entry h e) p

@@ -8,12 +8,12 @@ use Rattle.desk_model.specs.declared.offer.Offer.{Offer}
 use Rattle.desk_model.specs.histories.History.{History}
 use Rattle.desk_model.specs.histories.Register.{person_of, boards}
 use Rattle.desk_model.specs.offers.Offers.{open_offer, on_offer}
-use Rattle.desk_register.specs.Among.{board_place}
+use Rattle.desk_register.specs.Among.{board_index}
 
--- what is kept is this offer: the same person, its board by the place among all, and the end of the minutes for an answer
+-- what is kept is this offer: the same person, its board by the index among all, and the end of the minutes for an answer
 pub record IsSame (codes : List (List ℕ)) (minutes : ℕ) (kept : InFlight) (offer : Offer) : Type 0 where
   pub person : kept.person ≡ offer.person
-  pub board : board_place codes offer.board ≡ Some kept.board
+  pub board : board_index codes offer.board ≡ Some kept.board
   pub deadline : kept.deadline ≡ offer.made + minutes
 
 -- an offer is kept just where one is open, and is that one

@@ -3,32 +3,32 @@ ghost use Rattle.std.specs.Prelude.{◌≡◌, ◌<◌, ◌||◌, ℕ, false};
 ghost use Rattle.pool_board.specs.Board.{BoardValue};
 ghost use Rattle.desk_model.specs.declared.limits.TheConstants.{BOARD_LIMIT};
 ghost use Rattle.desk_model.specs.offers.Offers.{is_of};
-ghost use Rattle.desk_state.specs.Places.{has_board};
+ghost use Rattle.desk_state.specs.Words.{has_board};
 ghost use Rattle.desk_state.specs.Changes.{is_final_at, IsThen, SetsUp, TakesOn, LetsGo, Moves, BecomesBy};
-ghost use Rattle.desk_state.specs.declared.named.Named.{Named as NamedValue};
+ghost use Rattle.desk_state.specs.declared.named_indexes.NamedIndexes.{NamedIndexes as NamedValue};
 
 use crate::listings::with_board;
-use crate::named::Named;
-use desk_base::{Code, Minute, PersonNo, PlaceHints};
+use crate::named_indexes::NamedIndexes;
+use desk_base::{Code, Minute, PersonNo, IndexHints};
 use desk_model::{BOARD_LIMIT, Cmd};
 use duty_events::Event;
 use pool_board::Board;
 
-// Whether this is the place.
-fn is_here(place: usize, named: Option<usize>) -> bool
-    ensures { result ≡ is_of place named }
+// Whether this is the index.
+fn is_here(index: usize, named: Option<usize>) -> bool
+    ensures { result ≡ is_of index named }
 {
     match named {
-        Some(other) => other == place,
+        Some(other) => other == index,
         None => false,
     }
 }
 
-/// Whether the word has the board at this place.
-pub(crate) fn has_board(word: u64, place: usize) -> bool
-    ensures { result ≡ has_board word place }
+/// Whether the word has the board at this index.
+pub(crate) fn has_board(word: u64, index: usize) -> bool
+    ensures { result ≡ has_board word index }
 {
-    place < BOARD_LIMIT && (word >> place) & 1 == 1
+    index < BOARD_LIMIT && (word >> index) & 1 == 1
 }
 
 // Whether the event is a final release at this place.
@@ -51,7 +51,7 @@ fn set_up(board: &mut Board, here: bool, place: Code, extra: bool)
 }
 
 // Puts the person at its bottom here, where they aren't listed.
-fn take_on(board: &mut Board, hints: &mut PlaceHints, here: bool, person: PersonNo, ready: Minute)
+fn take_on(board: &mut Board, hints: &mut IndexHints, here: bool, person: PersonNo, ready: Minute)
     ensures { IsThen here (TakesOn person ready) board.old board.new }
 {
     if here && !board.has(person, hints) {
@@ -60,7 +60,7 @@ fn take_on(board: &mut Board, hints: &mut PlaceHints, here: bool, person: Person
 }
 
 // Takes the person off here.
-fn let_go(board: &mut Board, hints: &PlaceHints, here: bool, person: PersonNo)
+fn let_go(board: &mut Board, hints: &IndexHints, here: bool, person: PersonNo)
     ensures { IsThen here (LetsGo person) board.old board.new }
 {
     if here && board.has(person, hints) {
@@ -71,7 +71,7 @@ fn let_go(board: &mut Board, hints: &PlaceHints, here: bool, person: PersonNo)
 // Makes the person ready from the minute here, and sends them to the bottom if so asked.
 fn move_on(
     board: &mut Board,
-    hints: &mut PlaceHints,
+    hints: &mut IndexHints,
     here: bool,
     last: bool,
     person: PersonNo,
@@ -106,7 +106,7 @@ pub(crate) fn changes_boards(cmd: &Cmd) -> bool
 }
 
 /// The board that is named, and those of the word: no command changes others.
-pub(crate) fn touched(named: &Named, word: u64) -> u64
+pub(crate) fn touched(named: &NamedIndexes, word: u64) -> u64
     ensures { (j : ℕ) → j < BOARD_LIMIT → has_board result j ≡ (is_of j named.now.board || has_board word j) }
 {
     match named.board {
@@ -115,20 +115,20 @@ pub(crate) fn touched(named: &Named, word: u64) -> u64
     }
 }
 
-/// Makes of the board at this place what a command makes of it that was done; `word` has the boards of the person whom it
+/// Makes of the board at this index what a command makes of it that was done; `word` has the boards of the person whom it
 /// names.
 pub(crate) fn change_board(
     board: &mut Board,
-    hints: &mut PlaceHints,
-    place: usize,
+    hints: &mut IndexHints,
+    index: usize,
     cmd: &Cmd,
-    named: &Named,
+    named: &NamedIndexes,
     word: u64,
 )
-    ensures { BecomesBy cmd.now named.now word place board.old board.new }
+    ensures { BecomesBy cmd.now named.now word index board.old board.new }
 {
-    let here = is_here(place, named.board);
-    let theirs = has_board(word, place);
+    let here = is_here(index, named.board);
+    let theirs = has_board(word, index);
     let ready = named.ready;
     match cmd {
         Cmd::Board { extra, place, .. } => set_up(board, here, *place, *extra),

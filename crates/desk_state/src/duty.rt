@@ -6,7 +6,7 @@ ghost use Rattle.desk_model.specs.statements.Opening.{OpeningValue};
 ghost use Rattle.desk_model.specs.histories.History.{History, opened, with_entry, said};
 ghost use Rattle.desk_model.specs.histories.Register.{persons};
 ghost use Rattle.desk_model.specs.histories.Legal.{IsLegal, IsNext};
-ghost use Rattle.desk_register.specs.Among.{place_among};
+ghost use Rattle.desk_register.specs.Among.{index_among};
 ghost use Rattle.desk_state.specs.DutyTold.{teller, home_of, told_event};
 
 use desk_base::{Code, NoMemory, Window};
@@ -14,7 +14,7 @@ use desk_model::{
     Cmd, Entry, PERSON_LIMIT, what_an_entry_makes_of_the_desk, what_is_done_rests_on,
     what_is_told_may_follow,
 };
-use desk_register::who_is_enrolled_has_a_place;
+use desk_register::who_is_enrolled_has_an_index;
 use duty_events::{Event, may_follow_in_words};
 use person_clock::PersonClock;
 use std::alloc::Global;
@@ -73,11 +73,11 @@ impl Duty {
         })
     }
 
-    /// The clock of the person at this place among all; `None` where there are fewer.
-    pub fn clock(&self, place: usize) -> Option<&PersonClock>
-        ensures { option_copied result ≡ slice_get (clocks_of self.now) place }
+    /// The clock of the person at this index among all; `None` where there are fewer.
+    pub fn clock(&self, index: usize) -> Option<&PersonClock>
+        ensures { option_copied result ≡ slice_get (clocks_of self.now) index }
     {
-        self.clocks.get(place)
+        self.clocks.get(index)
     }
 
     // A clock for one person more, where there is room.
@@ -94,24 +94,24 @@ impl Duty {
         }
     }
 
-    // The clock at this place takes in the event, where it may.
-    fn tell(&mut self, place: usize, event: &Event)
-        ensures clocks { Tells place event.now (clocks_of self.old) (clocks_of self.new) }
+    // The clock at this index takes in the event, where it may.
+    fn tell(&mut self, index: usize, event: &Event)
+        ensures clocks { Tells index event.now (clocks_of self.old) (clocks_of self.new) }
         ensures window { window_of self.new ≡ window_of self.old }
     {
-        if place >= self.clocks.len() {
+        if index >= self.clocks.len() {
             return;
         }
-        if self.clocks[place].may_take(event) {
-            self.clocks[place].apply(*event);
+        if self.clocks[index].may_take(event) {
+            self.clocks[index].apply(*event);
         }
     }
 
     /// Keeps what the next entry of a legal history tells: a clock more of whom it enrols, and the event that it tells of
-    /// somebody. `place` is the person's among all; it isn't looked at where the entry tells no event.
-    pub fn keep(&mut self, entry: &Entry, place: Option<usize>)
+    /// somebody. `index` is the person's among all; it isn't looked at where the entry tells no event.
+    pub fn keep(&mut self, entry: &Entry, index: Option<usize>)
         ensures clocks { (h : History) → IsLegal h → IsNext h entry.now → window_of self.old ≡ h.opening.window
-            → ((p : ℕ) → said teller entry.now ≡ Some p → place ≡ place_among (persons h) p)
+            → ((p : ℕ) → said teller entry.now ≡ Some p → index ≡ index_among (persons h) p)
             → AreClocks (clocks_of self.old) h → AreClocks (clocks_of self.new) (with_entry h entry.now) }
         ensures window { window_of self.new ≡ window_of self.old }
     {
@@ -119,7 +119,7 @@ impl Duty {
         what_is_told_may_follow();
         may_follow_in_words();
         what_is_done_rests_on();
-        who_is_enrolled_has_a_place();
+        who_is_enrolled_has_an_index();
         if let Some(home) = home_of(entry) {
             self.enrol(home);
             return;
@@ -127,10 +127,10 @@ impl Duty {
         let Some(event) = told_event(entry) else {
             return;
         };
-        let Some(place) = place else {
+        let Some(index) = index else {
             return;
         };
-        self.tell(place, &event);
+        self.tell(index, &event);
     }
 }
 

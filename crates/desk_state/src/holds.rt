@@ -5,8 +5,8 @@ use desk_base::{Minute, NoMemory};
 use desk_model::{BOARD_LIMIT, PERSON_LIMIT};
 use std::alloc::Global;
 
-// Until when each of 1,000 persons is held by each of 64 boards, by their places: the boards of one person after those of
-// another, up to the last place at which somebody is held. There is memory for all.
+// Until when each of 1,000 persons is held by each of 64 boards, by their indexes: the boards of one person after those of
+// another, up to the last index at which somebody is held. There is memory for all.
 #[derive(Drop)]
 pub(crate) struct Holds {
     pub(crate) ends: Vec<Minute>,
@@ -34,8 +34,8 @@ impl Holds {
         Ok(Holds { ends })
     }
 
-    /// Until when the person at this place is held by the board at this one; the first minute of all where they aren't, or have
-    /// no such places.
+    /// Until when the person at this index is held by the board at this one; the first minute of all where they aren't, or have
+    /// no such indexes.
     pub(crate) fn end(&self, person: usize, board: usize) -> Minute
         ensures { result ≡ end_at self.now person board }
     {
@@ -48,18 +48,18 @@ impl Holds {
         }
     }
 
-    // Keeps the ends up to a place, of which those that were not kept are the first minute of all.
-    fn reach(&mut self, place: usize)
-        requires { place < PERSON_LIMIT * BOARD_LIMIT }
-        ensures reached { place < length self.new.ends.items }
+    // Keeps the ends up to an index, of which those that were not kept are the first minute of all.
+    fn reach(&mut self, index: usize)
+        requires { index < PERSON_LIMIT * BOARD_LIMIT }
+        ensures reached { index < length self.new.ends.items }
         ensures same { (i : ℕ) → slice_index self.new.ends.items i ≡ slice_index self.old.ends.items i }
     {
-        if self.ends.len() <= place {
-            let _reached = self.ends.resize(place + 1, Minute::FIRST);
+        if self.ends.len() <= index {
+            let _reached = self.ends.resize(index + 1, Minute::FIRST);
         }
     }
 
-    /// Holds the person at this place until then by the board at this one, where they aren't held for longer. Of places that there are
+    /// Holds the person at this index until then by the board at this one, where they aren't held for longer. Of indexes that there are
     /// not nothing is kept.
     pub(crate) fn hold(&mut self, person: usize, board: usize, until: Minute)
         ensures held { person < PERSON_LIMIT → board < BOARD_LIMIT → (i j : ℕ) → end_at self.new i j
@@ -70,11 +70,11 @@ impl Holds {
         if person >= PERSON_LIMIT || board >= BOARD_LIMIT {
             return;
         }
-        let place = person * BOARD_LIMIT + board;
-        self.reach(place);
-        let now = self.ends[place];
+        let index = person * BOARD_LIMIT + board;
+        self.reach(index);
+        let now = self.ends[index];
         if now < until {
-            self.ends[place] = until;
+            self.ends[index] = until;
         }
     }
 }

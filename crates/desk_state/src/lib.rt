@@ -8,7 +8,7 @@ mod holds;
 mod laws;
 mod listings;
 mod lists;
-mod named;
+mod named_indexes;
 mod offers;
 mod orders;
 
@@ -16,5 +16,5 @@ pub use duty::Duty;
 pub use laws::who_is_kept_on_a_board_is_on_it;
 pub use listings::with_board;
 pub use lists::Lists;
-pub use named::{NEVER, Named, the_last_minute};
+pub use named_indexes::{NEVER, NamedIndexes, the_last_minute};
 pub use offers::Offers;

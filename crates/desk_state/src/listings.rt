@@ -1,9 +1,9 @@
 ghost use Rattle.std.specs.Prelude.{◌≡◌, ℕ, ◌<◌, nat_eq, IfOk, true, false, length, if◌then◌else◌};
 ghost use Rattle.desk_model.specs.declared.limits.TheConstants.{PERSON_LIMIT, BOARD_LIMIT};
-ghost use Rattle.desk_state.specs.Places.{has_board, word_of, is_in, set_at};
+ghost use Rattle.desk_state.specs.Words.{has_board, word_of, is_in, set_at};
 ghost use Rattle.desk_state.specs.Changes.{put_by, HasRoom};
 
-use crate::named::Named;
+use crate::named_indexes::NamedIndexes;
 use desk_base::NoMemory;
 use desk_model::{BOARD_LIMIT, Cmd, PERSON_LIMIT};
 use std::alloc::Global;
@@ -14,7 +14,7 @@ pub(crate) struct Listings {
     pub(crate) words: Vec<u64>,
 }
 
-/// The first place at which a word has a board, of a word that has one.
+/// The first index at which a word has a board, of a word that has one.
 pub(crate) fn first_board(word: u64) -> usize
     requires { 0 < word }
     ensures range { result < BOARD_LIMIT }
@@ -23,7 +23,7 @@ pub(crate) fn first_board(word: u64) -> usize
     word.trailing_zeros() as usize
 }
 
-/// The word with the board at this place, below 64, or without it.
+/// The word with the board at this index, below 64, or without it.
 pub fn with_board(word: u64, board: usize, on: bool) -> u64
     requires { board < BOARD_LIMIT }
     ensures lesser { on ≡ false → has_board word board ≡ true → result < word }
@@ -53,20 +53,20 @@ impl Listings {
         Ok(Listings { words })
     }
 
-    /// The boards of the person at this place; none where there is nobody.
+    /// The boards of the person at this index; none where there is nobody.
     pub(crate) fn of(&self, person: Option<usize>) -> u64
         ensures { result ≡ word_of self.now.words.items person }
     {
-        let Some(place) = person else {
+        let Some(index) = person else {
             return 0;
         };
-        match self.words.get(place) {
+        match self.words.get(index) {
             Some(word) => *word,
             None => 0,
         }
     }
 
-    // Sets whether the person at one place is on the board at another.
+    // Sets whether the person at one index is on the board at another.
     fn set(&mut self, person: usize, board: usize, on: bool)
         ensures many { length self.new.words.items ≡ length self.old.words.items }
         ensures each { person < length self.old.words.items → board < BOARD_LIMIT → (i j : ℕ)
@@ -78,7 +78,7 @@ impl Listings {
     }
 
     /// Keeps whom a command puts on a board that was done, and whom it takes off.
-    pub(crate) fn change(&mut self, cmd: &Cmd, named: &Named)
+    pub(crate) fn change(&mut self, cmd: &Cmd, named: &NamedIndexes)
         ensures many { length self.new.words.items ≡ length self.old.words.items }
         ensures each { HasRoom cmd.now (length self.old.words.items) named.now → (i j : ℕ)
             → is_in self.new.words.items i j ≡ put_by cmd.now named.now i j (is_in self.old.words.items i j) }

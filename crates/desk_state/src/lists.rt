@@ -4,8 +4,8 @@ ghost use Rattle.std.specs.Option.{option_map, option_copied};
 ghost use Rattle.desk_model.specs.histories.History.{History, opened, with_entry};
 ghost use Rattle.desk_model.specs.histories.Register.{persons, boards};
 ghost use Rattle.desk_model.specs.boards.Boards.{is_on, boards_of, links, order};
-ghost use Rattle.desk_model.specs.answers.LookAnswer.{member_at};
-ghost use Rattle.desk_register.specs.Among.{place_among, board_place};
+ghost use Rattle.desk_model.specs.answers.QuestionAnswer.{member_at};
+ghost use Rattle.desk_register.specs.Among.{index_among, board_index};
 ghost use Rattle.desk_state.specs.Lists.{boards_kept, Keeps, is_on_one, Names};
 ghost use Rattle.desk_model.specs.statements.Opening.{OpeningValue};
 ghost use Rattle.desk_model.specs.statements.Entry.{EntryValue};
@@ -15,7 +15,7 @@ ghost use Rattle.desk_register.specs.Done.{IsDone};
 use crate::board_changes::has_board;
 use crate::laws::what_the_lists_rest_on;
 use crate::listings::Listings;
-use crate::named::Named;
+use crate::named_indexes::NamedIndexes;
 use crate::orders::Orders;
 use desk_base::{NoMemory, PersonNo};
 use desk_model::{Cmd, Entry, order_is_by_rank};
@@ -23,7 +23,7 @@ use pool_board::Board;
 use std::alloc::Global;
 
 /// The boards of a desk, each with its members in order and the minute from which each is ready, and for each person the
-/// boards that they are on. Persons and boards go by their places among all, from 0.
+/// boards that they are on. Persons and boards go by their indexes among all, from 0.
 pub struct Lists {
     pub(crate) orders: Orders,
     pub(crate) listings: Listings,
@@ -37,39 +37,39 @@ impl Lists {
         &self.orders.boards
     }
 
-    // The board at this place among all.
-    fn board(&self, place: usize) -> Option<&Board>
-        ensures { option_copied result ≡ slice_get (boards_kept self.now) place }
+    // The board at this index among all.
+    fn board(&self, index: usize) -> Option<&Board>
+        ensures { option_copied result ≡ slice_get (boards_kept self.now) index }
     {
-        self.orders.boards.get(place)
+        self.orders.boards.get(index)
     }
 
-    /// Whether the person at one place among all is on the board at another.
+    /// Whether the person at one index among all is on the board at another.
     pub fn is_on(&self, person: usize, board: usize) -> bool
-        ensures { (h : History) (p : ℕ) (b : List ℕ) → Keeps self.now h → place_among (persons h) p ≡ Some person
-            → board_place (boards h) b ≡ Some board → result ≡ is_on h p b }
+        ensures { (h : History) (p : ℕ) (b : List ℕ) → Keeps self.now h → index_among (persons h) p ≡ Some person
+            → board_index (boards h) b ≡ Some board → result ≡ is_on h p b }
     {
         has_board(self.listings.of(Some(person)), board)
     }
 
-    /// Whether the person at this place among all is on one of the boards that the word has, each as a bit by its place among all.
+    /// Whether the person at this index among all is on one of the boards that the word has, each as a bit by its index among all.
     pub fn is_on_one(&self, person: usize, boards: u64) -> bool
         ensures { result ≡ is_on_one self.now person boards }
     {
         self.listings.of(Some(person)) & boards != 0
     }
 
-    /// On how many boards the person at this place among all is.
+    /// On how many boards the person at this index among all is.
     pub fn list_count(&self, person: usize) -> usize
-        ensures { (h : History) (p : ℕ) → Keeps self.now h → place_among (persons h) p ≡ Some person
+        ensures { (h : History) (p : ℕ) → Keeps self.now h → index_among (persons h) p ≡ Some person
             → result ≡ length (boards_of h p) }
     {
         self.listings.of(Some(person)).count_ones() as usize
     }
 
-    /// How many persons are on the board at this place among all.
+    /// How many persons are on the board at this index among all.
     pub fn member_count(&self, board: usize) -> u16
-        ensures { (h : History) (b : List ℕ) → Keeps self.now h → board_place (boards h) b ≡ Some board
+        ensures { (h : History) (b : List ℕ) → Keeps self.now h → board_index (boards h) b ≡ Some board
             → result ≡ length (order h b) }
     {
         match self.board(board) {
@@ -78,17 +78,17 @@ impl Lists {
         }
     }
 
-    /// Who stands at a place of the board, from 1; 0 tells the same as 1. `None` where nobody does.
-    pub fn member_at(&self, board: usize, place: u16) -> Option<PersonNo>
-        ensures { (h : History) (b : List ℕ) → Keeps self.now h → board_place (boards h) b ≡ Some board
-            → result ≡ member_at h b place }
+    /// Who stands at a position of the board, from 1; 0 tells the same as 1. `None` where nobody does.
+    pub fn member_at(&self, board: usize, position: u16) -> Option<PersonNo>
+        ensures { (h : History) (b : List ℕ) → Keeps self.now h → board_index (boards h) b ≡ Some board
+            → result ≡ member_at h b position }
     {
-        self.board(board)?.at(place.max(1))
+        self.board(board)?.at(position.max(1))
     }
 
-    /// At which place of the board, from 1, the person stands; `None` where they aren't on it.
+    /// At which position of the board, from 1, the person stands; `None` where they aren't on it.
     pub fn position(&self, person: PersonNo, board: usize) -> Option<u16>
-        ensures { (h : History) (b : List ℕ) → Keeps self.now h → board_place (boards h) b ≡ Some board
+        ensures { (h : History) (b : List ℕ) → Keeps self.now h → board_index (boards h) b ≡ Some board
             → find (λ link. nat_eq link.person person) (links b 1 (order h b))
             ≡ option_map (λ k. record { board = b; position = k; person = person }) result }
     {
@@ -116,7 +116,7 @@ impl Lists {
     }
 
     // Keeps what a command changes that was done.
-    fn change(&mut self, cmd: &Cmd, named: &Named)
+    fn change(&mut self, cmd: &Cmd, named: &NamedIndexes)
         ensures { (h : History) (e : EntryValue) → IsLegal h → IsNext h e → IsDone e cmd.now → Names h e named.now
             → Keeps self.old h → Keeps self.new (with_entry h e) }
     {
@@ -126,9 +126,9 @@ impl Lists {
         self.listings.change(cmd, named);
     }
 
-    /// Keeps what an entry changes, the next one of a legal history, where `named` has the places of its person and of its board; of
+    /// Keeps what an entry changes, the next one of a legal history, where `named` has the indexes of its person and of its board; of
     /// any other entry nothing is promised.
-    pub fn keep(&mut self, entry: &Entry, named: &Named)
+    pub fn keep(&mut self, entry: &Entry, named: &NamedIndexes)
         ensures { (h : History) → IsLegal h → IsNext h entry.now → Names h entry.now named.now
             → Keeps self.old h → Keeps self.new (with_entry h entry.now) }
     {

@@ -4,7 +4,7 @@ ghost use Rattle.desk_model.specs.histories.History.{History, opened, with_entry
 ghost use Rattle.desk_model.specs.histories.Register.{persons, boards};
 ghost use Rattle.desk_model.specs.offers.Offers.{open_offer, settles, asks_for};
 ghost use Rattle.desk_model.specs.offers.Held.{hold_end};
-ghost use Rattle.desk_register.specs.Among.{place_among, board_place};
+ghost use Rattle.desk_register.specs.Among.{index_among, board_index};
 ghost use Rattle.desk_state.specs.OpenOffers.{IsOffer, CanStart};
 ghost use Rattle.desk_state.specs.Keeps.{Keeps};
 ghost use Rattle.offer_flight.specs.Flight.{of_vacancy, of_person};
@@ -18,7 +18,7 @@ use desk_model::{
     BOARD_LIMIT, Cmd, Entry, HOLD, Reply, each_moment_lies_in_the_window,
     what_an_entry_makes_of_the_desk, what_is_done_rests_on,
 };
-use desk_register::who_is_enrolled_has_a_place;
+use desk_register::who_is_enrolled_has_an_index;
 use offer_flight::{Flight, InFlight, OFFERS};
 use std::alloc::Global;
 
@@ -129,7 +129,7 @@ impl Offers {
         })
     }
 
-    /// The open offer of a vacancy: to whom, from which board, by its place among all boards from 0, and from which minute on it
+    /// The open offer of a vacancy: to whom, from which board, by its index among all boards from 0, and from which minute on it
     /// counts as not answered. `None` where it has none.
     pub fn offer(&self, vac: VacNo) -> Option<InFlight>
         ensures { (h : History) → Keeps self.now h → IsOffer (boards h) h.opening.answer result (open_offer h vac) }
@@ -137,11 +137,11 @@ impl Offers {
         self.flight.of_vacancy(vac)
     }
 
-    /// Until when a person is held by a board, both by their places among all, from 0, in either edition of the rules: 480 minutes
+    /// Until when a person is held by a board, both by their indexes among all, from 0, in either edition of the rules: 480 minutes
     /// after they last declined an offer from that board. The first minute of all where they declined none.
     pub fn hold_end(&self, person: usize, board: usize) -> Minute
-        ensures { (h : History) (p : ℕ) (b : List ℕ) → Keeps self.now h → place_among (persons h) p ≡ Some person
-            → board_place (boards h) b ≡ Some board → result ≡ hold_end h (b ∷ []) p }
+        ensures { (h : History) (p : ℕ) (b : List ℕ) → Keeps self.now h → index_among (persons h) p ≡ Some person
+            → board_index (boards h) b ≡ Some board → result ≡ hold_end h (b ∷ []) p }
     {
         self.holds.end(person, board)
     }
@@ -149,13 +149,13 @@ impl Offers {
     // Ends the open offer of a vacancy, where it has one; who declines it is held by the board that it was made from.
     fn settle(&mut self, vac: VacNo, entry: &Entry, person: Option<usize>)
         ensures { (h : History) → IsLegal h → IsNext h entry.now → said settles entry.now ≡ Some vac
-            → ((p : ℕ) → said decliner entry.now ≡ Some p → person ≡ place_among (persons h) p)
+            → ((p : ℕ) → said decliner entry.now ≡ Some p → person ≡ index_among (persons h) p)
             → Keeps self.old h → Keeps self.new (with_entry h entry.now) }
     {
         what_an_entry_makes_of_the_desk();
         what_is_done_rests_on();
         each_moment_lies_in_the_window();
-        who_is_enrolled_has_a_place();
+        who_is_enrolled_has_an_index();
         self.flight.no_person_stands_twice();
         let Some(done) = self.flight.finish(vac) else {
             return;
@@ -163,26 +163,26 @@ impl Offers {
         let Some(_) = decliner(entry) else {
             return;
         };
-        let Some(place) = person else {
+        let Some(index) = person else {
             return;
         };
         let until = later(entry.moment(), HOLD);
-        self.holds.hold(place, usize::from(done.board), until);
+        self.holds.hold(index, usize::from(done.board), until);
     }
 
     /// Keeps what the next entry of a legal history makes of offers and holds; of any other entry nothing is promised. `person`
-    /// is the place of who declines by it, among all persons, and `board` that of the board which its offer is made from, among
+    /// is the index of who declines by it, among all persons, and `board` that of the board which its offer is made from, among
     /// all boards; neither is looked at where the entry tells no such thing. It takes no memory.
     pub fn keep(&mut self, entry: &Entry, person: Option<usize>, board: Option<usize>)
         ensures { (h : History) → IsLegal h → IsNext h entry.now
-            → ((p : ℕ) → said decliner entry.now ≡ Some p → person ≡ place_among (persons h) p)
-            → ((b : List ℕ) → offered_from entry.now ≡ Some b → board ≡ board_place (boards h) b)
+            → ((p : ℕ) → said decliner entry.now ≡ Some p → person ≡ index_among (persons h) p)
+            → ((b : List ℕ) → offered_from entry.now ≡ Some b → board ≡ board_index (boards h) b)
             → Keeps self.old h → Keeps self.new (with_entry h entry.now) }
     {
         what_an_entry_makes_of_the_desk();
         what_is_done_rests_on();
         each_moment_lies_in_the_window();
-        who_is_enrolled_has_a_place();
+        who_is_enrolled_has_an_index();
         if let Some(vac) = settled(entry) {
             self.settle(vac, entry, person);
             return;

@@ -5,8 +5,8 @@ ghost use Rattle.desk_state.specs.Changes.{BecomesBy, EachBecomes};
 
 use crate::board_changes::{change_board, changes_boards, touched};
 use crate::listings::{first_board, with_board};
-use crate::named::Named;
-use desk_base::{Code, NoMemory, PlaceHints};
+use crate::named_indexes::NamedIndexes;
+use desk_base::{Code, NoMemory, IndexHints};
 use desk_model::{BOARD_LIMIT, Cmd};
 use pool_board::Board;
 use std::alloc::Global;
@@ -15,7 +15,7 @@ use std::alloc::Global;
 #[derive(Drop)]
 pub(crate) struct Orders {
     pub(crate) boards: Vec<Board>,
-    pub(crate) hints: PlaceHints,
+    pub(crate) hints: IndexHints,
 }
 
 impl Orders {
@@ -25,10 +25,10 @@ impl Orders {
         ensures empty { IfOk result (λ o. (j : ℕ) → members_at o.boards.items j ≡ []) }
     {
         // the place of a board that isn't set up, which nothing reads
-        let place = Code::read(b"0").ok_or(NoMemory)?;
+        let nowhere = Code::read(b"0").ok_or(NoMemory)?;
         let mut boards = Vec::with_capacity(alloc, BOARD_LIMIT)?;
         for number in 0..BOARD_LIMIT {
-            boards.push_reserved(Board::new(alloc, number as u8, place, false)?);
+            boards.push_reserved(Board::new(alloc, number as u8, nowhere, false)?);
         }
         let hints = Board::hints(alloc)?;
         Ok(Orders { boards, hints })
@@ -47,7 +47,7 @@ impl Orders {
     }
 
     /// Makes of each of 64 boards what a command makes of it that was done; `word` has the boards of the person whom it names.
-    pub(crate) fn change(&mut self, cmd: &Cmd, named: &Named, word: u64)
+    pub(crate) fn change(&mut self, cmd: &Cmd, named: &NamedIndexes, word: u64)
         ensures many { length self.new.boards.items ≡ length self.old.boards.items }
         ensures each { length self.old.boards.items ≤ BOARD_LIMIT → EachBecomes (BecomesBy cmd.now named.now word) self.old.boards.items self.new.boards.items }
     {
@@ -56,18 +56,18 @@ impl Orders {
         }
         let mut left = touched(named, word);
         while left != 0 {
-            let place = first_board(left);
-            if place < self.boards.len() {
+            let index = first_board(left);
+            if index < self.boards.len() {
                 change_board(
-                    &mut self.boards[place],
+                    &mut self.boards[index],
                     &mut self.hints,
-                    place,
+                    index,
                     cmd,
                     named,
                     word,
                 );
             }
-            left = with_board(left, place, false);
+            left = with_board(left, index, false);
         }
     }
 }

@@ -7,7 +7,7 @@ use Rattle.std.proofs.lemmas.List.Elements.{All-cons, All-nil}
 use Rattle.desk_base.specs.declared.minute.TheConstants.{YEARS_END}
 use Rattle.desk_base.specs.Minute.{minute_text}
 use Rattle.desk_model.specs.texts.BarTexts.{late_text}
-use Rattle.desk_base.specs.Month.{year_of, place_in_year, two_digits, month_text}
+use Rattle.desk_base.specs.Month.{year_of, number_in_year, two_digits, month_text}
 use Rattle.record_rows.proofs.MinuteLemmas.{length-minute_text}
 use Rattle.desk_text.proofs.ReplyApartLemmas.{IsUnbroken}
 
@@ -21,9 +21,9 @@ two n rest is = no_blank (48 + n / 10) ((48 + n % 10) ∷ rest) (omega arith) (n
 pub month-unbroken : (m : ℕ) → IsUnbroken (month_text m)
 unfolding month_text
 month-unbroken m =
-    let place = two_digits (place_in_year m) in
-    two (year_of m / 100) (two_digits (year_of m % 100) ++ 45 ∷ place)
-    (two (year_of m % 100) (45 ∷ place) (no_blank 45 place (omega arith) (two (place_in_year m) [] (All-nil (λ b. (b == 32) ≡ false)))))
+    let index = two_digits (number_in_year m) in
+    two (year_of m / 100) (two_digits (year_of m % 100) ++ 45 ∷ index)
+    (two (year_of m % 100) (45 ∷ index) (no_blank 45 index (omega arith) (two (number_in_year m) [] (All-nil (λ b. (b == 32) ≡ false)))))
 
 -- and what is cut off behind 16 bytes stood behind it
 pub behind_16 : (t : ℕ) (text front back rest : List ℕ) → IsSplitAt text 16 front back → text ≡ minute_text t ++ rest → (front ≡ minute_text t) × (back ≡ rest)

@@ -12,9 +12,9 @@ use Rattle.std.proofs.lemmas.List.Sums.{AllPass-from_list_all, list_all-from_All
 use Rattle.desk_base.specs.declared.minute.TheConstants.{YEARS_END}
 use Rattle.desk_base.specs.Number.{IsNumber}
 use Rattle.desk_base.specs.Code.{IsCode, is_code_byte}
-use Rattle.desk_base.specs.Day.{day_of, day_text, place_in_month}
+use Rattle.desk_base.specs.Day.{day_of, day_text, number_in_month}
 use Rattle.desk_base.specs.Minute.{IsInYears, minute_text}
-use Rattle.desk_base.specs.Month.{IsMonthInYears, month_text, month_of_day, two_digits, year_of, place_in_year}
+use Rattle.desk_base.specs.Month.{IsMonthInYears, month_text, month_of_day, two_digits, year_of, number_in_year}
 use Rattle.desk_base.proofs.MonthLemmas.{month_of_day_is, month_bound, first_day-next, length_of_bounds}
 use Rattle.duty_events.specs.declared.event.Event.{Event}
 use Rattle.duty_events.specs.declared.event.Event.TheVariants as event
@@ -85,7 +85,7 @@ none = record { all = refl }
 -- a month whose year has four digits
 month : (m : ℕ) → year_of m < 10_000 → IsInner (month_text m)
 unfolding month_text
-month m years = two (year_of m / 100) (omega (arith, years)) (two (year_of m % 100) (omega arith) (mark 45 refl (two (place_in_year m) (omega arith) none)))
+month m years = two (year_of m / 100) (omega (arith, years)) (two (year_of m % 100) (omega arith) (mark 45 refl (two (number_in_year m) (omega arith) none)))
 
 pub month_in : (m : ℕ) → IsMonthInYears m → IsInner (month_text m)
 month_in m is = month m (omega (arith, is.1))
@@ -94,8 +94,8 @@ day : (d : ℕ) → d < 186_414 → IsInner (day_text d)
 unfolding day_text
 day d few =
     let is = month_of_day_is d in
-    let place : place_in_month d < 100 = omega (arith, is.begun, is.not_over, first_day-next (month_of_day d), length_of_bounds (month_of_day d)) in
-    append (month_text (month_of_day d)) (month (month_of_day d) (omega (arith, month_bound d (month_of_day d) is few))) (mark 45 refl (two (place_in_month d) place none))
+    let index : number_in_month d < 100 = omega (arith, is.begun, is.not_over, first_day-next (month_of_day d), length_of_bounds (month_of_day d)) in
+    append (month_text (month_of_day d)) (month (month_of_day d) (omega (arith, month_bound d (month_of_day d) is few))) (mark 45 refl (two (number_in_month d) index none))
 
 pub minute : (t : ℕ) → t < 2 ^ 28 → IsInner (minute_text t)
 unfolding minute_text

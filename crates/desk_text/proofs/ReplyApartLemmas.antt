@@ -182,8 +182,8 @@ reply_text-one r (reply.Event f) hr hs e = sym (event-one f r hs hr (sym e))
 reply_text-one reply.Done reply.Done hr hs e = refl
 reply_text-one (reply.Offered p b k) (reply.Offered p' b' k') hr hs e =
     let person = numbered-one p p' (b ++ 32 ∷ decimal k) (b' ++ 32 ∷ decimal k') (omega (arith, hr.0)) (omega (arith, hs.0)) (simp append_assoc at (ap (drop 8) e)) in
-    let place = coded-one b b' k k' hr.1 hs.1 (omega (arith, hr.3)) (omega (arith, hs.3)) person.1 in
-    rw (person.0, place.0, place.1) refl
+    let index = coded-one b b' k k' hr.1 hs.1 (omega (arith, hr.3)) (omega (arith, hs.3)) person.1 in
+    rw (person.0, index.0, index.1) refl
 reply_text-one (reply.Unfilled n) (reply.Unfilled n') hr hs e = ap reply.Unfilled (decimal_injective n n' (omega (arith, hr)) (omega (arith, hs)) (ap (drop 9) e))
 reply_text-one (reply.Hours m n) (reply.Hours m' n') hr hs e =
     let both = numbers-one m m' n n' (omega (arith, hr.0)) (omega (arith, hs.0)) (omega (arith, hr.1)) (omega (arith, hs.1)) (ap (drop 6) e) in
@@ -191,8 +191,8 @@ reply_text-one (reply.Hours m n) (reply.Hours m' n') hr hs e =
 reply_text-one reply.NotListed reply.NotListed hr hs e = refl
 reply_text-one (reply.Denied b) (reply.Denied b') hr hs e = ap reply.Denied (bar_text-one b b' hr hs (ap (drop 7) e))
 reply_text-one (reply.Clear b k) (reply.Clear b' k') hr hs e =
-    let place = coded-one b b' k k' hr.0 hs.0 (omega (arith, hr.2)) (omega (arith, hs.2)) (ap (drop 6) e) in
-    rw (place.0, place.1) refl
+    let index = coded-one b b' k k' hr.0 hs.0 (omega (arith, hr.2)) (omega (arith, hs.2)) (ap (drop 6) e) in
+    rw (index.0, index.1) refl
 reply_text-one (reply.Frozen v) (reply.Frozen v') hr hs e = ap reply.Frozen (number-one v v' hr hs (ap (drop 7) e))
 reply_text-one reply.PastClosed reply.PastClosed hr hs e = refl
 reply_text-one (reply.EventAhead t) (reply.EventAhead t') hr hs e = ap reply.EventAhead (minute_text-one t t' (ap (drop 12) e))

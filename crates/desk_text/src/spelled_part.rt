@@ -7,7 +7,7 @@ ghost use Rattle.desk_base.specs.Month.{IsMonthInYears, month_text};
 ghost use Rattle.desk_model.specs.texts.BarTexts.{late_text};
 
 use crate::cut::{behind, cut};
-use command_parser::read_place;
+use command_parser::read_position;
 use desk_base::{Code, Minute, Month, YEARS_END, read_decimal};
 
 /// The minute, from the year 2000 on, that a text spells; one behind the year 2099 by its number, which spells no other.
@@ -62,7 +62,7 @@ pub(crate) fn read_total(text: &[u8]) -> Option<(Month, u32)>
 }
 
 /// A board, and a position on it, 1 to 9,999.
-pub(crate) fn read_position(text: &[u8]) -> Option<(Code, u16)>
+pub(crate) fn read_board_position(text: &[u8]) -> Option<(Code, u16)>
     ensures some { IfSome result (λ both. IsCode both.0 × (1 ≤ both.1) × (both.1 ≤ 9_999)
         × (text.now ≡ both.0 ++ 32 ∷ decimal both.1)) }
     ensures only { (board : List ℕ) (position : ℕ) → IsCode board → 1 ≤ position
@@ -70,5 +70,5 @@ pub(crate) fn read_position(text: &[u8]) -> Option<(Code, u16)>
         → result ≡ Some (board, position) }
 {
     let (board, position) = cut(text, b' ')?;
-    Some((Code::read(board)?, read_place(position)?))
+    Some((Code::read(board)?, read_position(position)?))
 }

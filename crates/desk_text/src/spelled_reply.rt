@@ -7,7 +7,7 @@ ghost use Rattle.desk_text.specs.SpelledReply.{SpellsReply, TellsReply, HasNoRep
 use crate::cut::cut;
 use crate::reply_head::ReplyHead;
 use crate::spelled_bar::read_bar;
-use crate::spelled_part::{read_late, read_numbers, read_position};
+use crate::spelled_part::{read_late, read_numbers, read_board_position};
 use crate::spelled_stage::{read_fault, read_state};
 use command_parser::{read_count, read_person, read_vac};
 use desk_base::{Code, Minute};
@@ -70,7 +70,7 @@ fn read_offered(kept: &[u8]) -> Option<Reply>
 {
     let (person, place) = cut(kept, b' ')?;
     let person = read_person(person)?;
-    let (board, position) = read_position(place)?;
+    let (board, position) = read_board_position(place)?;
     Some(Reply::Offered {
         person,
         board,
@@ -84,7 +84,7 @@ fn read_clear(kept: &[u8]) -> Option<Reply>
     ensures only { (reply : ReplyValue) → TellsReply head.Clear kept.now reply
         → result ≡ Some reply }
 {
-    let (board, position) = read_position(kept)?;
+    let (board, position) = read_board_position(kept)?;
     Some(Reply::Clear { board, position })
 }
 

@@ -5,14 +5,14 @@ use Rattle.duty_events.specs.declared.event.Event.{Event}
 use Rattle.duty_events.specs.declared.event.Event.TheVariants as event
 use Rattle.duty_events.specs.declared.stage.Stage.{Stage}
 use Rattle.duty_events.specs.declared.stage.Stage.TheVariants as stage
-use Rattle.duty_events.specs.Allowed.{judge}
+use Rattle.duty_events.specs.Allowed.{allow}
 use Rattle.duty_events.specs.Between.{between, kind_until}
 use Rattle.duty_events.specs.During.{kind_during}
 use Rattle.duty_events.specs.Lists.{IsLawful, stage_after, stage_of, last_event, latest}
 use Rattle.duty_events.proofs.ListLemmas.{stage_of-push, last_event-push, lawful-induction}
 
 -- so it does after an event that is allowed
-kind_during-after : (e : Event) (s : Stage) (last : Option ℕ) (next : Event) → IsOk (judge s e last) → kind_during (stage_after s e) next ≡ between e next
+kind_during-after : (e : Event) (s : Stage) (last : Option ℕ) (next : Event) → IsOk (allow s e last) → kind_during (stage_after s e) next ≡ between e next
 kind_during-after (event.Ride t) stage.Off last next ok = refl
 kind_during-after (event.Duty t) stage.Off last next ok = refl
 kind_during-after (event.Duty t) stage.Riding last next ok = refl

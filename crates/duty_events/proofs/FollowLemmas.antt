@@ -6,7 +6,7 @@ use Rattle.std.proofs.lemmas.Bool.Decides.{nat_tests}
 use Rattle.desk_base.specs.Minute.{IsInYears, is_in_years}
 use Rattle.duty_events.specs.declared.event.Event.{Event}
 use Rattle.duty_events.specs.declared.stage.Stage.{Stage}
-use Rattle.duty_events.specs.Allowed.{first_minute, last_minute, judge}
+use Rattle.duty_events.specs.Allowed.{first_minute, last_minute, allow}
 use Rattle.duty_events.specs.Lists.{Follows, may_follow}
 
 both : (a b : Bool) → (a && b) ≡ true → (a ≡ true) × (b ≡ true)
@@ -25,9 +25,9 @@ may_follow-decides s last e = (words, test)
   where
     words : may_follow s last e ≡ true → Follows s last e
     words may =
-        let whole = both (is_ok (judge s e last) && is_in_years (first_minute e) && is_in_years (last_minute e)) (nat_le (first_minute e) (last_minute e)) may in
-        let years = both (is_ok (judge s e last) && is_in_years (first_minute e)) (is_in_years (last_minute e)) whole.0 in
-        let begun = both (is_ok (judge s e last)) (is_in_years (first_minute e)) years.0 in
+        let whole = both (is_ok (allow s e last) && is_in_years (first_minute e) && is_in_years (last_minute e)) (nat_le (first_minute e) (last_minute e)) may in
+        let years = both (is_ok (allow s e last) && is_in_years (first_minute e)) (is_in_years (last_minute e)) whole.0 in
+        let begun = both (is_ok (allow s e last)) (is_in_years (first_minute e)) years.0 in
         record {
           allowed = begun.0;
           first_in = in_years (first_minute e) begun.1;
@@ -37,5 +37,5 @@ may_follow-decides s last e = (words, test)
 
     test : Follows s last e → may_follow s last e ≡ true
     test f =
-        let allowed : is_ok (judge s e last) ≡ true = f.allowed in
+        let allowed : is_ok (allow s e last) ≡ true = f.allowed in
         rw (allowed, is_in_years-true (first_minute e) f.first_in, is_in_years-true (last_minute e) f.last_in, le-leb (first_minute e) (last_minute e) f.whole) refl

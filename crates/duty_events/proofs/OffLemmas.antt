@@ -13,7 +13,7 @@ use Rattle.duty_events.specs.declared.stage.Stage.{Stage}
 use Rattle.duty_events.specs.declared.stage.Stage.TheVariants as stage
 use Rattle.duty_events.specs.declared.minute_kind.MinuteKind.{MinuteKind}
 use Rattle.duty_events.specs.declared.minute_kind.MinuteKind.TheVariants as minute
-use Rattle.duty_events.specs.Allowed.{judge}
+use Rattle.duty_events.specs.Allowed.{allow}
 use Rattle.duty_events.specs.Lists.{IsLawful, stage_after, stage_of, last_event, latest, reached}
 use Rattle.duty_events.specs.MinuteKind.{Leads, ToResumed, ToInterim, Mark, marks, mark_before, mark_after, resumed, interim, counted, kind_between, kind_of, is_worked, is_off_duty}
 use Rattle.duty_events.specs.Between.{kind_behind}
@@ -65,11 +65,11 @@ kind_of-known es lawful t early = known-between (mark_before (marks es) t) (mark
         mark_after-early shape.earlier (last_mark shape.from p) t early (ap (λ ns. mark_after ns t) (sym shape.is) ∙ none)
 
 -- behind it no interim runs
-not_interim : (s : Stage) (t : ℕ) (k : Kind) (place : List ℕ) (last : Option ℕ) → IsOk (judge s (event.Interim t k place) last) → stage_after s (event.Interim t k place) ≡ stage.Off → ⊥
+not_interim : (s : Stage) (t : ℕ) (k : Kind) (place : List ℕ) (last : Option ℕ) → IsOk (allow s (event.Interim t k place) last) → stage_after s (event.Interim t k place) ≡ stage.Off → ⊥
 not_interim stage.Duty t k place last ok off = cc
 not_interim s t k place last ok off = false≢true ok
 
-off_behind : (s : Stage) (e : Event) (last : Option ℕ) → IsOk (judge s e last) → stage_after s e ≡ stage.Off → kind_behind (Some e) ≡ minute.Off
+off_behind : (s : Stage) (e : Event) (last : Option ℕ) → IsOk (allow s e last) → stage_after s e ≡ stage.Off → kind_behind (Some e) ≡ minute.Off
 off_behind s (event.Interim t k place) last ok off = absurd (not_interim s t k place last ok off)
 off_behind s e last ok off = refl
 

@@ -9,7 +9,7 @@ use Rattle.duty_events.specs.declared.stage.Stage.{Stage}
 use Rattle.duty_events.specs.declared.stage.Stage.TheVariants as stage
 use Rattle.duty_events.specs.declared.end.End.{End}
 use Rattle.duty_events.specs.declared.event.Event.TheVariants as event
-use Rattle.duty_events.specs.Allowed.{first_minute, last_minute, judge}
+use Rattle.duty_events.specs.Allowed.{first_minute, last_minute, allow}
 use Rattle.duty_events.specs.Lists.{IsNext, IsLawful, stage_after, stage_of, last_event, latest, reached}
 use Rattle.duty_events.specs.Places.{end_by, ends_from, place_of, place_by, place_until, place_behind}
 use Rattle.duty_events.proofs.EventLemmas.{follows-reached}
@@ -53,7 +53,7 @@ BeganLast (stage.Interim k since at) o = o ≡ Some (event.Interim since k at)
 BeganLast s o = Unit {0}
 
 -- so it is after an event that is allowed
-began-after : (e : Event) (s : Stage) (last : Option ℕ) → IsOk (judge s e last) → BeganLast (stage_after s e) (Some e)
+began-after : (e : Event) (s : Stage) (last : Option ℕ) → IsOk (allow s e last) → BeganLast (stage_after s e) (Some e)
 began-after (event.Interim t k place) stage.Duty last ok = refl
 began-after (event.Interim t j place) (stage.Interim k since at) last ok = absurd (false≢true ok)
 began-after (event.Ride t) (stage.Interim k since at) last ok = absurd (false≢true ok)

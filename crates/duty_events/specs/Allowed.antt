@@ -86,5 +86,5 @@ follow (Some next) s e last = refuse (behind (first_minute e) last) (refuse (int
 
 -- the stage that an event leads to after events that ended in a stage and whose latest minute is the last, or why it is
 -- not allowed
-abbrev pub judge : Stage → Event → Option ℕ → Result Stage EventFault
-judge s e last = follow (row s e) s e last
+abbrev pub allow : Stage → Event → Option ℕ → Result Stage EventFault
+allow s e last = follow (row s e) s e last

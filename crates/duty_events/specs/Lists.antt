@@ -6,7 +6,7 @@ use Rattle.desk_base.specs.Minute.{IsInYears, is_in_years}
 use Rattle.duty_events.specs.declared.event.Event.{Event}
 use Rattle.duty_events.specs.declared.stage.Stage.{Stage}
 use Rattle.duty_events.specs.declared.stage.Stage.TheVariants as stage
-use Rattle.duty_events.specs.Allowed.{row, first_minute, last_minute, judge}
+use Rattle.duty_events.specs.Allowed.{row, first_minute, last_minute, allow}
 
 -- the stage after an event that is allowed
 abbrev pub stage_after : Stage → Event → Stage
@@ -32,14 +32,14 @@ reached (Some e) = last_minute e
 -- an event may follow a stage and a latest minute: it is allowed, its minutes lie in the years 2000 to 2099, and it
 -- doesn't end before it begins
 pub record Follows (s : Stage) (last : Option ℕ) (e : Event) : Type 0 where
-  pub allowed : IsOk (judge s e last)
+  pub allowed : IsOk (allow s e last)
   pub first_in : IsInYears (first_minute e)
   pub last_in : IsInYears (last_minute e)
   pub whole : first_minute e ≤ last_minute e
 
 -- the test of it
 abbrev pub may_follow : Stage → Option ℕ → Event → Bool
-may_follow s last e = is_ok (judge s e last) && is_in_years (first_minute e) && is_in_years (last_minute e) && nat_le (first_minute e) (last_minute e)
+may_follow s last e = is_ok (allow s e last) && is_in_years (first_minute e) && is_in_years (last_minute e) && nat_le (first_minute e) (last_minute e)
 
 -- an event may follow these
 abbrev pub IsNext : List Event → Event → Type 0

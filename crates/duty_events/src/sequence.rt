@@ -1,7 +1,7 @@
 ghost use Rattle.std.specs.Prelude.{◌≡◌, ◌-◌};
 ghost use Rattle.std.specs.Str.{bytes_eq};
 ghost use Rattle.duty_events.specs.Lists.{stage_of};
-ghost use Rattle.duty_events.specs.Allowed.{row, is_limited, behind, too_long, other_place, interim_fault, judge};
+ghost use Rattle.duty_events.specs.Allowed.{row, is_limited, behind, too_long, other_place, interim_fault, allow};
 
 use crate::{Event, EventFault, INTERIM_LIMIT, Kind, Stage};
 use desk_base::{Code, Minute};
@@ -11,7 +11,7 @@ use desk_base::{Code, Minute};
 /// `Behind` where it begins before `last`; `InterimTooLong` where it resumes `INTERIM_LIMIT` minutes or more after an interim of
 /// kind `D` or `P`; `OtherPlace` where it is a final release during an interim and names another place.
 pub fn allowed(stage: Stage, event: Event, last: Option<Minute>) -> Result<Stage, EventFault>
-    ensures { result ≡ judge stage event last }
+    ensures { result ≡ allow stage event last }
 {
     let Some(next) = row(&stage, &event) else {
         return Err(EventFault::WrongStage(stage));

@@ -4,9 +4,9 @@ use Rattle.std.specs.Result.{IsOk, MatchResult}
 use Rattle.std.specs.Str.{IsAscii}
 use Rattle.std.proofs.lemmas.Str.{IsAscii-append}
 use Rattle.std.proofs.lemmas.Str.Ascii.{IsAscii-nil, IsAscii-cons}
-use Rattle.desk_base.specs.Day.{day_of, day_text, place_in_month}
+use Rattle.desk_base.specs.Day.{day_of, day_text, number_in_month}
 use Rattle.desk_base.specs.Minute.{minute_text}
-use Rattle.desk_base.specs.Month.{month_text, month_of_day, two_digits, year_of, place_in_year}
+use Rattle.desk_base.specs.Month.{month_text, month_of_day, two_digits, year_of, number_in_year}
 use Rattle.desk_base.proofs.MonthLemmas.{month_of_day_is, month_bound, first_day-next, length_of_bounds}
 
 pub record IsPlain (text : List ℕ) : Type 0 where
@@ -26,14 +26,14 @@ two n few rest = mark (48 + n / 10) (omega (arith, few)) (mark (48 + n % 10) (om
 
 month : (m : ℕ) → year_of m < 10_000 → IsPlain (month_text m)
 unfolding month_text
-month m years = two (year_of m / 100) (omega (arith, years)) (two (year_of m % 100) (omega arith) (mark 45 (omega arith) (two (place_in_year m) (omega arith) none)))
+month m years = two (year_of m / 100) (omega (arith, years)) (two (year_of m % 100) (omega arith) (mark 45 (omega arith) (two (number_in_year m) (omega arith) none)))
 
 day : (d : ℕ) → d < 186_414 → IsPlain (day_text d)
 unfolding day_text
 day d few =
     let is = month_of_day_is d in
-    let place : place_in_month d < 100 = omega (arith, is.begun, is.not_over, first_day-next (month_of_day d), length_of_bounds (month_of_day d)) in
-    append (month (month_of_day d) (omega (arith, month_bound d (month_of_day d) is few))) (mark 45 (omega arith) (two (place_in_month d) place none))
+    let place : number_in_month d < 100 = omega (arith, is.begun, is.not_over, first_day-next (month_of_day d), length_of_bounds (month_of_day d)) in
+    append (month (month_of_day d) (omega (arith, month_bound d (month_of_day d) is few))) (mark 45 (omega arith) (two (number_in_month d) place none))
 
 pub minute_text-plain : (t : ℕ) → t < 2 ^ 28 → IsPlain (minute_text t)
 unfolding minute_text

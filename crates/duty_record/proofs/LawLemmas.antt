@@ -9,7 +9,7 @@ use Rattle.duty_events.specs.EndedTours as duty
 use Rattle.duty_events.specs.Lists.{stage_of, stage_after}
 use Rattle.desk_model.specs.declared.command.Cmd.{Cmd}
 use Rattle.desk_model.specs.declared.command.Cmd.TheVariants as cmd
-use Rattle.desk_model.specs.histories.History.{History, Step, place_of, steps, is_done}
+use Rattle.desk_model.specs.histories.History.{History, Step, entry_no, steps, is_done}
 use Rattle.desk_model.specs.histories.Duty as told
 use Rattle.desk_model.specs.histories.Duty.{tells, may_come}
 use Rattle.desk_model.specs.offers.Assigned.{assigned}
@@ -42,7 +42,7 @@ same-said p i h true (cmd.Happened q e) = same-told i e (assigned h p) (nat_eq q
 same-said p i h true other = tt
 
 same-by : (p : ℕ) (s : Step) → Same (deed_by p s) (told.told_by p s)
-same-by p s = same-said p (place_of s) s.before (is_done s.entry.reply) s.entry.stated.cmd
+same-by p s = same-said p (entry_no s) s.before (is_done s.entry.reply) s.entry.stated.cmd
 
 told-push : (ts : List told.Told) (t : told.Told) → told.events_in (ts ++ t ∷ []) ≡ told.events_in ts ++ t.event ∷ []
 told-push ts t = map-append (λ (x : told.Told). x.event) ts (t ∷ [])

@@ -13,11 +13,11 @@ use Rattle.desk_model.specs.histories.Register.{person_of, vacancy_of}
 use Rattle.desk_model.specs.boards.Boards.{chain}
 use Rattle.desk_model.specs.offers.Bars.{bar_of}
 use Rattle.desk_model.specs.histories.Legal.{last_moment}
-use Rattle.desk_model.specs.answers.ExplainAnswer.{place_in, place_answer, clear_answer, person_answer, job_answer}
+use Rattle.desk_model.specs.answers.ExplainAnswer.{position_in, position_answer, clear_answer, person_answer, job_answer}
 use Rattle.earliest_minute.specs.declared.earliest.Earliest.{Earliest}
 use Rattle.earliest_minute.specs.declared.earliest.Earliest.TheVariants as earliest
 use Rattle.earliest_minute.specs.Least.{IsLeast}
-use Rattle.earliest_minute.specs.When.{IsJudged, IsTime, IsToldBy, IsWhen, minutes, first_clear, clear_or, judged_of, told_of, when_of}
+use Rattle.earliest_minute.specs.When.{IsTimeOrBar, IsTime, IsToldBy, IsWhen, minutes, first_clear, clear_or, time_or_bar_of, told_of, when_of}
 
 -- the first of some minutes at which a test of bars has none
 record IsFirst (f : ℕ → Option Bar) (from behind t : ℕ) : Type 0 where
@@ -73,8 +73,8 @@ module _ (h : History) (job : JobValue) (p : ℕ) (person : Person) (on_time : l
   abbrev first : Option ℕ
   first = first_clear h job p person (minutes (last_moment h) job.report)
 
-  judged-is : (told : Earliest) → IsJudged h job p person told → told ≡ clear_or first (bars job.report)
-  judged-is (earliest.Clear minute) least = go first refl
+  time_or_bar-is : (told : Earliest) → IsTimeOrBar h job p person told → told ≡ clear_or first (bars job.report)
+  time_or_bar-is (earliest.Clear minute) least = go first refl
     where
       go : (t : Option ℕ) → first ≡ t → earliest.Clear minute ≡ clear_or t (bars job.report)
       go (Some t) is =
@@ -87,22 +87,22 @@ module _ (h : History) (job : JobValue) (p : ℕ) (person : Person) (on_time : l
           order minute t least it false less true is = absurd (least.before t it.from_it (grind (arith, nat_tests, is)) it.clear)
           order minute t least it false less false is = grind (arith, nat_tests, less, is)
       go None is = absurd (none-found bars (last_moment h) (job.report + 1 - last_moment h) is minute least.from (omega (arith, least.to, on_time)) least.clear)
-  judged-is (earliest.Barred bar) barred = go first refl
+  time_or_bar-is (earliest.Barred bar) barred = go first refl
     where
       go : (t : Option ℕ) → first ≡ t → earliest.Barred bar ≡ clear_or t (bars job.report)
       go (Some t) is =
           let it = found bars (last_moment h) (job.report + 1 - last_moment h) t is in
           absurd (barred.each t it.from_it (omega (arith, it.to_it, on_time)) it.clear)
       go None is = ap (clear_or None) (sym barred.report)
-  judged-is earliest.UnknownVacancy none = absurd none
-  judged-is earliest.UnknownPerson none = absurd none
-  judged-is (earliest.Lapsed report) none = absurd none
-  judged-is earliest.NotListed none = absurd none
+  time_or_bar-is earliest.UnknownVacancy none = absurd none
+  time_or_bar-is earliest.UnknownPerson none = absurd none
+  time_or_bar-is (earliest.Lapsed report) none = absurd none
+  time_or_bar-is earliest.NotListed none = absurd none
 
-  is-judged : IsJudged h job p person (clear_or first (bars job.report))
-  is-judged = go first refl (bars job.report) refl
+  is-time_or_bar : IsTimeOrBar h job p person (clear_or first (bars job.report))
+  is-time_or_bar = go first refl (bars job.report) refl
     where
-      go : (t : Option ℕ) → first ≡ t → (bar : Option Bar) → bars job.report ≡ bar → IsJudged h job p person (clear_or t bar)
+      go : (t : Option ℕ) → first ≡ t → (bar : Option Bar) → bars job.report ≡ bar → IsTimeOrBar h job p person (clear_or t bar)
       go (Some t) is bar at =
           let it = found bars (last_moment h) (job.report + 1 - last_moment h) t is in
           record { from = it.from_it; to = omega (arith, it.to_it, on_time); clear = it.clear; before = it.before }
@@ -115,39 +115,39 @@ module _ (h : History) (job : JobValue) (p : ℕ) (person : Person) (on_time : l
 -- ---- by the numbers
 
 abbrev Agrees : History → ℕ → ℕ → Earliest → Reply → Earliest → Type 0
-Agrees h v p told answer judged = (IsToldBy h v p answer told → told ≡ told_of answer judged) × (told ≡ told_of answer judged → IsToldBy h v p answer told)
+Agrees h v p told answer time_or_bar = (IsToldBy h v p answer told → told ≡ told_of answer time_or_bar) × (told ≡ told_of answer time_or_bar → IsToldBy h v p answer told)
 
 timed : (h : History) (v p : ℕ) (told : Earliest) (job : JobValue) (person : Person) → vacancy_of h v ≡ Some job → person_of h p ≡ Some person → last_moment h ≤ job.report
-    → (IsTime h v p told → told ≡ judged_of h p (Some job) (Some person)) × (told ≡ judged_of h p (Some job) (Some person) → IsTime h v p told)
+    → (IsTime h v p told → told ≡ time_or_bar_of h p (Some job) (Some person)) × (told ≡ time_or_bar_of h p (Some job) (Some person) → IsTime h v p told)
 timed h v p told job person made enrolled on_time = (there, back)
   where
-    there : IsTime h v p told → told ≡ judged_of h p (Some job) (Some person)
+    there : IsTime h v p told → told ≡ time_or_bar_of h p (Some job) (Some person)
     there time =
         let same_job : time.job ≡ job = ap (λ o. unwrap_or o job) (sym time.made ∙ made) in
         let same_person : time.person ≡ person = ap (λ o. unwrap_or o person) (sym time.enrolled ∙ enrolled) in
-        judged-is h job p person on_time told (subst (λ x. IsJudged h x p person told) same_job (subst (λ x. IsJudged h time.job p x told) same_person time.judged))
+        time_or_bar-is h job p person on_time told (subst (λ x. IsTimeOrBar h x p person told) same_job (subst (λ x. IsTimeOrBar h time.job p x told) same_person time.time_or_bar))
 
-    back : told ≡ judged_of h p (Some job) (Some person) → IsTime h v p told
-    back is = record { job = job; person = person; made = made; enrolled = enrolled; judged = subst (IsJudged h job p person) (sym is) (is-judged h job p person on_time) }
+    back : told ≡ time_or_bar_of h p (Some job) (Some person) → IsTime h v p told
+    back is = record { job = job; person = person; made = made; enrolled = enrolled; time_or_bar = subst (IsTimeOrBar h job p person) (sym is) (is-time_or_bar h job p person on_time) }
 
 pub one-time : (h : History) (v p : ℕ) (told : Earliest) → (IsWhen h v p told → told ≡ when_of h v p) × (told ≡ when_of h v p → IsWhen h v p told)
 one-time h v p told = by-job (vacancy_of h v) refl
   where
-    by-job : (made : Option JobValue) → vacancy_of h v ≡ made → Agrees h v p told (job_answer h (last_moment h) p made) (judged_of h p made (person_of h p))
+    by-job : (made : Option JobValue) → vacancy_of h v ≡ made → Agrees h v p told (job_answer h (last_moment h) p made) (time_or_bar_of h p made (person_of h p))
     by-job None is = ((λ x. x), (λ x. x))
     by-job (Some job) made = by-person (person_of h p) refl
       where
-        by-person : (known : Option Person) → person_of h p ≡ known → Agrees h v p told (person_answer h (last_moment h) job p known) (judged_of h p (Some job) known)
+        by-person : (known : Option Person) → person_of h p ≡ known → Agrees h v p told (person_answer h (last_moment h) job p known) (time_or_bar_of h p (Some job) known)
         by-person None is = ((λ x. x), (λ x. x))
         by-person (Some person) enrolled = by-time (nat_lt job.report (last_moment h)) refl
           where
             by-place : (found : Option Link) (bar : Option Bar) → last_moment h ≤ job.report
-                → Agrees h v p told (place_answer bar clear_answer found) (judged_of h p (Some job) (Some person))
+                → Agrees h v p told (position_answer bar clear_answer found) (time_or_bar_of h p (Some job) (Some person))
             by-place None bar on_time = ((λ x. x), (λ x. x))
             by-place (Some link) (Some bar) on_time = timed h v p told job person made enrolled on_time
             by-place (Some link) None on_time = timed h v p told job person made enrolled on_time
 
             by-time : (past : Bool) → nat_lt job.report (last_moment h) ≡ past
-                → Agrees h v p told (cond past (reply.Lapsed job.report) (place_answer (bar_of h (last_moment h) job p person) clear_answer (place_in (chain h job.chain) p))) (judged_of h p (Some job) (Some person))
+                → Agrees h v p told (cond past (reply.Lapsed job.report) (position_answer (bar_of h (last_moment h) job p person) clear_answer (position_in (chain h job.chain) p))) (time_or_bar_of h p (Some job) (Some person))
             by-time true is = ((λ x. x), (λ x. x))
-            by-time false is = by-place (place_in (chain h job.chain) p) (bar_of h (last_moment h) job p person) (grind (arith, nat_tests, is))
+            by-time false is = by-place (position_in (chain h job.chain) p) (bar_of h (last_moment h) job p person) (grind (arith, nat_tests, is))

@@ -16,10 +16,10 @@ use Rattle.earliest_minute.specs.declared.earliest.Earliest.TheVariants as earli
 use Rattle.earliest_minute.specs.Least.{IsLeast, IsBarredThroughout}
 
 -- of who is listed for a job: the first minute at which nothing bars them, or, where there is none, what bars them at the report
-abbrev pub IsJudged : History → JobValue → ℕ → Person → Earliest → Type 0
-IsJudged h job p person (earliest.Clear minute) = IsLeast h job p person minute
-IsJudged h job p person (earliest.Barred bar) = IsBarredThroughout h job p person bar
-IsJudged h job p person other = ⊥
+abbrev pub IsTimeOrBar : History → JobValue → ℕ → Person → Earliest → Type 0
+IsTimeOrBar h job p person (earliest.Clear minute) = IsLeast h job p person minute
+IsTimeOrBar h job p person (earliest.Barred bar) = IsBarredThroughout h job p person bar
+IsTimeOrBar h job p person other = ⊥
 
 -- so for the numbers of a vacancy that was made and of an enrolled person
 pub record IsTime (h : History) (v p : ℕ) (told : Earliest) : Type 0 where
@@ -27,7 +27,7 @@ pub record IsTime (h : History) (v p : ℕ) (told : Earliest) : Type 0 where
   pub person : Person
   pub made : vacancy_of h v ≡ Some job
   pub enrolled : person_of h p ≡ Some person
-  pub judged : IsJudged h job p person told
+  pub time_or_bar : IsTimeOrBar h job p person told
 
 -- where `explain` would be answered with a refusal that isn't a bar, it is that; else the time
 abbrev pub IsToldBy : History → ℕ → ℕ → Reply → Earliest → Type 0
@@ -58,18 +58,18 @@ clear_or (Some minute) bar = earliest.Clear minute
 clear_or None (Some bar) = earliest.Barred bar
 clear_or None None = earliest.NotListed
 
-abbrev pub judged_of : History → ℕ → Option JobValue → Option Person → Earliest
-judged_of h p None person = earliest.UnknownVacancy
-judged_of h p (Some job) None = earliest.UnknownPerson
-judged_of h p (Some job) (Some person) =
+abbrev pub time_or_bar_of : History → ℕ → Option JobValue → Option Person → Earliest
+time_or_bar_of h p None person = earliest.UnknownVacancy
+time_or_bar_of h p (Some job) None = earliest.UnknownPerson
+time_or_bar_of h p (Some job) (Some person) =
     clear_or (first_clear h job p person (minutes (last_moment h) job.report)) (bar_of h job.report job p person)
 
 abbrev pub told_of : Reply → Earliest → Earliest
-told_of reply.UnknownVacancy judged = earliest.UnknownVacancy
-told_of reply.UnknownPerson judged = earliest.UnknownPerson
-told_of (reply.Lapsed report) judged = earliest.Lapsed report
-told_of reply.NotListed judged = earliest.NotListed
-told_of other judged = judged
+told_of reply.UnknownVacancy time_or_bar = earliest.UnknownVacancy
+told_of reply.UnknownPerson time_or_bar = earliest.UnknownPerson
+told_of (reply.Lapsed report) time_or_bar = earliest.Lapsed report
+told_of reply.NotListed time_or_bar = earliest.NotListed
+told_of other time_or_bar = time_or_bar
 
 abbrev pub when_of : History → ℕ → ℕ → Earliest
-when_of h v p = told_of (explain_answer h (last_moment h) v p) (judged_of h p (vacancy_of h v) (person_of h p))
+when_of h v p = told_of (explain_answer h (last_moment h) v p) (time_or_bar_of h p (vacancy_of h v) (person_of h p))

@@ -2,7 +2,7 @@ ghost use Rattle.std.specs.Prelude.{◌≡◌, ◌≤◌, ℕ, Some};
 ghost use Rattle.desk_model.specs.histories.History.{History};
 ghost use Rattle.desk_model.specs.histories.Legal.{last_moment};
 ghost use Rattle.desk_model.specs.histories.Register.{person_of, vacancy_of};
-ghost use Rattle.earliest_minute.specs.When.{IsJudged, IsWhen};
+ghost use Rattle.earliest_minute.specs.When.{IsTimeOrBar, IsWhen};
 
 use crate::earliest::Earliest;
 use crate::laws::a_bar_that_is_gone_stays_gone;
@@ -13,7 +13,7 @@ use desk_model::{Job, Person};
 
 // The first minute at which nothing bars an enrolled person from the job of a vacancy, from the last moment on, which isn't past its
 // report; or what bars them at the report.
-fn judge<R: Reads>(
+fn time_or_bar<R: Reads>(
     reads: &R,
     work: &mut R::Work,
     last: Minute,
@@ -24,7 +24,7 @@ fn judge<R: Reads>(
     requires { R.suits reads.now work.old }
     ensures answer { (h : History) → R.tells reads.now h → (v : ℕ) → vacancy_of h v ≡ Some job.now
         → person_of h number ≡ Some person.now → last ≡ last_moment h → last ≤ job.now.report
-        → IsJudged h job.now number person.now result }
+        → IsTimeOrBar h job.now number person.now result }
     ensures suits { R.suits reads.now work.new }
     ensures steps { R.steps work.new ≡ R.steps work.old }
 {
@@ -62,8 +62,8 @@ pub fn earliest_clear<R: Reads>(
     if job.report() < last {
         return Earliest::Lapsed(job.report());
     }
-    match reads.place_in(work, &job.chain(), number) {
+    match reads.position_in(work, &job.chain(), number) {
         None => Earliest::NotListed,
-        Some(_) => judge(reads, work, last, job, number, person),
+        Some(_) => time_or_bar(reads, work, last, job, number, person),
     }
 }

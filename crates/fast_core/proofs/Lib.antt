@@ -1,4 +1,4 @@
-mod PlaceLemmas
+mod IndexLemmas
 mod OfferLemmas
 mod StepLemmas
 mod SearchLemmas

@@ -1,4 +1,4 @@
--- Open offers are made in the years 2000 to 2099, and a code stands at its place among all.
+-- Open offers are made in the years 2000 to 2099, and a code stands at its index among all.
 use Rattle.std.proofs.Common.{◌≡◌, ℕ, ◌+◌, Option, None, Some, is_some, IfSome, List, get_or, unwrap_or, sym, ap, ◌∙◌}
 use Rattle.std.proofs.lemmas.Bool.{false≢true}
 use Rattle.desk_base.specs.Number.{IsNumber}
@@ -14,7 +14,7 @@ use Rattle.desk_model.specs.histories.History.{History}
 use Rattle.desk_model.specs.histories.Register.{boards}
 use Rattle.desk_model.specs.offers.Offers.{open_offer}
 use Rattle.desk_model.proofs.FitRegisterLemmas.{open_offer-fits}
-use Rattle.desk_register.specs.Among.{board_place}
+use Rattle.desk_register.specs.Among.{board_index}
 use Rattle.offer_flight.specs.declared.in_flight.InFlight.{InFlight}
 use Rattle.desk_state.specs.OpenOffers.{IsOffer}
 
@@ -24,8 +24,8 @@ of_some {x = x} is = ap (λ o. unwrap_or o x) is
 abbrev offer_of : ℕ → List ℕ → ℕ → Offer
 offer_of person board made = record { person = person; board = board; made = made }
 
--- a code that has a place stands there
-pub code-at : (codes : List (List ℕ)) (b : List ℕ) (i : ℕ) → board_place codes b ≡ Some i → slice_get codes i ≡ Some b
+-- a code that has an index stands there
+pub code-at : (codes : List (List ℕ)) (b : List ℕ) (i : ℕ) → board_index codes b ≡ Some i → slice_get codes i ≡ Some b
 code-at codes b i is =
     let at = position-Some (bytes_eq b) codes i b is in
     slice_get-get_or codes i b at.0 ∙ ap Some (sym ((bytes_eq-Decides b (get_or codes i b)).0 at.1))

@@ -12,7 +12,7 @@ use Rattle.denial_rules.specs.declared.bar.Bar.{Bar}
 use Rattle.pool_board.specs.Board.{BoardValue}
 use Rattle.pool_board.specs.Members.{persons as members_in}
 use Rattle.vacancy_fill.specs.declared.fill.Found.{Found}
-use Rattle.vacancy_fill.specs.Chain.{members_at, places, chain_from, first_free as first_found, BarsUnready, is_passed_over, passed_over, most_steps}
+use Rattle.vacancy_fill.specs.Chain.{members_at, positions, chain_from, first_free as first_found, BarsUnready, is_passed_over, passed_over, most_steps}
 use Rattle.desk_model.specs.declared.link.Link.{Link}
 use Rattle.desk_model.specs.declared.person.Person.{Person}
 use Rattle.desk_model.specs.statements.Job.{JobValue}
@@ -25,15 +25,15 @@ use Rattle.desk_model.specs.offers.Offers.{is_of}
 use Rattle.desk_model.specs.histories.Duty.{events, in_tour}
 use Rattle.desk_model.specs.boards.Rank.{IsOnce}
 use Rattle.desk_model.specs.offers.Bars.{bar_of, may_have, is_free}
-use Rattle.desk_register.specs.Among.{place_among, board_place}
-use Rattle.desk_state.specs.declared.named.TheConstants.{NEVER}
-use Rattle.desk_state.specs.Places.{has_board}
+use Rattle.desk_register.specs.Among.{index_among, board_index}
+use Rattle.desk_state.specs.declared.named_indexes.TheConstants.{NEVER}
+use Rattle.desk_state.specs.Words.{has_board}
 use Rattle.desk_state.specs.declared.lists.Lists.{Lists}
 use Rattle.desk_state.specs.Lists.{KeepsLists, Keeps, boards_kept, is_on_one, IsOnOne}
-use Rattle.fast_core.specs.declared.desk.Desk.{Desk}
+use Rattle.fast_core.specs.declared.kept_desk.KeptDesk.{KeptDesk}
 use Rattle.fast_core.specs.declared.job_asked.JobAsked.{JobAsked}
-use Rattle.fast_core.specs.Judged.{IsJobAsked}
-use Rattle.fast_core.specs.Desk.{Tells}
+use Rattle.fast_core.specs.Candidates.{IsJobAsked}
+use Rattle.fast_core.specs.KeptDesk.{Tells}
 use Rattle.desk_state.proofs.BitLemmas.{no-board}
 use Rattle.fast_core.specs.Search.{bar_by, bar_for, bar_unless, was_searched, Judges, HasSearched, is_barred_though_rested, board_steps, chain_steps}
 use Rattle.fast_core.proofs.OfferLemmas.{code-at}
@@ -95,26 +95,26 @@ over-same barred other m (s ∷ members) same =
 abbrev pub link_at : List ℕ → Found → Link
 link_at b f = record { board = b; position = f.position; person = f.person }
 
-find-places : (barred : ℕ → Option Bar) (free : ℕ → Bool) → ((p : ℕ) → is_none (barred p) ≡ free p) → (b : List ℕ) (k i : ℕ) (ps : List ℕ)
-    → option_map (link_at b) (find (λ f. is_none (barred f.person)) (places k i ps)) ≡ find (λ link. free link.person) (links b i ps)
-find-places barred free same b k i [] = refl
-find-places barred free same b k i (p ∷ ps) = go (free p) (same p) (find-places barred free same b k (i + 1) ps)
+find-positions : (barred : ℕ → Option Bar) (free : ℕ → Bool) → ((p : ℕ) → is_none (barred p) ≡ free p) → (b : List ℕ) (k i : ℕ) (ps : List ℕ)
+    → option_map (link_at b) (find (λ f. is_none (barred f.person)) (positions k i ps)) ≡ find (λ link. free link.person) (links b i ps)
+find-positions barred free same b k i [] = refl
+find-positions barred free same b k i (p ∷ ps) = go (free p) (same p) (find-positions barred free same b k (i + 1) ps)
   where
     go : (here : Bool) → is_none (barred p) ≡ here
-        → option_map (link_at b) (find (λ f. is_none (barred f.person)) (places k (i + 1) ps)) ≡ find (λ link. free link.person) (links b (i + 1) ps)
-        → option_map (link_at b) (cond (is_none (barred p)) (Some (record { link = k; person = p; position = i })) (find (λ f. is_none (barred f.person)) (places k (i + 1) ps)))
+        → option_map (link_at b) (find (λ f. is_none (barred f.person)) (positions k (i + 1) ps)) ≡ find (λ link. free link.person) (links b (i + 1) ps)
+        → option_map (link_at b) (cond (is_none (barred p)) (Some (record { link = k; person = p; position = i })) (find (λ f. is_none (barred f.person)) (positions k (i + 1) ps)))
         ≡ cond here (Some (record { board = b; position = i; person = p })) (find (λ link. free link.person) (links b (i + 1) ps))
     go true is rest = rw is refl
     go false is rest = rw is rest
 
 -- what a search of one board finds is the first of it who may have the job
 pub found-on : (h : History) (m : ℕ) (job : JobValue) (kept : List BoardValue) (on : ℕ → ℕ → Bool) (b : List ℕ) (j : ℕ) (found : Option Found) (barred : ℕ → Option Bar) → Agrees barred h m job
-    → KeepsLists kept on h → board_place (boards h) b ≡ Some j → found ≡ first_found barred (chain_from kept 0 (j ∷ []))
+    → KeepsLists kept on h → board_index (boards h) b ≡ Some j → found ≡ first_found barred (chain_from kept 0 (j ∷ []))
     → option_map (link_at b) found ≡ find (λ link. is_free h m job link.person) (links b 1 (order h b))
 found-on h m job kept on b j found barred agrees lists at is =
-    ap (option_map (link_at b)) (is ∙ ap (find (λ f. is_none (barred f.person))) (append-nil (places 0 1 (members_in (members_at kept j)))
-    ∙ ap (places 0 1) (lists.order j b (code-at (boards h) b j at))))
-    ∙ find-places barred (is_free h m job) (λ p. none-some (barred p) (bar_for h m job p) (agrees p) ∙ bar_for-free h m job p) b 0 1 (order h b)
+    ap (option_map (link_at b)) (is ∙ ap (find (λ f. is_none (barred f.person))) (append-nil (positions 0 1 (members_in (members_at kept j)))
+    ∙ ap (positions 0 1) (lists.order j b (code-at (boards h) b j at))))
+    ∙ find-positions barred (is_free h m job) (λ p. none-some (barred p) (bar_for h m job p) (agrees p) ∙ bar_for-free h m job p) b 0 1 (order h b)
 
 pub found-some : (b : List ℕ) (found : Option Found) (f : Found) (whole : Option Link) → found ≡ Some f → option_map (link_at b) found ≡ whole
     → Some (record { board = b; position = f.position; person = f.person }) ≡ whole
@@ -139,7 +139,7 @@ alone-unready h m job kept seen on j barred agrees tours rest lists same =
 
 -- so what is found of them is the first who may have the job
 found-first : (h : History) (m : ℕ) (job : JobValue) (kept seen : List BoardValue) (on : ℕ → ℕ → Bool) (b : List ℕ) (j : ℕ) (found : Option Found) (barred : ℕ → Option Bar)
-    → Agrees barred h m job → BarsTours h → BarsRest h → KeepsLists kept on h → seen ≡ kept → board_place (boards h) b ≡ Some j
+    → Agrees barred h m job → BarsTours h → BarsRest h → KeepsLists kept on h → seen ≡ kept → board_index (boards h) b ≡ Some j
     → (All (λ index. BarsUnready barred m (members_at seen index)) (j ∷ []) → found ≡ first_found barred (chain_from seen 0 (j ∷ [])))
     → option_map (link_at b) found ≡ find (λ link. is_free h m job link.person) (links b 1 (order h b))
 found-first h m job kept seen on b j found barred agrees tours rest lists same at searched =
@@ -148,7 +148,7 @@ found-first h m job kept seen on b j found barred agrees tours rest lists same a
 
 -- and no more is read than its members give
 found-steps : (h : History) (m : ℕ) (job : JobValue) (kept seen : List BoardValue) (on : ℕ → ℕ → Bool) (b : List ℕ) (j old new : ℕ) (barred : ℕ → Option Bar)
-    → Agrees barred h m job → BarsTours h → BarsRest h → KeepsLists kept on h → m < NEVER → IsOnce (order h b) → seen ≡ kept → board_place (boards h) b ≡ Some j
+    → Agrees barred h m job → BarsTours h → BarsRest h → KeepsLists kept on h → m < NEVER → IsOnce (order h b) → seen ≡ kept → board_index (boards h) b ≡ Some j
     → (All (λ index. BarsUnready barred m (members_at seen index)) (j ∷ []) → new ≤ old + most_steps barred m seen (j ∷ []))
     → new ≤ old + board_steps h m job b
 found-steps h m job kept seen on b j old new barred agrees tours rest lists early once same at searched =
@@ -180,58 +180,58 @@ some-free (Some x) e = refl
 
 -- a board more
 pub searched-more : (h : History) (m : ℕ) (job : JobValue) (searched later : ℕ) (b : List ℕ) → ((p : ℕ) → list_any (nat_eq p) (order h b) ≡ is_on h p b) → later < 2 ^ 64
-    → HasSearched h m job searched → ((j : ℕ) → has_board later j ≡ (is_of j (board_place (boards h) b) || has_board searched j))
+    → HasSearched h m job searched → ((j : ℕ) → has_board later j ≡ (is_of j (board_index (boards h) b) || has_board searched j))
     → None ≡ find (λ link. is_free h m job link.person) (links b 1 (order h b)) → HasSearched h m job later
 searched-more h m job searched later b those fits before has none = record {
   fits = fits;
-  barred = λ p on. go p on (board_place (boards h) b) refl (sym (has on.place) ∙ on.has);
+  barred = λ p on. go p on (board_index (boards h) b) refl (sym (has on.index) ∙ on.has);
 }
   where
     here-barred : (p : ℕ) → is_on h p b ≡ true → is_some (bar_for h m job p) ≡ true
     here-barred p here = some-free (bar_for h m job p) (bar_for-free h m job p ∙ all-barred h m job b p (order h b) 1 (those p ∙ here) none)
 
-    older : (p : ℕ) (on : IsOnOne h p later) → has_board searched on.place ≡ true → is_some (bar_for h m job p) ≡ true
-    older p on was = before.barred p (record { place = on.place; board = on.board; at = on.at; has = was; on_it = on.on_it })
+    older : (p : ℕ) (on : IsOnOne h p later) → has_board searched on.index ≡ true → is_some (bar_for h m job p) ≡ true
+    older p on was = before.barred p (record { index = on.index; board = on.board; at = on.at; has = was; on_it = on.on_it })
 
-    by_bit : (p : ℕ) (on : IsOnOne h p later) (j : ℕ) (here : Bool) → board_place (boards h) b ≡ Some j → nat_eq j on.place ≡ here → (here || has_board searched on.place) ≡ true
+    by_bit : (p : ℕ) (on : IsOnOne h p later) (j : ℕ) (here : Bool) → board_index (boards h) b ≡ Some j → nat_eq j on.index ≡ here → (here || has_board searched on.index) ≡ true
         → is_some (bar_for h m job p) ≡ true
     by_bit p on j true at same is =
-        let place : j ≡ on.place = grind (arith, nat_tests, same) in
-        let board : on.board ≡ b = same_Some on.board b (sym on.at ∙ ap (slice_get (boards h)) (sym place) ∙ code-at (boards h) b j at) in
+        let index : j ≡ on.index = grind (arith, nat_tests, same) in
+        let board : on.board ≡ b = same_Some on.board b (sym on.at ∙ ap (slice_get (boards h)) (sym index) ∙ code-at (boards h) b j at) in
         here-barred p (ap (is_on h p) (sym board) ∙ on.on_it)
     by_bit p on j false at other is = older p on is
 
-    go : (p : ℕ) (on : IsOnOne h p later) (at : Option ℕ) → board_place (boards h) b ≡ at → (is_of on.place at || has_board searched on.place) ≡ true → is_some (bar_for h m job p) ≡ true
+    go : (p : ℕ) (on : IsOnOne h p later) (at : Option ℕ) → board_index (boards h) b ≡ at → (is_of on.index at || has_board searched on.index) ≡ true → is_some (bar_for h m job p) ≡ true
     go p on None at is = older p on is
-    go p on (Some j) at is = by_bit p on j (nat_eq j on.place) at refl is
+    go p on (Some j) at is = by_bit p on j (nat_eq j on.index) at refl is
 
 -- the law: who is kept as on one of some boards is on it
 abbrev pub KeptIsOn : Type 0
-KeptIsOn = (l : Lists) (h : History) (p i word : ℕ) → Keeps l h → word < 2 ^ 64 → place_among (persons h) p ≡ Some i → is_on_one l i word ≡ true → IsOnOne h p word
+KeptIsOn = (l : Lists) (h : History) (p i word : ℕ) → Keeps l h → word < 2 ^ 64 → index_among (persons h) p ≡ Some i → is_on_one l i word ≡ true → IsOnOne h p word
 
-was-on : KeptIsOn → (d : Desk) (h : History) (p searched : ℕ) → Tells d h → searched < 2 ^ 64 → was_searched d h searched p ≡ true → IsOnOne h p searched
-was-on law d h p searched tells fits was = go (place_among (persons h) p) refl was
+was-on : KeptIsOn → (d : KeptDesk) (h : History) (p searched : ℕ) → Tells d h → searched < 2 ^ 64 → was_searched d h searched p ≡ true → IsOnOne h p searched
+was-on law d h p searched tells fits was = go (index_among (persons h) p) refl was
   where
-    go : (at : Option ℕ) → place_among (persons h) p ≡ at → option_map_or (λ i. is_on_one d.lists i searched) at false ≡ true → IsOnOne h p searched
+    go : (at : Option ℕ) → index_among (persons h) p ≡ at → option_map_or (λ i. is_on_one d.lists i searched) at false ≡ true → IsOnOne h p searched
     go None at was = absurd (false≢true was)
     go (Some i) at was = law d.lists h p i searched tells.lists fits at was
 
 -- what a call bars that needs judge nobody again
-by : Desk → History → ℕ → JobValue → ℕ → ℕ → Option Bar
+by : KeptDesk → History → ℕ → JobValue → ℕ → ℕ → Option Bar
 by d h m job searched p = bar_unless (was_searched d h searched p) (bar_for h m job p)
 
-by-agrees : KeptIsOn → (d : Desk) (h : History) (m : ℕ) (job : JobValue) (searched : ℕ) → Tells d h → HasSearched h m job searched → Agrees (by d h m job searched) h m job
+by-agrees : KeptIsOn → (d : KeptDesk) (h : History) (m : ℕ) (job : JobValue) (searched : ℕ) → Tells d h → HasSearched h m job searched → Agrees (by d h m job searched) h m job
 unfolding by
 by-agrees law d h m job searched tells before p =
     unless-agrees (was_searched d h searched p) (bar_for h m job p) (λ was. before.barred p (was-on law d h p searched tells before.fits was))
 
-by-judges : (d : Desk) (h : History) (a : JobAsked) (searched : ℕ) → Tells d h → IsJobAsked a h → Judges d a searched (by d h a.moment a.job.now searched)
+by-judges : (d : KeptDesk) (h : History) (a : JobAsked) (searched : ℕ) → Tells d h → IsJobAsked a h → Judges d a searched (by d h a.moment a.job.now searched)
 unfolding by
 by-judges d h a searched tells asked = record { history = h; tells = tells; asked = asked; bars = λ p. refl }
 
 -- so the call finds the first of a board who may have the job
-pub call-first : KeptIsOn → (d : Desk) (h : History) (a : JobAsked) (searched : ℕ) (seen : List BoardValue) (b : List ℕ) (j : ℕ) (found : Option Found) → BarsTours h → BarsRest h
-    → Tells d h → IsJobAsked a h → HasSearched h a.moment a.job.now searched → seen ≡ boards_kept d.lists → board_place (boards h) b ≡ Some j
+pub call-first : KeptIsOn → (d : KeptDesk) (h : History) (a : JobAsked) (searched : ℕ) (seen : List BoardValue) (b : List ℕ) (j : ℕ) (found : Option Found) → BarsTours h → BarsRest h
+    → Tells d h → IsJobAsked a h → HasSearched h a.moment a.job.now searched → seen ≡ boards_kept d.lists → board_index (boards h) b ≡ Some j
     → ((barred : ℕ → Option Bar) → Judges d a searched barred → All (λ index. BarsUnready barred a.moment (members_at seen index)) (j ∷ [])
     → found ≡ first_found barred (chain_from seen 0 (j ∷ [])))
     → option_map (link_at b) found ≡ find (λ link. is_free h a.moment a.job.now link.person) (links b 1 (order h b))
@@ -241,8 +241,8 @@ call-first law d h a searched seen b j found tours rest tells asked before same 
     (finds barred (by-judges d h a searched tells asked))
 
 -- and reads no more than the board's members give
-pub call-steps : KeptIsOn → (d : Desk) (h : History) (a : JobAsked) (searched : ℕ) (seen : List BoardValue) (b : List ℕ) (j old new : ℕ) → BarsTours h → BarsRest h
-    → Tells d h → IsJobAsked a h → HasSearched h a.moment a.job.now searched → seen ≡ boards_kept d.lists → board_place (boards h) b ≡ Some j
+pub call-steps : KeptIsOn → (d : KeptDesk) (h : History) (a : JobAsked) (searched : ℕ) (seen : List BoardValue) (b : List ℕ) (j old new : ℕ) → BarsTours h → BarsRest h
+    → Tells d h → IsJobAsked a h → HasSearched h a.moment a.job.now searched → seen ≡ boards_kept d.lists → board_index (boards h) b ≡ Some j
     → IsOnce (order h b)
     → ((barred : ℕ → Option Bar) → Judges d a searched barred → All (λ index. BarsUnready barred a.moment (members_at seen index)) (j ∷ [])
     → new ≤ old + most_steps barred a.moment seen (j ∷ []))

@@ -19,7 +19,7 @@ use Rattle.desk_model.specs.histories.Legal.{IsLegal}
 use Rattle.desk_model.proofs.OrderLemmas.{nat_eq-same}
 use Rattle.desk_model.proofs.PlanLemmas.{vacancy-in_years}
 use Rattle.desk_answers.specs.Asked.{IsAsked}
-use Rattle.desk_state.specs.declared.named.TheConstants.{NEVER}
+use Rattle.desk_state.specs.declared.named_indexes.TheConstants.{NEVER}
 use Rattle.desk_state.specs.Lists.{ready_minute, KeepsLists}
 use Rattle.fast_core.specs.Search.{bar_for, is_rested, is_barred_though_rested}
 

@@ -1,6 +1,6 @@
-pub mod Crew
-pub mod Desk
-pub mod Judged
+pub mod People
+pub mod KeptDesk
+pub mod Candidates
 pub mod Search
 pub mod Core
 pub mod Question

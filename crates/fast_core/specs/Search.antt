@@ -11,11 +11,11 @@ use Rattle.desk_model.specs.histories.Register.{person_of, persons}
 use Rattle.desk_model.specs.boards.Boards.{order}
 use Rattle.desk_model.specs.histories.Duty.{events, in_tour}
 use Rattle.desk_model.specs.offers.Bars.{bar_of}
-use Rattle.desk_register.specs.Among.{place_among}
+use Rattle.desk_register.specs.Among.{index_among}
 use Rattle.desk_state.specs.Lists.{is_on_one, IsOnOne}
-use Rattle.fast_core.specs.Desk.{Tells}
-use Rattle.fast_core.specs.Judged.{IsJobAsked}
-use Rattle.fast_core.specs.declared.desk.Desk.{Desk}
+use Rattle.fast_core.specs.KeptDesk.{Tells}
+use Rattle.fast_core.specs.Candidates.{IsJobAsked}
+use Rattle.fast_core.specs.declared.kept_desk.KeptDesk.{KeptDesk}
 use Rattle.fast_core.specs.declared.job_asked.JobAsked.{JobAsked}
 
 -- what bars somebody from the job at a moment; nobody has it who isn't enrolled
@@ -26,9 +26,9 @@ bar_by h m job p (Some person) = bar_of h m job p person
 abbrev pub bar_for : History → ℕ → JobValue → ℕ → Option Bar
 bar_for h m job p = bar_by h m job p (person_of h p)
 
--- the person is kept as on one of the boards that were searched, each a bit by its place among all
-abbrev pub was_searched : Desk → History → ℕ → ℕ → Bool
-was_searched d h searched p = option_map_or (λ i. is_on_one d.lists i searched) (place_among (persons h) p) false
+-- the person is kept as on one of the boards that were searched, each a bit by its index among all
+abbrev pub was_searched : KeptDesk → History → ℕ → ℕ → Bool
+was_searched d h searched p = option_map_or (λ i. is_on_one d.lists i searched) (index_among (persons h) p) false
 
 -- who is on one of them is barred
 pub record HasSearched (h : History) (m : ℕ) (job : JobValue) (searched : ℕ) : Type 0 where
@@ -41,7 +41,7 @@ bar_unless true other = Some bar.MarkedOff
 bar_unless false other = other
 
 -- the desk tells of a history in which the vacancy is asked about, and each person is barred so
-pub record Judges (d : Desk) (a : JobAsked) (searched : ℕ) (barred : ℕ → Option Bar) : Type 0 where
+pub record Judges (d : KeptDesk) (a : JobAsked) (searched : ℕ) (barred : ℕ → Option Bar) : Type 0 where
   pub history : History
   pub tells : Tells d history
   pub asked : IsJobAsked a history

@@ -26,17 +26,17 @@ use desk_register::KeptPerson;
 use duty_events::Stage;
 use person_clock::PersonClock;
 
-/// An enrolled person, by their place among all, with what is kept of them and their clock.
+/// An enrolled person, by their index among all, with what is kept of them and their clock.
 #[derive(Drop)]
 pub(crate) struct Candidate<'a> {
-    pub place: usize,
+    pub index: usize,
     pub kept: &'a KeptPerson,
     pub clock: &'a PersonClock,
-    ghost range: { place < PERSON_LIMIT },
+    ghost range: { index < PERSON_LIMIT },
 }
 
 impl Candidate<'_> {
-    ghost use Rattle.fast_core.specs.Judged.{IsJobAsked, IsCandidate};
+    ghost use Rattle.fast_core.specs.Candidates.{IsJobAsked, IsCandidate};
 
     // Whether the person is in a tour.
     fn in_tour(&self) -> bool
@@ -65,7 +65,7 @@ impl Candidate<'_> {
             → result ≡ has_turned_down h asked.now.job.now.vac p }
     {
         match asked.vacancy {
-            Some(vacancy) => asked.turned_down.has(self.place, vacancy),
+            Some(vacancy) => asked.turned_down.has(self.index, vacancy),
             None => false,
         }
     }

@@ -8,8 +8,8 @@ ghost use Rattle.fast_core.specs.Search.{search_steps};
 ghost use Rattle.earliest_minute.specs.When.{IsWhen};
 ghost use Rattle.fast_core.specs.Question.{IsQuestion};
 
-use crate::desk::Desk;
-use crate::looks::Looks;
+use crate::kept_desk::KeptDesk;
+use crate::desk_reads::DeskReads;
 use desk_answers::next_entry;
 use desk_base::{NoMemory, PersonNo, VacNo};
 use desk_model::{DeskCore, Entry, Opening, Stated, one_history_is_legal};
@@ -22,7 +22,7 @@ use std::sync::ledger::{Blank, Ledger};
 /// A desk that keeps no entry: it keeps its persons, boards, vacancies, offers and clocks as they stand, in memory that it took
 /// when it was made, and answers by looking them up.
 pub struct FastCore {
-    pub(crate) desk: Desk,
+    pub(crate) desk: KeptDesk,
     pub(crate) left: u64,
     ghost some: { IsSome desk },
 }
@@ -35,7 +35,7 @@ impl FastCore {
         ensures opening { IfOk result (λ core. ⟦<FastCore as DeskCore>⟧.opening core ≡ opening) }
         ensures room { IfOk result (λ core. ⟦<FastCore as DeskCore>⟧.room core ≡ steps) }
     {
-        let desk = Desk::new(alloc, opening)?;
+        let desk = KeptDesk::new(alloc, opening)?;
         Ok(FastCore { desk, left: steps })
     }
 
@@ -73,7 +73,7 @@ impl FastCore {
             → steps.new ≤ steps.old + most_steps (search_steps h) h (moment h stated.minute) stated.cmd }
     {
         one_history_is_legal();
-        let looks = Looks::<L> {
+        let looks = DeskReads::<L> {
             desk: &self.desk,
             ledger: PhantomData,
         };
@@ -139,10 +139,10 @@ impl FastCore {
     }
 
     // The desk, with searches that are counted in this ledger.
-    fn looks<L: Ledger>(&self) -> Looks<'_, L>
+    fn looks<L: Ledger>(&self) -> DeskReads<'_, L>
         ensures { result.desk.now ≡ self.now.desk }
     {
-        Looks {
+        DeskReads {
             desk: &self.desk,
             ledger: PhantomData,
         }
@@ -156,7 +156,7 @@ impl Drop for FastCore {
 }
 
 impl DeskCore for FastCore {
-    ghost use Rattle.fast_core.specs.Desk.{Tells};
+    ghost use Rattle.fast_core.specs.KeptDesk.{Tells};
     ghost use Rattle.fast_core.specs.Core.{opened-as};
 
     ghost opening = { λ core. core.desk.opening };

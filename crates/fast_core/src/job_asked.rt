@@ -5,7 +5,7 @@ ghost use Rattle.desk_model.specs.histories.History.{History};
 ghost use Rattle.desk_model.specs.histories.Legal.{IsLegal};
 ghost use Rattle.person_clock.specs.Clock.{last_now, minute_of};
 ghost use Rattle.desk_state.specs.Clocks.{IsClock};
-ghost use Rattle.fast_core.specs.Judged.{IsJobAsked};
+ghost use Rattle.fast_core.specs.Candidates.{IsJobAsked};
 
 use desk_base::Minute;
 use desk_model::{Job, each_vacancy_ends_in_the_window, no_event_lies_ahead};
@@ -14,7 +14,7 @@ use month_hours::PlanMonths;
 use person_clock::PersonClock;
 
 /// A vacancy's job that persons are asked about at a moment, with what is the same for each of them: what the months have of its
-/// plan, the vacancy's place among all, and who has turned which down.
+/// plan, the vacancy's index among all, and who has turned which down.
 #[derive(Drop)]
 pub(crate) struct JobAsked<'a> {
     pub moment: Minute,

@@ -3,10 +3,10 @@
 
 mod call;
 mod candidate;
-mod crew;
-mod desk;
+mod people;
+mod kept_desk;
 mod fast_core;
 mod job_asked;
-mod looks;
+mod desk_reads;
 
 pub use fast_core::FastCore;

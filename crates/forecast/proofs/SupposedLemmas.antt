@@ -20,15 +20,15 @@ unfolding next
 given-next h s = refl
 
 -- of one command more the entry that is answered next has just that command
-pub stated-more : (h : History) (commands : List StatedValue) (place : ℕ) (s : StatedValue) (es : List EntryValue) (e : EntryValue)
-    → place < length commands → s ≡ get_or commands place s → e ≡ next h 0 s → map given es ≡ map by_nobody (take place commands)
-    → map given (es ++ e ∷ []) ≡ map by_nobody (take (place + 1) commands)
-stated-more h commands place s es e within at answer were =
+pub stated-more : (h : History) (commands : List StatedValue) (index : ℕ) (s : StatedValue) (es : List EntryValue) (e : EntryValue)
+    → index < length commands → s ≡ get_or commands index s → e ≡ next h 0 s → map given es ≡ map by_nobody (take index commands)
+    → map given (es ++ e ∷ []) ≡ map by_nobody (take (index + 1) commands)
+stated-more h commands index s es e within at answer were =
     map-append given es (e ∷ [])
     ∙ ap (λ cs. cs ++ given e ∷ []) were
-    ∙ ap (λ c. map by_nobody (take place commands) ++ c ∷ []) (ap given answer ∙ given-next h s)
-    ∙ sym (map-append by_nobody (take place commands) (s ∷ []))
-    ∙ ap (map by_nobody) (ap (λ x. take place commands ++ x ∷ []) at ∙ sym (take_more commands place s within))
+    ∙ ap (λ c. map by_nobody (take index commands) ++ c ∷ []) (ap given answer ∙ given-next h s)
+    ∙ sym (map-append by_nobody (take index commands) (s ∷ []))
+    ∙ ap (map by_nobody) (ap (λ x. take index commands ++ x ∷ []) at ∙ sym (take_more commands index s within))
 
 -- by the laws of legal histories: a legal one is the one of its commands, and commands behind others go on from the history of those
 pub goes-on : ((h : History) → IsLegal h → h ≡ history h.opening (map given h.entries))

@@ -1,7 +1,7 @@
 //! The boards of two persons, by a day worked by hand.
 use desk_base::{Code, Minute, PersonNo, VacNo};
 use desk_model::{Cmd, Entry, Reply, Stated};
-use desk_state::{Lists, NEVER, Named};
+use desk_state::{Lists, NEVER, NamedIndexes};
 use duty_events::Event;
 use std::test::Fail;
 
@@ -94,7 +94,7 @@ fn entry_of(cmd: Option<Cmd>, reply: Reply) -> Option<Entry> {
 // The lists keep it; whether there is such a command.
 fn keep(lists: &mut Lists, told: Told) -> Option<()> {
     let entry = entry_of(cmd_of(told.act, told.who, told.board), told.reply)?;
-    let named = Named {
+    let named = NamedIndexes {
         person: Some(told.who),
         board: Some(told.board),
         ready: Minute::new(told.ready)?,

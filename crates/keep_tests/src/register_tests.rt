@@ -207,11 +207,11 @@ fn persons_and_boards_are_found(rt: HostRuntime) -> Result<(), Fail> {
         (102, None),
     ] {
         let person = of_person(number).ok_or("no number")?;
-        assert_eq!(rt; register.persons().place(person), place);
+        assert_eq!(rt; register.persons().index(person), place);
     }
     for (text, place) in [(b"P1", Some(0)), (b"X1", Some(1)), (b"Y1", None)] {
         let board = code(text).ok_or("no code")?;
-        assert_eq!(rt; register.boards().place(&board), place);
+        assert_eq!(rt; register.boards().index(&board), place);
     }
     Ok(())
 }

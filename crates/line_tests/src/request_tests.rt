@@ -63,7 +63,7 @@ const WANTED: [(&[u8], Want); 32] = [
 
 fn is_so(said: Request, want: Want) -> bool {
     match said {
-        Request::Look { board, place } => is_look(board, place, want),
+        Request::Look { board, position } => is_look(board, position, want),
         Request::Crew {
             minute,
             first,
@@ -73,9 +73,9 @@ fn is_so(said: Request, want: Want) -> bool {
     }
 }
 
-fn is_look(board: Code, place: u16, want: Want) -> bool {
+fn is_look(board: Code, position: u16, want: Want) -> bool {
     match want {
-        Want::Look(code, number) => Code::read(code) == Some(board) && place == number,
+        Want::Look(code, number) => Code::read(code) == Some(board) && position == number,
         _ => false,
     }
 }

@@ -1,3 +1,3 @@
-pub mod Looks
+pub mod Lookups
 pub mod Edits
 pub mod Maps

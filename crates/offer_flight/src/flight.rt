@@ -3,7 +3,7 @@ ghost use Rattle.std.specs.List.{IsDistinct};
 ghost use Rattle.offer_flight.specs.Flight.{of_vacancy, of_person, persons_of, IsOneMap};
 
 use crate::InFlight;
-use crate::places::{copy_of, place_of_person, place_of_vacancy, put_in};
+use crate::indexes::{copy_of, index_of_person, index_of_vacancy, put_in};
 use desk_base::{NoMemory, PersonNo, VacNo};
 use std::alloc::Global;
 use std::marker::Model;
@@ -77,9 +77,9 @@ impl Flight {
             ≡ (if made.person == person then Some made else of_person self.old person) }
         ensures count { length self.new ≡ length self.old + 1 }
     {
-        let place = place_of_vacancy(&self.by_vacancy, made.vac);
-        let again = place_of_person(&self.by_person, made.person);
-        put_in(&mut self.by_vacancy, place, &made);
+        let index = index_of_vacancy(&self.by_vacancy, made.vac);
+        let again = index_of_person(&self.by_person, made.person);
+        put_in(&mut self.by_vacancy, index, &made);
         put_in(&mut self.by_person, again, &made);
     }
 
@@ -94,9 +94,9 @@ impl Flight {
         ensures count { IfSome result (λ done. length self.new + 1 ≡ length self.old) }
     {
         let done = self.of_vacancy(vac)?;
-        let place = place_of_vacancy(&self.by_vacancy, vac);
-        let again = place_of_person(&self.by_person, done.person);
-        self.by_vacancy.remove(place);
+        let index = index_of_vacancy(&self.by_vacancy, vac);
+        let again = index_of_person(&self.by_person, done.person);
+        self.by_vacancy.remove(index);
         self.by_person.remove(again);
         Some(done)
     }
@@ -105,8 +105,8 @@ impl Flight {
     pub fn of_vacancy(&self, vac: VacNo) -> Option<InFlight>
         ensures { result ≡ of_vacancy self.now vac }
     {
-        let place = place_of_vacancy(&self.by_vacancy, vac);
-        let found = self.by_vacancy.get(place)?;
+        let index = index_of_vacancy(&self.by_vacancy, vac);
+        let found = self.by_vacancy.get(index)?;
         if found.vac == vac { Some(*found) } else { None }
     }
 
@@ -114,8 +114,8 @@ impl Flight {
     pub fn of_person(&self, person: PersonNo) -> Option<InFlight>
         ensures { result ≡ of_person self.now person }
     {
-        let place = place_of_person(&self.by_person, person);
-        let found = self.by_person.get(place)?;
+        let index = index_of_person(&self.by_person, person);
+        let found = self.by_person.get(index)?;
         if found.person == person {
             Some(*found)
         } else {

@@ -7,7 +7,7 @@ pub struct InFlight {
     pub person: PersonNo,
     /// Of which vacancy.
     pub vac: VacNo,
-    /// On which board the person stood, by its place.
+    /// On which board the person stood, by its index.
     pub board: u8,
     /// From which minute on it counts as not answered.
     pub deadline: Minute,

@@ -3,7 +3,7 @@
 
 mod flight;
 mod in_flight;
-mod places;
+mod indexes;
 
 pub use flight::{Flight, OFFERS, the_most_open_offers};
 pub use in_flight::InFlight;

@@ -11,7 +11,7 @@ use Rattle.desk_model.specs.laws.Comes.{kept}
 use Rattle.desk_model.proofs.EventLemmas.{events-snoc}
 use Rattle.plain_core.proofs.PrefixLemmas.{one_more}
 
--- the events up to the next place
+-- the events up to the next position
 events-next : (o : OpeningValue) (es : List EntryValue) (i : ℕ) (e : EntryValue) (p : ℕ) → i < length es → e ≡ get_or es i e
     → events (history_of o (take (i + 1) es)) p ≡ kept (events (history_of o (take i es)) p) (said (tells p) e)
 events-next o es i e p within is = ap (λ h. events h p) (sym (one_more o es i e within is)) ∙ events-snoc (history_of o (take i es)) e p

@@ -20,7 +20,7 @@ pub order-opened : (o : OpeningValue) (b : List ℕ) → order (opened o) b ≡ 
 unfolding steps
 order-opened o b = refl
 
--- ---- links of the members from a place on
+-- ---- links of the members from a position on
 
 abbrev pub link_of : List ℕ → ℕ → ℕ → Link
 link_of b k p = record { board = b; position = k; person = p }

@@ -1,4 +1,4 @@
--- The entries up to a place, and the one there.
+-- The entries up to a position, and the one there.
 use Rattle.std.proofs.Common.{◌≡◌, ℕ, ◌+◌, ◌-◌, ◌<◌, ◌≤◌, Option, unwrap_or, List, [], ◌∷◌, ◌++◌, length, take, get_or, fold, sym, ap, ◌∙◌, arith, append-nil}
 use Rattle.std.proofs.Math.Seq.{append_snoc}
 use Rattle.std.proofs.lemmas.List.{take_more}
@@ -7,12 +7,12 @@ use Rattle.desk_model.specs.statements.Entry.{EntryValue}
 use Rattle.desk_model.specs.histories.History.{History, history_of, opened, with_entry, last_of}
 use Rattle.desk_model.proofs.SaidLemmas.{last_of-or}
 
--- the history up to the next place
+-- the history up to the next position
 pub one_more : (o : OpeningValue) (es : List EntryValue) (i : ℕ) (e : EntryValue) → i < length es → e ≡ get_or es i e
     → with_entry (history_of o (take i es)) e ≡ history_of o (take (i + 1) es)
 one_more o es i e within is = ap (history_of o) (ap (λ x. take i es ++ x ∷ []) is ∙ sym (take_more es i e within))
 
--- what the last of those up to a place says, or else a value, by the one before that place
+-- what the last of those up to a position says, or else a value, by the one before that position
 pub last_of-back : {X : Type 0} (f : EntryValue → Option X) (es : List EntryValue) (i : ℕ) (e : EntryValue) (x : X) (told : Option X) → 0 < i → i ≤ length es
     → e ≡ get_or es (i - 1) e → f e ≡ told → unwrap_or told (unwrap_or (last_of f (take (i - 1) es)) x) ≡ unwrap_or (last_of f (take i es)) x
 last_of-back f es i e x told some within is told-is =

@@ -142,10 +142,10 @@ impl Reads for Kept {
         work.members.len() as u16
     }
 
-    fn member_at(&self, work: &mut Lists, board: &Code, place: u16) -> Option<PersonNo> {
+    fn member_at(&self, work: &mut Lists, board: &Code, position: u16) -> Option<PersonNo> {
         self.fill_members(board, &mut work.members);
         work.members
-            .get(usize::from(place).saturating_sub(1))
+            .get(usize::from(position).saturating_sub(1))
             .copied()
     }
 
@@ -170,7 +170,7 @@ impl Reads for Kept {
         on_offer(&self.entries, person)
     }
 
-    fn judge(
+    fn allow(
         &self,
         work: &mut Lists,
         person: PersonNo,
@@ -206,8 +206,8 @@ impl Reads for Kept {
         self.first_free_in(work, moment, job)
     }
 
-    fn place_in(&self, work: &mut Lists, boards: &Chain, person: PersonNo) -> Option<Link> {
-        self.first_place(work, boards, person)
+    fn position_in(&self, work: &mut Lists, boards: &Chain, person: PersonNo) -> Option<Link> {
+        self.first_position(work, boards, person)
     }
 
     fn listed(&self, work: &mut Lists, boards: &Chain) -> u16 {

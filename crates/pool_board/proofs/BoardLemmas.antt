@@ -9,7 +9,7 @@ use Rattle.pool_board.specs.Members.{persons, is_listed, ready_of, without, are_
 use Rattle.pool_board.specs.Board.{IsBoard}
 use Rattle.pool_board.proofs.MemberLemmas.{distinct-without, distinct-append, without-out, persons-append, ready_of-append, ready_of-last}
 use Rattle.pool_board.proofs.SlotLemmas.{persons-cleared, ready_of-cleared, length-cleared, persons-ready, ready_of-there}
-use Rattle.pool_board.proofs.PlaceLemmas.{filled-before_more}
+use Rattle.pool_board.proofs.PositionLemmas.{filled-before_more}
 
 pub is_board-out : (listed : ℕ) (slots new : List (Option Slot)) (i : ℕ) (x : Slot) → IsBoard listed slots → slot_at slots i ≡ Some x → new ≡ set slots i None → IsBoard (listed - 1) new
 is_board-out listed slots new i x board is new_is = rw new_is record {

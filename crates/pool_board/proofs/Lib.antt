@@ -1,4 +1,4 @@
 pub mod MemberLemmas
 pub mod SlotLemmas
-pub mod PlaceLemmas
+pub mod PositionLemmas
 pub mod BoardLemmas

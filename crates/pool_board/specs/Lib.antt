@@ -1,3 +1,3 @@
 pub mod Members
-pub mod Places
+pub mod Positions
 pub mod Board

@@ -1,12 +1,12 @@
 ghost use Rattle.std.specs.Prelude.{◌≡◌, ◌≢◌, ℕ, ◌+◌, ◌*◌, ◌<◌, ◌≤◌, IfOk, IfErr, IfSome, IsOk, is_some, true, false, Some, None, [], ◌∷◌, ◌++◌, length};
 ghost use Rattle.slot_tree.specs.Slots.{filled};
 ghost use Rattle.pool_board.specs.Members.{persons, is_listed, ready_of, without, are_distinct};
-ghost use Rattle.pool_board.specs.Places.{at_place, FindsReadyPlace};
+ghost use Rattle.pool_board.specs.Positions.{at_position, FindsReadyPosition};
 ghost use Rattle.pool_board.specs.Board.{board_of, IsSameSort};
 
 use crate::MembersFull;
 use crate::slots::{find, hint_number, make_room, move_last};
-use desk_base::{Code, Minute, NoMemory, PersonNo, PlaceHints};
+use desk_base::{Code, Minute, NoMemory, PersonNo, IndexHints};
 use slot_tree::{SlotTree, Steps};
 use std::alloc::Global;
 use std::marker::Model;
@@ -16,7 +16,7 @@ use std::sync::ledger::Ledger;
 pub const MOST_MEMBERS: u16 = 500;
 
 /// A board of persons in order, each with the minute from which they are ready. It belongs to a place, and is a pool or an
-/// extra board. Nobody is listed twice, and at most 500 are. Places count from 1. Boards share the hints of where each person
+/// extra board. Nobody is listed twice, and at most 500 are. Positions count from 1. Boards share the hints of where each person
 /// stands; the number of each is its own.
 pub struct Board {
     number: u8,
@@ -51,8 +51,8 @@ impl Model for Board {
 
 impl Board {
     /// The hints of 64 boards, with the numbers from 0; `NoMemory` where there is none for them.
-    pub fn hints(alloc: Global) -> Result<PlaceHints, NoMemory> {
-        PlaceHints::new(alloc, 18)
+    pub fn hints(alloc: Global) -> Result<IndexHints, NoMemory> {
+        IndexHints::new(alloc, 18)
     }
 
     /// A board with a number, of this place and sort, with no members; `NoMemory` where there is none for it.
@@ -69,7 +69,7 @@ impl Board {
     }
 
     // The slot in which a person may stand, by the hints.
-    fn hint(&self, person: PersonNo, hints: &PlaceHints) -> u32 {
+    fn hint(&self, person: PersonNo, hints: &IndexHints) -> u32 {
         hints.of(hint_number(self.number, person)) as u32
     }
 
@@ -88,7 +88,7 @@ impl Board {
         &mut self,
         person: PersonNo,
         ready: Minute,
-        hints: &mut PlaceHints,
+        hints: &mut IndexHints,
     ) -> Result<(), MembersFull>
         requires { is_listed person self.old.members ≡ false }
         ensures sort { IsSameSort self.old self.new }
@@ -109,7 +109,7 @@ impl Board {
     }
 
     /// Takes a listed person off; those behind move up.
-    pub fn unlist(&mut self, person: PersonNo, hints: &PlaceHints)
+    pub fn unlist(&mut self, person: PersonNo, hints: &IndexHints)
         requires { is_listed person self.old.members ≡ true }
         ensures sort { IsSameSort self.old self.new }
         ensures order { persons self.new.members ≡ without person (persons self.old.members) }
@@ -123,7 +123,7 @@ impl Board {
     }
 
     /// Sends a listed person to the bottom; each stays ready from the same minute on.
-    pub fn to_bottom(&mut self, person: PersonNo, hints: &mut PlaceHints)
+    pub fn to_bottom(&mut self, person: PersonNo, hints: &mut IndexHints)
         requires { is_listed person self.old.members ≡ true }
         ensures sort { IsSameSort self.old self.new }
         ensures order { persons self.new.members
@@ -143,7 +143,7 @@ impl Board {
     }
 
     /// Sends a listed person to the bottom, ready from another minute on; each other one stays ready from the same minute on.
-    pub fn to_bottom_ready(&mut self, person: PersonNo, ready: Minute, hints: &mut PlaceHints)
+    pub fn to_bottom_ready(&mut self, person: PersonNo, ready: Minute, hints: &mut IndexHints)
         requires { is_listed person self.old.members ≡ true }
         ensures sort { IsSameSort self.old self.new }
         ensures order { persons self.new.members
@@ -158,7 +158,7 @@ impl Board {
     }
 
     /// Makes a listed person ready from another minute on. Nobody moves.
-    pub fn set_ready(&mut self, person: PersonNo, ready: Minute, hints: &PlaceHints)
+    pub fn set_ready(&mut self, person: PersonNo, ready: Minute, hints: &IndexHints)
         requires { is_listed person self.old.members ≡ true }
         ensures sort { IsSameSort self.old self.new }
         ensures order { persons self.new.members ≡ persons self.old.members }
@@ -172,26 +172,26 @@ impl Board {
     }
 
     /// Whether a person is listed.
-    pub fn has(&self, person: PersonNo, hints: &PlaceHints) -> bool
+    pub fn has(&self, person: PersonNo, hints: &IndexHints) -> bool
         ensures { result ≡ is_listed person self.now.members }
     {
         find(&self.tree, self.hint(person, hints), person).is_some()
     }
 
-    /// The place of a person; `None` exactly where the person isn't listed.
-    pub fn position(&self, person: PersonNo, hints: &PlaceHints) -> Option<u16>
-        ensures at { IfSome result (λ place. at_place (persons self.now.members) place ≡ Some person) }
+    /// The position of a person; `None` exactly where the person isn't listed.
+    pub fn position(&self, person: PersonNo, hints: &IndexHints) -> Option<u16>
+        ensures at { IfSome result (λ position. at_position (persons self.now.members) position ≡ Some person) }
         ensures listed { is_some result ≡ is_listed person self.now.members }
     {
         let at = find(&self.tree, self.hint(person, hints), person)?;
         Some(self.tree.before(at.slot) as u16 + 1)
     }
 
-    /// Who stands at a place; `None` exactly where nobody does.
-    pub fn at(&self, place: u16) -> Option<PersonNo>
-        ensures { result ≡ at_place (persons self.now.members) place }
+    /// Who stands at a position; `None` exactly where nobody does.
+    pub fn at(&self, position: u16) -> Option<PersonNo>
+        ensures { result ≡ at_position (persons self.now.members) position }
     {
-        let Some(slot) = self.tree.nth(u32::from(place)) else {
+        let Some(slot) = self.tree.nth(u32::from(position)) else {
             return None;
         };
         match self.tree.at(slot) {
@@ -236,14 +236,14 @@ impl Board {
         })
     }
 
-    /// The first place, from one on, whose person is ready at the minute; `None` exactly where there is none. The steps are
+    /// The first position, from one on, whose person is ready at the minute; `None` exactly where there is none. The steps are
     /// nodes that a search reads.
-    pub fn ready_from<L: Ledger>(&self, place: u16, m: Minute, steps: &mut Steps<L>) -> Option<u16>
-        requires { 1 ≤ place }
-        ensures found { FindsReadyPlace self.now.members place m result }
+    pub fn ready_from<L: Ledger>(&self, position: u16, m: Minute, steps: &mut Steps<L>) -> Option<u16>
+        requires { 1 ≤ position }
+        ensures found { FindsReadyPosition self.now.members position m result }
         ensures cost { steps.new ≤ steps.old + 4 * (10 + 1) }
     {
-        let Some(slot) = self.tree.nth(u32::from(place)) else {
+        let Some(slot) = self.tree.nth(u32::from(position)) else {
             return None;
         };
         let Some(at) = self.tree.first_from(slot, m, steps) else {

@@ -3,7 +3,7 @@ ghost use Rattle.std.specs.Prelude.{◌≡◌, ℕ, ◌<◌, ◌≤◌, IfSome, 
 ghost use Rattle.slot_tree.specs.Slots.{slot_at, filled, filled_end};
 ghost use Rattle.pool_board.specs.Members.{holds, is_listed};
 
-use desk_base::{Minute, PersonNo, PlaceHints};
+use desk_base::{Minute, PersonNo, IndexHints};
 use slot_tree::SlotTree;
 
 /// Where a person stands, and from when on they are ready.
@@ -58,7 +58,7 @@ pub(crate) fn hint_number(board: u8, person: PersonNo) -> u32 {
 }
 
 // All persons were moved.
-fn renew(hints: &mut PlaceHints, board: u8, tree: &SlotTree) {
+fn renew(hints: &mut IndexHints, board: u8, tree: &SlotTree) {
     for slot in 0..1_024 {
         if let Some(held) = tree.at(slot) {
             hints.set(hint_number(board, held.person), slot as usize);
@@ -67,7 +67,7 @@ fn renew(hints: &mut PlaceHints, board: u8, tree: &SlotTree) {
 }
 
 /// Sees to it that a slot is free behind the last filled one.
-pub(crate) fn make_room(tree: &mut SlotTree, hints: &mut PlaceHints, board: u8)
+pub(crate) fn make_room(tree: &mut SlotTree, hints: &mut IndexHints, board: u8)
     requires { length (filled tree.old) < length tree.old }
     ensures room { filled_end tree.new < length tree.new }
     ensures order { filled tree.new ≡ filled tree.old }
@@ -82,7 +82,7 @@ pub(crate) fn make_room(tree: &mut SlotTree, hints: &mut PlaceHints, board: u8)
 /// Empties a filled slot, and fills one behind all others by the person.
 pub(crate) fn move_last(
     tree: &mut SlotTree,
-    hints: &mut PlaceHints,
+    hints: &mut IndexHints,
     board: u8,
     slot: u32,
     person: PersonNo,

@@ -7,7 +7,7 @@ use Rattle.std.proofs.lemmas.List.Splits.{slice_split_at, slice_split_none}
 use Rattle.std.proofs.lemmas.Bool.{false_from_ne_true, eqb-true}
 use Rattle.desk_base.specs.Parts.{parts_by}
 
--- no byte from one place up to another is a comma
+-- no byte from one index up to another is a comma
 abbrev pub AreUncut : List ℕ → ℕ → ℕ → Type 0
 AreUncut text start at = All (λ b. (b == 44) ≡ false) (take (at - start) (drop start text))
 

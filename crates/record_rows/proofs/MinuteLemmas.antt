@@ -10,7 +10,7 @@ pub minute_text-one : (a b : ℕ) → minute_text a ≡ minute_text b → a ≡ 
 minute_text-one a b e =
     let s = minute_text_spells (minute_text b) a (sym e) in
     let t = minute_text_spells (minute_text b) b refl in
-    let month : month_of a ≡ month_of b = omega (arith, s.year, s.place, t.year, t.place) in
+    let month : month_of a ≡ month_of b = omega (arith, s.year, s.number, t.year, t.number) in
     let day : day_of a ≡ day_of b = omega (arith, s.day, t.day, ap first_day month) in
     omega (arith, day, s.hour, s.past, t.hour, t.past)
 

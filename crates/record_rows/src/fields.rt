@@ -22,8 +22,8 @@ pub(crate) fn fill_with_record<'a>(fields: &mut Fields<'a>, row: &'a ByteRecord)
     ensures { map (λ field. field.now) fields.new.items ≡ take FIELD_LIMIT (fields_of row.now) }
 {
     fields.clear();
-    for place in 0..FIELD_LIMIT {
-        match row.get(place) {
+    for index in 0..FIELD_LIMIT {
+        match row.get(index) {
             Some(field) => fields.push(field),
             None => return,
         }

@@ -16,7 +16,7 @@ use Rattle.caller_lines.specs.declared.said.Said.{Said}
 use Rattle.caller_lines.specs.declared.said.Said.TheVariants as said
 use Rattle.desk_shared.specs.Calls.{Calls}
 use Rattle.desk_shared.specs.declared.receipt.Receipt.{Receipt}
-use Rattle.serve_desk.specs.declared.limits.TheConstants.{LINE_LIMIT}
+use Rattle.serve_desk.specs.declared.limits.TheConstants.{LINES_PER_CALLER}
 use Rattle.serve_desk.specs.declared.why.Why.{Why}
 use Rattle.serve_desk.specs.declared.why.Why.TheVariants as why
 use Rattle.serve_desk.specs.Texts.{too_many, too_long, no_memory, malformed, spent}
@@ -55,7 +55,7 @@ follows-fault heard left GaveTooLong reads = absurd (cc)
 follows-fault heard left GaveEnd reads = absurd (cc)
 
 -- it gave a line that is too long
-pub follows-too_long : (heard left : ℕ) (gave : Given) (texts : List (List ℕ)) (ends : Option Why) → heard < LINE_LIMIT → ReadsAs gave said.TooLong → Puts too_long None texts ends
+pub follows-too_long : (heard left : ℕ) (gave : Given) (texts : List (List ℕ)) (ends : Option Why) → heard < LINES_PER_CALLER → ReadsAs gave said.TooLong → Puts too_long None texts ends
     → Follows heard left gave [] texts ends
 follows-too_long heard left GaveTooLong texts ends few reads puts = a_line_too_long texts ends few puts
 follows-too_long heard left (GaveLine bytes) texts ends few reads puts = absurd reads
@@ -63,7 +63,7 @@ follows-too_long heard left GaveEnd texts ends few reads puts = absurd (cc)
 follows-too_long heard left GaveFailed texts ends few reads puts = absurd (cc)
 
 -- memory was wanting for the line
-follows-no_memory : (heard left : ℕ) (gave : Given) (texts : List (List ℕ)) (ends : Option Why) → heard < LINE_LIMIT → ReadsAs gave said.NoMemory → Puts no_memory None texts ends
+follows-no_memory : (heard left : ℕ) (gave : Given) (texts : List (List ℕ)) (ends : Option Why) → heard < LINES_PER_CALLER → ReadsAs gave said.NoMemory → Puts no_memory None texts ends
     → Follows heard left gave [] texts ends
 follows-no_memory heard left (GaveLine bytes) texts ends few reads puts = no_memory_for_a_line bytes texts ends few puts
 follows-no_memory heard left GaveTooLong texts ends few reads puts = absurd (cc)
@@ -71,7 +71,7 @@ follows-no_memory heard left GaveEnd texts ends few reads puts = absurd (cc)
 follows-no_memory heard left GaveFailed texts ends few reads puts = absurd (cc)
 
 -- it gave no command
-pub follows-malformed : (heard left : ℕ) (gave : Given) (field : ℕ) (texts : List (List ℕ)) (ends : Option Why) → heard < LINE_LIMIT → ReadsAs gave (said.Malformed field)
+pub follows-malformed : (heard left : ℕ) (gave : Given) (field : ℕ) (texts : List (List ℕ)) (ends : Option Why) → heard < LINES_PER_CALLER → ReadsAs gave (said.Malformed field)
     → Puts (malformed field) None texts ends → Follows heard left gave [] texts ends
 follows-malformed heard left (GaveLine bytes) field texts ends few reads puts = no_command bytes field texts ends few reads puts
 follows-malformed heard left GaveTooLong field texts ends few reads puts = absurd (cc)
@@ -79,7 +79,7 @@ follows-malformed heard left GaveEnd field texts ends few reads puts = absurd (c
 follows-malformed heard left GaveFailed field texts ends few reads puts = absurd (cc)
 
 -- it gave a command, and the seat has no call left
-pub follows-spent : (heard left : ℕ) (gave : Given) (s : StatedValue) (texts : List (List ℕ)) (ends : Option Why) → heard < LINE_LIMIT → ReadsAs gave (said.Command s) → left ≡ 0
+pub follows-spent : (heard left : ℕ) (gave : Given) (s : StatedValue) (texts : List (List ℕ)) (ends : Option Why) → heard < LINES_PER_CALLER → ReadsAs gave (said.Command s) → left ≡ 0
     → Puts spent (Some why.Spent) texts ends → Follows heard left gave [] texts ends
 follows-spent heard left (GaveLine bytes) s texts ends few reads none puts = no_call_left bytes s texts ends few reads none puts
 follows-spent heard left GaveTooLong s texts ends few reads none puts = absurd (cc)
@@ -87,7 +87,7 @@ follows-spent heard left GaveEnd s texts ends few reads none puts = absurd (cc)
 follows-spent heard left GaveFailed s texts ends few reads none puts = absurd (cc)
 
 -- it gave a command, which was called
-pub follows-call : (heard left : ℕ) (gave : Given) (e : EntryValue) (texts : List (List ℕ)) (ends : Option Why) → heard < LINE_LIMIT → ReadsAs gave (said.Command e.stated) → 0 < left
+pub follows-call : (heard left : ℕ) (gave : Given) (e : EntryValue) (texts : List (List ℕ)) (ends : Option Why) → heard < LINES_PER_CALLER → ReadsAs gave (said.Command e.stated) → 0 < left
     → Puts (entry_line e) None texts ends → Follows heard left gave (e ∷ []) texts ends
 follows-call heard left (GaveLine bytes) e texts ends few reads some puts = a_call bytes e texts ends few reads some puts
 follows-call heard left GaveTooLong e texts ends few reads some puts = absurd (cc)
@@ -125,28 +125,28 @@ Replies-text o heard left before now s seat ends then text put follows = record 
   made = Made-none o seat;
 }
 
-pub Replies-too_many : (o : OpeningValue) (heard left : ℕ) (before now : Option (List LineCall)) (s : Said) (seat : SeatValue) (ends : Option Why) → heard ≡ LINE_LIMIT → s ≢ said.End → s ≢ said.LineFault
+pub Replies-too_many : (o : OpeningValue) (heard left : ℕ) (before now : Option (List LineCall)) (s : Said) (seat : SeatValue) (ends : Option Why) → heard ≡ LINES_PER_CALLER → s ≢ said.End → s ≢ said.LineFault
     → PutsOn too_many (Some why.TooManyLines) before now ends → Replies o heard left before now s seat seat ends
 Replies-too_many o heard left before now s seat ends full not_end no_fault put =
     Replies-text o heard left before now s seat ends (Some why.TooManyLines) too_many put
     (λ gave texts reads puts. one_line_too_many gave texts ends (line-said gave s reads not_end no_fault) full puts)
 
-pub Replies-too_long : (o : OpeningValue) (heard left : ℕ) (before now : Option (List LineCall)) (s : Said) (seat : SeatValue) (ends : Option Why) → heard < LINE_LIMIT → s ≡ said.TooLong
+pub Replies-too_long : (o : OpeningValue) (heard left : ℕ) (before now : Option (List LineCall)) (s : Said) (seat : SeatValue) (ends : Option Why) → heard < LINES_PER_CALLER → s ≡ said.TooLong
     → PutsOn too_long None before now ends → Replies o heard left before now s seat seat ends
 Replies-too_long o heard left before now s seat ends few is put =
     Replies-text o heard left before now s seat ends None too_long put (λ gave texts reads puts. follows-too_long heard left gave texts ends few (subst (λ x. ReadsAs gave x) is reads) puts)
 
-pub Replies-no_memory : (o : OpeningValue) (heard left : ℕ) (before now : Option (List LineCall)) (s : Said) (seat : SeatValue) (ends : Option Why) → heard < LINE_LIMIT → s ≡ said.NoMemory
+pub Replies-no_memory : (o : OpeningValue) (heard left : ℕ) (before now : Option (List LineCall)) (s : Said) (seat : SeatValue) (ends : Option Why) → heard < LINES_PER_CALLER → s ≡ said.NoMemory
     → PutsOn no_memory None before now ends → Replies o heard left before now s seat seat ends
 Replies-no_memory o heard left before now s seat ends few is put =
     Replies-text o heard left before now s seat ends None no_memory put (λ gave texts reads puts. follows-no_memory heard left gave texts ends few (subst (λ x. ReadsAs gave x) is reads) puts)
 
-pub Replies-malformed : (o : OpeningValue) (heard left : ℕ) (before now : Option (List LineCall)) (s : Said) (field : ℕ) (seat : SeatValue) (ends : Option Why) → heard < LINE_LIMIT
+pub Replies-malformed : (o : OpeningValue) (heard left : ℕ) (before now : Option (List LineCall)) (s : Said) (field : ℕ) (seat : SeatValue) (ends : Option Why) → heard < LINES_PER_CALLER
     → s ≡ said.Malformed field → PutsOn (malformed field) None before now ends → Replies o heard left before now s seat seat ends
 Replies-malformed o heard left before now s field seat ends few is put =
     Replies-text o heard left before now s seat ends None (malformed field) put (λ gave texts reads puts. follows-malformed heard left gave field texts ends few (subst (λ x. ReadsAs gave x) is reads) puts)
 
-pub Replies-spent : (o : OpeningValue) (heard left : ℕ) (before now : Option (List LineCall)) (s : StatedValue) (seat after : SeatValue) (ends : Option Why) → heard < LINE_LIMIT → left ≡ 0 → after ≡ seat
+pub Replies-spent : (o : OpeningValue) (heard left : ℕ) (before now : Option (List LineCall)) (s : StatedValue) (seat after : SeatValue) (ends : Option Why) → heard < LINES_PER_CALLER → left ≡ 0 → after ≡ seat
     → PutsOn spent (Some why.Spent) before now ends → Replies o heard left before now (said.Command s) seat after ends
 Replies-spent o heard left before now s seat after ends few none same put =
     subst (λ x. Replies o heard left before now (said.Command s) seat x ends) (sym same)
@@ -158,7 +158,7 @@ unfolding next
 next-stated h caller s e is = ap (λ x. x.stated) is
 
 -- a call is made, and its entry's line put
-pub Replies-called : (o : OpeningValue) (heard left : ℕ) (before now : Option (List LineCall)) (s : StatedValue) (seat later : SeatValue) (receipt : Receipt) (ends : Option Why) → heard < LINE_LIMIT
+pub Replies-called : (o : OpeningValue) (heard left : ℕ) (before now : Option (List LineCall)) (s : StatedValue) (seat later : SeatValue) (receipt : Receipt) (ends : Option Why) → heard < LINES_PER_CALLER
     → 0 < left → Calls o seat later s receipt → PutsOn (entry_line receipt.entry) None before now ends → Replies o heard left before now (said.Command s) seat later ends
 Replies-called o heard left before now s seat later receipt ends few some call put =
     let stated : receipt.entry.stated ≡ s = next-stated (history_of o call.before) seat.number s receipt.entry call.entry in record {

@@ -69,7 +69,7 @@ IsServed-attends gate more after i seat later known line served a had has knows 
       faults = a.faults;
     }
 
--- an element, where a list has a place
+-- an element, where a list has a position
 pub some_element : {P : Type 0} (posts : List P) (i : ℕ) → i < length posts → P
 some_element [] i within = absurd (omega arith)
 some_element (post ∷ posts) i within = post

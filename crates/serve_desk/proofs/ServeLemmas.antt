@@ -10,7 +10,7 @@ use Rattle.desk_model.specs.histories.Legal.{given}
 use Rattle.desk_model.specs.statements.Opening.{OpeningValue, IsOpening}
 use Rattle.desk_model.specs.statements.Statement.{StatedValue}
 use Rattle.command_parser.specs.DayFile.{IsDayFile}
-use Rattle.day_replay.specs.declared.day_input.TheConstants.{BYTE_LIMIT}
+use Rattle.day_replay.specs.declared.day_input.TheConstants.{DAY_BYTES}
 use Rattle.day_replay.specs.Ends.{WasRead}
 use Rattle.day_replay.specs.Replay.{IsReplay, by_the_day_file, day_history}
 use Rattle.day_replay.proofs.HistoryLemmas.{goes_on-length}
@@ -66,7 +66,7 @@ ServesHistory-served One o commands h lines later Writes is replay behind =
 
 -- a day file was taken, and lines were served behind it; and what was done with their journal is as if nothing had been done before
 pub ServesDay-taken : (One : OpeningValue → ℕ → OneOfAll) (before after : Option (List ℕ)) (o : OpeningValue) (commands : List StatedValue) (lines later : List LineValue) (Writes WritesAll : List ℕ → Type 0)
-    → ((text : List ℕ) → Writes text → WritesAll text) → IsOpening o → WasRead BYTE_LIMIT before after (λ bytes. IsDayFile bytes o commands)
+    → ((text : List ℕ) → Writes text → WritesAll text) → IsOpening o → WasRead DAY_BYTES before after (λ bytes. IsDayFile bytes o commands)
     → ServesAllOf (One o (length commands)) o commands lines later Writes → ServesAllOfDay One before after lines later WritesAll
 ServesDay-taken One before after o commands lines later Writes WritesAll as_well valid read serves = record {
   opening = o;

@@ -6,7 +6,7 @@ use Rattle.desk_model.specs.statements.Opening.{OpeningValue}
 use Rattle.turn_gate.specs.Seats.{SeatValue}
 use Rattle.caller_lines.specs.Given.{Given}
 use Rattle.caller_lines.specs.LineCalls.{LineCall}
-use Rattle.serve_desk.specs.declared.limits.TheConstants.{LINE_LIMIT}
+use Rattle.serve_desk.specs.declared.limits.TheConstants.{LINES_PER_CALLER}
 use Rattle.serve_desk.specs.declared.why.Why.{Why}
 use Rattle.serve_desk.specs.Texts.{too_many}
 use Rattle.serve_desk.specs.Told.{with_all, LineValue}
@@ -44,7 +44,7 @@ puts-on text then _ _ it_is_not_put on = absurd (cc)
 
 -- where it goes on, the line gave a line of its caller, and not too many
 pub record IsLineMore (heard : ℕ) (gave : Given) : Type 0 where
-  pub few : heard < LINE_LIMIT
+  pub few : heard < LINES_PER_CALLER
   pub line : is_line gave ≡ true
 
 pub goes-on : (heard left : ℕ) (gave : Given) (es : List EntryValue) (texts : List (List ℕ)) (ends : Option Why) → Follows heard left gave es texts ends → ends ≡ None
@@ -84,7 +84,7 @@ SoFar-more o quota heard line now later seat after next so more = record {
 }
 
 -- where it goes on, not too many lines were heard
-pub Answers-few : (o : OpeningValue) (heard left : ℕ) (now later : LineValue) (after next : SeatValue) → Answers o heard left now later after next None → heard < LINE_LIMIT
+pub Answers-few : (o : OpeningValue) (heard left : ℕ) (now later : LineValue) (after next : SeatValue) → Answers o heard left now later after next None → heard < LINES_PER_CALLER
 Answers-few o heard left now later after next more = (goes-on heard left more.gave more.entries more.texts None more.follows refl).few
 
 -- the last answer

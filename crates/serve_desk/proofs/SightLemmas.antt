@@ -49,10 +49,10 @@ EndsAt-longer es later number mine upto begins ends =
 pub AreSeen-longer : (o : OpeningValue) (seen later known now : List EntryValue) (number : ℕ) (mine : List EntryValue) (made_with : ℕ) (acts : List Act) (es : List EntryValue) (before upto agreed : ℕ)
     → IsPrefix seen later → IsPrefix known now → AreSeen o seen known number mine made_with acts es before upto agreed → AreSeen o later now number mine made_with acts es before upto agreed
 AreSeen-longer o seen later known now number mine made_with _ _ _ _ _ more further no_act_yet = no_act_yet
-AreSeen-longer o seen later known now number mine made_with _ _ _ _ _ more further (a_look acts es before upto agreed n board place are least shown within) =
+AreSeen-longer o seen later known now number mine made_with _ _ _ _ _ more further (a_look acts es before upto agreed n board position are least shown within) =
     let rest = AreSeen-longer o seen later known now number mine made_with acts es before upto agreed more further are in
-    subst (λ (l : List EntryValue). AreSeen o later now number mine made_with (acts ++ Looked n board place (spot_of (history_of o l) board place) ∷ []) es n upto upto) (sym (take-prefix n seen later more within))
-    (a_look acts es before upto agreed n board place rest least shown (omega (arith, prefix-length seen later more)))
+    subst (λ (l : List EntryValue). AreSeen o later now number mine made_with (acts ++ Looked n board position (spot_of (history_of o l) board position) ∷ []) es n upto upto) (sym (take-prefix n seen later more within))
+    (a_look acts es before upto agreed n board position rest least shown (omega (arith, prefix-length seen later more)))
 AreSeen-longer o seen later known now number mine made_with _ _ _ _ _ more further (a_call_that_is_shown acts es before upto agreed at e are ends) =
     a_call_that_is_shown acts es before upto agreed at e (AreSeen-longer o seen later known now number mine made_with acts es before upto agreed more further are)
     (EndsAt-longer known now number (es ++ e ∷ []) at further ends)
@@ -105,7 +105,7 @@ take-begins zero xs = (xs, refl)
 take-begins (suc n) [] = ([], refl)
 take-begins (suc n) (x ∷ xs) = let rest = take-begins n xs in (rest.0, ap (λ ys. x ∷ ys) rest.1)
 
--- lists that are the same up to a place are so up to each before it
+-- lists that are the same up to a position are so up to each before it
 take-less : {A : Type 0} (n m : ℕ) (xs ys : List A) → n ≤ m → m ≤ length xs → m ≤ length ys → take m xs ≡ take m ys → take n xs ≡ take n ys
 take-less n m xs ys less here there same =
     sym (take-prefix n (take m xs) xs (take-begins m xs) (omega (arith, length-take-le m xs here))) ∙ ap (take n) same ∙ take-prefix n (take m ys) ys (take-begins m ys) (omega (arith, length-take-le m ys there))
@@ -208,25 +208,25 @@ module _ (o : OpeningValue) (made_with : ℕ) (begun : List EntryValue) (number 
       → SeenSoFar o made_with begun later now number mine (acts ++ further)
   SeenSoFar-more seen later known now acts _ so (by_calls es more knows told) = calls-shown seen later known now acts es so more knows told
   SeenSoFar-more seen later known now acts _ so (by_calls_behind es more knows) = calls-behind seen later known now acts es so more knows
-  SeenSoFar-more seen later known now acts _ so (by_a_look board place n what more is all sees) =
+  SeenSoFar-more seen later known now acts _ so (by_a_look board position n what more is all sees) =
       let long = prefix-length seen later more in
       let known_is : known ≡ now = sym is in
       let are = AreSeen-longer o seen later known known number mine made_with acts (own known number) so.before so.upto so.agreed more (prefix-self known) so.are in
-      let looked = a_look acts (own known number) so.before so.upto so.agreed n board place are (omega (arith, so.less)) (omega (arith, so.seen_far)) (omega arith) in
-      let saw : spot_of (history_of o (take n later)) board place ≡ what = ap (λ l. spot_of (history_of o l) board place) (ap (λ k. take k later) all ∙ take-all later) ∙ sym sees in
-      let at_known : SeenSoFar o made_with begun later known number mine (acts ++ Looked n board place what ∷ []) = record {
+      let looked = a_look acts (own known number) so.before so.upto so.agreed n board position are (omega (arith, so.less)) (omega (arith, so.seen_far)) (omega arith) in
+      let saw : spot_of (history_of o (take n later)) board position ≡ what = ap (λ l. spot_of (history_of o l) board position) (ap (λ k. take k later) all ∙ take-all later) ∙ sym sees in
+      let at_known : SeenSoFar o made_with begun later known number mine (acts ++ Looked n board position what ∷ []) = record {
         begins = prefix-trans begun seen later so.begins more;
         before = n;
         upto = so.upto;
         agreed = so.upto;
-        are = subst (λ (x : Spot). AreSeen o later known number mine made_with (acts ++ Looked n board place x ∷ []) (own known number) n so.upto so.upto) saw looked;
+        are = subst (λ (x : Spot). AreSeen o later known number mine made_with (acts ++ Looked n board position x ∷ []) (own known number) n so.upto so.upto) saw looked;
         less = omega arith;
         seen_far = omega (arith, so.seen_far);
         known_far = so.known_far;
         same = sym (take-prefix so.upto seen later more so.seen_far) ∙ so.same;
         within = omega arith;
       } in
-      subst (λ (l : List EntryValue). SeenSoFar o made_with begun later l number mine (acts ++ Looked n board place what ∷ [])) known_is at_known
+      subst (λ (l : List EntryValue). SeenSoFar o made_with begun later l number mine (acts ++ Looked n board position what ∷ [])) known_is at_known
 
   -- the end
   pub Sees-so : (seen known : List EntryValue) (acts : List Act) → IsLegal (history_of o seen) → SeenSoFar o made_with begun seen known number mine acts → Sees o made_with begun seen known number mine acts

@@ -29,7 +29,7 @@ use Rattle.desk_shared.specs.Shown.{ShowsTo}
 use Rattle.desk_shared.specs.declared.receipt.Receipt.{Receipt}
 use Rattle.turn_gate.specs.Seats.{GateValue, SeatValue}
 use Rattle.turn_gate.specs.Told.{own}
-use Rattle.serve_desk.specs.declared.limits.TheConstants.{LINE_LIMIT}
+use Rattle.serve_desk.specs.declared.limits.TheConstants.{LINES_PER_CALLER}
 use Rattle.serve_desk.specs.declared.why.Why.{Why}
 use Rattle.serve_desk.specs.declared.why.Why.TheVariants as why
 use Rattle.serve_desk.specs.Answers.{PutsOn}
@@ -121,41 +121,41 @@ served o heard left before now s seat view ends then text not put follows =
     putting o heard left before now (request.Said s) seat view ends then text put
     (λ gave texts reads puts. as_it_is_served gave [] texts ends (asks-no-request heard gave s not reads) (follows gave texts (reads-as gave s reads) puts))
 
-full-no-request : (heard : ℕ) (gave : Given) → heard ≡ LINE_LIMIT → AsksNoRequest heard gave
+full-no-request : (heard : ℕ) (gave : Given) → heard ≡ LINES_PER_CALLER → AsksNoRequest heard gave
 full-no-request heard (GaveLine bytes) full = λ few. absurd (omega arith)
 full-no-request heard GaveTooLong full = tt
 full-no-request heard GaveEnd full = tt
 full-no-request heard GaveFailed full = tt
 
-pub RepliesWatched-too_many : (o : OpeningValue) (heard left : ℕ) (before now : Option (List LineCall)) (s : Said) (seat : SeatValue) (view : FrontValue) (ends : Option Why) → heard ≡ LINE_LIMIT → s ≢ said.End → s ≢ said.LineFault
+pub RepliesWatched-too_many : (o : OpeningValue) (heard left : ℕ) (before now : Option (List LineCall)) (s : Said) (seat : SeatValue) (view : FrontValue) (ends : Option Why) → heard ≡ LINES_PER_CALLER → s ≢ said.End → s ≢ said.LineFault
     → PutsOn too_many (Some why.TooManyLines) before now ends → RepliesWatched o heard left before now (request.Said s) seat seat view view ends
 RepliesWatched-too_many o heard left before now s seat view ends full not_end no_fault put =
     putting o heard left before now (request.Said s) seat view ends (Some why.TooManyLines) too_many put
     (λ gave texts reads puts. as_it_is_served gave [] texts ends (full-no-request heard gave full) (one_line_too_many gave texts ends (line-said gave s (reads-as gave s reads) not_end no_fault) full puts))
 
-pub RepliesWatched-too_long : (o : OpeningValue) (heard left : ℕ) (before now : Option (List LineCall)) (s : Said) (seat : SeatValue) (view : FrontValue) (ends : Option Why) → heard < LINE_LIMIT → s ≡ said.TooLong
+pub RepliesWatched-too_long : (o : OpeningValue) (heard left : ℕ) (before now : Option (List LineCall)) (s : Said) (seat : SeatValue) (view : FrontValue) (ends : Option Why) → heard < LINES_PER_CALLER → s ≡ said.TooLong
     → PutsOn too_long None before now ends → RepliesWatched o heard left before now (request.Said s) seat seat view view ends
 RepliesWatched-too_long o heard left before now s seat view ends few is put =
     served o heard left before now s seat view ends None too_long (λ not. absurd (cc)) put (λ gave texts reads puts. follows-too_long heard left gave texts ends few (subst (λ x. ReadsAs gave x) is reads) puts)
 
-pub RepliesWatched-malformed : (o : OpeningValue) (heard left : ℕ) (before now : Option (List LineCall)) (s : Said) (field : ℕ) (seat : SeatValue) (view : FrontValue) (ends : Option Why) → heard < LINE_LIMIT
+pub RepliesWatched-malformed : (o : OpeningValue) (heard left : ℕ) (before now : Option (List LineCall)) (s : Said) (field : ℕ) (seat : SeatValue) (view : FrontValue) (ends : Option Why) → heard < LINES_PER_CALLER
     → s ≡ said.Malformed field → PutsOn (malformed field) None before now ends → RepliesWatched o heard left before now (request.Said s) seat seat view view ends
 RepliesWatched-malformed o heard left before now s field seat view ends few is put =
     served o heard left before now s seat view ends None (malformed field) (λ not. absurd (cc)) put (λ gave texts reads puts. follows-malformed heard left gave field texts ends few (subst (λ x. ReadsAs gave x) is reads) puts)
 
-pub RepliesWatched-spent : (o : OpeningValue) (heard left : ℕ) (before now : Option (List LineCall)) (s : StatedValue) (seat after : SeatValue) (view : FrontValue) (ends : Option Why) → heard < LINE_LIMIT → left ≡ 0 → after ≡ seat
+pub RepliesWatched-spent : (o : OpeningValue) (heard left : ℕ) (before now : Option (List LineCall)) (s : StatedValue) (seat after : SeatValue) (view : FrontValue) (ends : Option Why) → heard < LINES_PER_CALLER → left ≡ 0 → after ≡ seat
     → PutsOn spent (Some why.Spent) before now ends → RepliesWatched o heard left before now (request.Said (said.Command s)) seat after view view ends
 RepliesWatched-spent o heard left before now s seat after view ends few none same put =
     subst (λ x. RepliesWatched o heard left before now (request.Said (said.Command s)) seat x view view ends) (sym same)
     (served o heard left before now (said.Command s) seat view ends (Some why.Spent) spent (λ not. absurd (cc)) put (λ gave texts reads puts. follows-spent heard left gave s texts ends few reads none puts))
 
-no-memory : (heard left : ℕ) (gave : Given) (texts : List (List ℕ)) (ends : Option Why) → heard < LINE_LIMIT → ReadsRequest gave (request.Said said.NoMemory) → Puts no_memory None texts ends → FollowsWatched heard left gave [] texts [] ends
+no-memory : (heard left : ℕ) (gave : Given) (texts : List (List ℕ)) (ends : Option Why) → heard < LINES_PER_CALLER → ReadsRequest gave (request.Said said.NoMemory) → Puts no_memory None texts ends → FollowsWatched heard left gave [] texts [] ends
 no-memory heard left (GaveLine bytes) texts ends few reads puts = no_memory_for_a_request bytes texts ends few puts
 no-memory heard left GaveTooLong texts ends few reads puts = absurd (cc)
 no-memory heard left GaveEnd texts ends few reads puts = absurd (cc)
 no-memory heard left GaveFailed texts ends few reads puts = absurd (cc)
 
-pub RepliesWatched-no_memory : (o : OpeningValue) (heard left : ℕ) (before now : Option (List LineCall)) (s : Said) (seat : SeatValue) (view : FrontValue) (ends : Option Why) → heard < LINE_LIMIT → s ≡ said.NoMemory
+pub RepliesWatched-no_memory : (o : OpeningValue) (heard left : ℕ) (before now : Option (List LineCall)) (s : Said) (seat : SeatValue) (view : FrontValue) (ends : Option Why) → heard < LINES_PER_CALLER → s ≡ said.NoMemory
     → PutsOn no_memory None before now ends → RepliesWatched o heard left before now (request.Said s) seat seat view view ends
 RepliesWatched-no_memory o heard left before now s seat view ends few is put =
     putting o heard left before now (request.Said s) seat view ends None no_memory put (λ gave texts reads puts. no-memory heard left gave texts ends few (subst (λ (x : Said). ReadsRequest gave (request.Said x)) is reads) puts)
@@ -164,7 +164,7 @@ RepliesWatched-no_memory o heard left before now s seat view ends few is put =
 
 -- a look or a crew call
 abbrev IsRequest : Request → Type 0
-IsRequest (request.Look board place) = ⊤
+IsRequest (request.Look board position) = ⊤
 IsRequest (request.Crew minute first second) = ⊤
 IsRequest (request.Said said) = ⊥
 
@@ -172,7 +172,7 @@ IsRequest (request.Said said) = ⊥
 asks-by-line : (r : Request) (s : Said) → IsRequest r → r ≡ request.Said s → ⊥
 asks-by-line r s asks is = subst IsRequest is asks
 
-request-too-many : (heard left : ℕ) (gave : Given) (r : Request) (texts : List (List ℕ)) (ends : Option Why) → IsRequest r → heard ≡ LINE_LIMIT → ReadsRequest gave r
+request-too-many : (heard left : ℕ) (gave : Given) (r : Request) (texts : List (List ℕ)) (ends : Option Why) → IsRequest r → heard ≡ LINES_PER_CALLER → ReadsRequest gave r
     → Puts too_many (Some why.TooManyLines) texts ends → FollowsWatched heard left gave [] texts [] ends
 request-too-many heard left (GaveLine bytes) r texts ends asks full reads puts =
     as_it_is_served (GaveLine bytes) [] texts ends (λ few. absurd (omega arith)) (one_line_too_many (GaveLine bytes) texts ends refl full puts)
@@ -181,64 +181,64 @@ request-too-many heard left GaveEnd r texts ends asks full reads puts = absurd (
 request-too-many heard left GaveFailed r texts ends asks full reads puts = absurd (asks-by-line r said.LineFault asks reads)
 
 pub RepliesWatched-too_many_requests : (o : OpeningValue) (heard left : ℕ) (before now : Option (List LineCall)) (r : Request) (seat : SeatValue) (view : FrontValue) (ends : Option Why) → IsRequest r
-    → heard ≡ LINE_LIMIT → PutsOn too_many (Some why.TooManyLines) before now ends → RepliesWatched o heard left before now r seat seat view view ends
+    → heard ≡ LINES_PER_CALLER → PutsOn too_many (Some why.TooManyLines) before now ends → RepliesWatched o heard left before now r seat seat view view ends
 RepliesWatched-too_many_requests o heard left before now r seat view ends asks full put =
     putting o heard left before now r seat view ends (Some why.TooManyLines) too_many put (λ gave texts reads puts. request-too-many heard left gave r texts ends asks full reads puts)
 
 -- ---- looks
 
-look-no-memory : (heard left : ℕ) (gave : Given) (board : List ℕ) (place : ℕ) (texts : List (List ℕ)) (ends : Option Why) → heard < LINE_LIMIT → ReadsRequest gave (request.Look board place)
+look-no-memory : (heard left : ℕ) (gave : Given) (board : List ℕ) (position : ℕ) (texts : List (List ℕ)) (ends : Option Why) → heard < LINES_PER_CALLER → ReadsRequest gave (request.Look board position)
     → Puts no_memory None texts ends → FollowsWatched heard left gave [] texts [] ends
-look-no-memory heard left (GaveLine bytes) board place texts ends few reads puts = no_memory_for_a_request bytes texts ends few puts
-look-no-memory heard left GaveTooLong board place texts ends few reads puts = absurd (cc)
-look-no-memory heard left GaveEnd board place texts ends few reads puts = absurd (cc)
-look-no-memory heard left GaveFailed board place texts ends few reads puts = absurd (cc)
+look-no-memory heard left (GaveLine bytes) board position texts ends few reads puts = no_memory_for_a_request bytes texts ends few puts
+look-no-memory heard left GaveTooLong board position texts ends few reads puts = absurd (cc)
+look-no-memory heard left GaveEnd board position texts ends few reads puts = absurd (cc)
+look-no-memory heard left GaveFailed board position texts ends few reads puts = absurd (cc)
 
-pub RepliesWatched-no_look : (o : OpeningValue) (heard left : ℕ) (before now : Option (List LineCall)) (board : List ℕ) (place : ℕ) (seat : SeatValue) (view later : FrontValue) (ends : Option Why) → heard < LINE_LIMIT → later ≡ view
-    → PutsOn no_memory None before now ends → RepliesWatched o heard left before now (request.Look board place) seat seat view later ends
-RepliesWatched-no_look o heard left before now board place seat view later ends few same put =
-    subst (λ (v : FrontValue). RepliesWatched o heard left before now (request.Look board place) seat seat view v ends) (sym same)
-    (putting o heard left before now (request.Look board place) seat view ends None no_memory put (λ gave texts reads puts. look-no-memory heard left gave board place texts ends few reads puts))
+pub RepliesWatched-no_look : (o : OpeningValue) (heard left : ℕ) (before now : Option (List LineCall)) (board : List ℕ) (position : ℕ) (seat : SeatValue) (view later : FrontValue) (ends : Option Why) → heard < LINES_PER_CALLER → later ≡ view
+    → PutsOn no_memory None before now ends → RepliesWatched o heard left before now (request.Look board position) seat seat view later ends
+RepliesWatched-no_look o heard left before now board position seat view later ends few same put =
+    subst (λ (v : FrontValue). RepliesWatched o heard left before now (request.Look board position) seat seat view v ends) (sym same)
+    (putting o heard left before now (request.Look board position) seat view ends None no_memory put (λ gave texts reads puts. look-no-memory heard left gave board position texts ends few reads puts))
 
-look-put : (heard left : ℕ) (gave : Given) (board : List ℕ) (place seen : ℕ) (what : Spot) → heard < LINE_LIMIT → ReadsRequest gave (request.Look board place)
-    → FollowsWatched heard left gave [] (look_text seen what ∷ []) (Looked seen board place what ∷ []) None
-look-put heard left (GaveLine bytes) board place seen what few reads = a_look bytes board place seen what few reads
-look-put heard left GaveTooLong board place seen what few reads = absurd (cc)
-look-put heard left GaveEnd board place seen what few reads = absurd (cc)
-look-put heard left GaveFailed board place seen what few reads = absurd (cc)
+look-put : (heard left : ℕ) (gave : Given) (board : List ℕ) (position seen : ℕ) (what : Spot) → heard < LINES_PER_CALLER → ReadsRequest gave (request.Look board position)
+    → FollowsWatched heard left gave [] (look_text seen what ∷ []) (Looked seen board position what ∷ []) None
+look-put heard left (GaveLine bytes) board position seen what few reads = a_look bytes board position seen what few reads
+look-put heard left GaveTooLong board position seen what few reads = absurd (cc)
+look-put heard left GaveEnd board position seen what few reads = absurd (cc)
+look-put heard left GaveFailed board position seen what few reads = absurd (cc)
 
-look-not-put : (heard left : ℕ) (gave : Given) (board : List ℕ) (place : ℕ) → heard < LINE_LIMIT → ReadsRequest gave (request.Look board place) → FollowsWatched heard left gave [] [] [] (Some why.LineFault)
-look-not-put heard left (GaveLine bytes) board place few reads = a_look_that_is_not_put bytes board place few reads
-look-not-put heard left GaveTooLong board place few reads = absurd (cc)
-look-not-put heard left GaveEnd board place few reads = absurd (cc)
-look-not-put heard left GaveFailed board place few reads = absurd (cc)
+look-not-put : (heard left : ℕ) (gave : Given) (board : List ℕ) (position : ℕ) → heard < LINES_PER_CALLER → ReadsRequest gave (request.Look board position) → FollowsWatched heard left gave [] [] [] (Some why.LineFault)
+look-not-put heard left (GaveLine bytes) board position few reads = a_look_that_is_not_put bytes board position few reads
+look-not-put heard left GaveTooLong board position few reads = absurd (cc)
+look-not-put heard left GaveEnd board position few reads = absurd (cc)
+look-not-put heard left GaveFailed board position few reads = absurd (cc)
 
-pub RepliesWatched-look : (heard left : ℕ) (before now : Option (List LineCall)) (board : List ℕ) (place seen : ℕ) (what : Spot) (seat : SeatValue) (view later : FrontValue) (ends : Option Why) → heard < LINE_LIMIT
-    → later.wall ≡ view.wall → IsPrefix view.entries later.entries → seen ≡ length later.entries → what ≡ spot_of (history_in later) board place
-    → PutsOn (look_text seen what) None before now ends → RepliesWatched view.wall.opening heard left before now (request.Look board place) seat seat view later ends
-RepliesWatched-look heard left before now board place seen what seat view later ends few wall more all sees put = go put.texts ends put.puts put.told where
+pub RepliesWatched-look : (heard left : ℕ) (before now : Option (List LineCall)) (board : List ℕ) (position seen : ℕ) (what : Spot) (seat : SeatValue) (view later : FrontValue) (ends : Option Why) → heard < LINES_PER_CALLER
+    → later.wall ≡ view.wall → IsPrefix view.entries later.entries → seen ≡ length later.entries → what ≡ spot_of (history_in later) board position
+    → PutsOn (look_text seen what) None before now ends → RepliesWatched view.wall.opening heard left before now (request.Look board position) seat seat view later ends
+RepliesWatched-look heard left before now board position seen what seat view later ends few wall more all sees put = go put.texts ends put.puts put.told where
   o : OpeningValue
   o = view.wall.opening
 
-  saw : what ≡ spot_of (history_of o later.entries) board place
-  saw = sees ∙ ap (λ w. spot_of (history_of w.opening later.entries) board place) wall
+  saw : what ≡ spot_of (history_of o later.entries) board position
+  saw = sees ∙ ap (λ w. spot_of (history_of w.opening later.entries) board position) wall
 
   go : (texts : List (List ℕ)) (e : Option Why) → Puts (look_text seen what) None texts e → now ≡ with_all before (map PutText texts)
-      → RepliesWatched view.wall.opening heard left before now (request.Look board place) seat seat view later e
+      → RepliesWatched view.wall.opening heard left before now (request.Look board position) seat seat view later e
   go _ _ it_is_put told = record {
     entries = [];
     texts = look_text seen what ∷ [];
-    acts = Looked seen board place what ∷ [];
-    follows = λ gave reads. look-put heard left gave board place seen what few reads;
+    acts = Looked seen board position what ∷ [];
+    follows = λ gave reads. look-put heard left gave board position seen what few reads;
     told = told;
     made = Made-none view.wall.opening seat;
-    sight = by_a_look board place seen what more refl all saw;
+    sight = by_a_look board position seen what more refl all saw;
   }
   go _ _ it_is_not_put told = record {
     entries = [];
     texts = [];
     acts = [];
-    follows = λ gave reads. look-not-put heard left gave board place few reads;
+    follows = λ gave reads. look-not-put heard left gave board position few reads;
     told = told;
     made = Made-none view.wall.opening seat;
     sight = by_calls_behind [] more refl;
@@ -291,7 +291,7 @@ knows-by-calls mine o seat later (e ∷ es) made =
     one-more mine o seat made.0 e.stated (receipt_of made.1.0.0 e) es later.known call
     (subst (λ n. KnowsByCalls n made.0.known es later.known) call.number (knows-by-calls mine o made.0 later es made.1.1))
 
-behind-follows : (heard left : ℕ) (gave : Given) (e : EntryValue) (n : ℕ) (texts : List (List ℕ)) (ends : Option Why) → heard < LINE_LIMIT → 0 < left → 0 < n → ReadsRequest gave (request.Said (said.Command e.stated))
+behind-follows : (heard left : ℕ) (gave : Given) (e : EntryValue) (n : ℕ) (texts : List (List ℕ)) (ends : Option Why) → heard < LINES_PER_CALLER → 0 < left → 0 < n → ReadsRequest gave (request.Said (said.Command e.stated))
     → PutsAll (entry_line e ∷ behind n ∷ []) texts ends → FollowsWatched heard left gave (e ∷ []) texts (Called e false ∷ []) ends
 behind-follows heard left (GaveLine bytes) e n texts ends few some lacks reads puts = a_call_behind bytes e n texts ends few reads.0 reads.1 some lacks puts
 behind-follows heard left GaveTooLong e n texts ends few some lacks reads puts = absurd (cc)
@@ -300,7 +300,7 @@ behind-follows heard left GaveFailed e n texts ends few some lacks reads puts = 
 
 pub RepliesWatched-called : ((entries : List EntryValue) (e : EntryValue) (number : ℕ) → e.caller ≡ number → own (entries ++ e ∷ []) number ≡ own entries number ++ e ∷ [])
     → (o : OpeningValue) (desk : GateValue) (heard left : ℕ) (before now : Option (List LineCall)) (s : StatedValue) (seat later : SeatValue) (view seen note : FrontValue) (receipt : Receipt) (ends : Option Why) (n : ℕ)
-    → heard < LINE_LIMIT → 0 < left → Calls o seat later s receipt → ShowsTo desk note n later.known → IsPrefix view.entries seen.entries → IsPrefix note.entries seen.entries
+    → heard < LINES_PER_CALLER → 0 < left → Calls o seat later s receipt → ShowsTo desk note n later.known → IsPrefix view.entries seen.entries → IsPrefix note.entries seen.entries
     → (n ≡ 0 → PutsOn (entry_line receipt.entry) None before now ends) → (0 < n → PutsAllOn (entry_line receipt.entry ∷ behind n ∷ []) before now ends)
     → RepliesWatched o heard left before now (request.Said (said.Command s)) seat later view seen ends
 RepliesWatched-called mine o desk heard left before now s seat later view seen note receipt ends zero few some call shows more told put put_two =
@@ -330,28 +330,28 @@ RepliesWatched-called mine o desk heard left before now s seat later view seen n
 
 -- ---- crew calls
 
-few-follows : (heard left t v w : ℕ) (gave : Given) (texts : List (List ℕ)) (ends : Option Why) → heard < LINE_LIMIT → left < 3 → ReadsRequest gave (request.Crew t v w) → Puts (too_few left) None texts ends
+few-follows : (heard left t v w : ℕ) (gave : Given) (texts : List (List ℕ)) (ends : Option Why) → heard < LINES_PER_CALLER → left < 3 → ReadsRequest gave (request.Crew t v w) → Puts (too_few left) None texts ends
     → FollowsWatched heard left gave [] texts [] ends
 few-follows heard left t v w (GaveLine bytes) texts ends few lacks reads puts = too_few_calls_left bytes t v w texts ends few reads lacks puts
 few-follows heard left t v w GaveTooLong texts ends few lacks reads puts = absurd (cc)
 few-follows heard left t v w GaveEnd texts ends few lacks reads puts = absurd (cc)
 few-follows heard left t v w GaveFailed texts ends few lacks reads puts = absurd (cc)
 
-pub RepliesWatched-too_few : (o : OpeningValue) (heard left told t v w : ℕ) (before now : Option (List LineCall)) (seat after : SeatValue) (view : FrontValue) (ends : Option Why) → heard < LINE_LIMIT → left < 3 → told ≡ left → after ≡ seat
+pub RepliesWatched-too_few : (o : OpeningValue) (heard left told t v w : ℕ) (before now : Option (List LineCall)) (seat after : SeatValue) (view : FrontValue) (ends : Option Why) → heard < LINES_PER_CALLER → left < 3 → told ≡ left → after ≡ seat
     → PutsOn (too_few told) None before now ends → RepliesWatched o heard left before now (request.Crew t v w) seat after view view ends
 RepliesWatched-too_few o heard left told t v w before now seat after view ends few lacks is same put =
     subst (λ x. RepliesWatched o heard left before now (request.Crew t v w) seat x view view ends) (sym same)
     (putting o heard left before now (request.Crew t v w) seat view ends None (too_few left) (subst (λ n. PutsOn (too_few n) None before now ends) is put)
     (λ gave texts reads puts. few-follows heard left t v w gave texts ends few lacks reads puts))
 
-crew-follows : (heard left t v w : ℕ) (gave : Given) (es : List EntryValue) (told : CrewOutcome) (texts : List (List ℕ)) (ends : Option Why) → heard < LINE_LIMIT → 3 ≤ left → CrewCall t v w es told
+crew-follows : (heard left t v w : ℕ) (gave : Given) (es : List EntryValue) (told : CrewOutcome) (texts : List (List ℕ)) (ends : Option Why) → heard < LINES_PER_CALLER → 3 ≤ left → CrewCall t v w es told
     → ReadsRequest gave (request.Crew t v w) → PutsAll (crew_texts es told) texts ends → FollowsWatched heard left gave es texts (shown es) ends
 crew-follows heard left t v w (GaveLine bytes) es told texts ends few enough call reads puts = a_crew_call bytes t v w es told texts ends few reads enough call puts
 crew-follows heard left t v w GaveTooLong es told texts ends few enough call reads puts = absurd (cc)
 crew-follows heard left t v w GaveEnd es told texts ends few enough call reads puts = absurd (cc)
 crew-follows heard left t v w GaveFailed es told texts ends few enough call reads puts = absurd (cc)
 
-crew-behind-follows : (heard left t v w : ℕ) (gave : Given) (es : List EntryValue) (told : CrewOutcome) (n : ℕ) (texts : List (List ℕ)) (ends : Option Why) → heard < LINE_LIMIT → 3 ≤ left
+crew-behind-follows : (heard left t v w : ℕ) (gave : Given) (es : List EntryValue) (told : CrewOutcome) (n : ℕ) (texts : List (List ℕ)) (ends : Option Why) → heard < LINES_PER_CALLER → 3 ≤ left
     → CrewCall t v w es told → 0 < n → ReadsRequest gave (request.Crew t v w) → PutsAll (crew_texts es told ++ behind n ∷ []) texts ends → FollowsWatched heard left gave es texts (not_shown es) ends
 crew-behind-follows heard left t v w (GaveLine bytes) es told n texts ends few enough call lacks reads puts = a_crew_call_behind bytes t v w es told n texts ends few reads enough call lacks puts
 crew-behind-follows heard left t v w GaveTooLong es told n texts ends few enough call lacks reads puts = absurd (cc)
@@ -360,7 +360,7 @@ crew-behind-follows heard left t v w GaveFailed es told n texts ends few enough 
 
 pub RepliesWatched-crew : ((entries : List EntryValue) (e : EntryValue) (number : ℕ) → e.caller ≡ number → own (entries ++ e ∷ []) number ≡ own entries number ++ e ∷ [])
     → (o : OpeningValue) (desk : GateValue) (heard left t v w : ℕ) (before now : Option (List LineCall)) (seat later : SeatValue) (view seen note : FrontValue) (es : List EntryValue) (told : CrewOutcome)
-    → (ends : Option Why) (n : ℕ) → heard < LINE_LIMIT → 3 ≤ left → CallsCrew o seat later t v w es told → ShowsTo desk note n later.known → IsPrefix view.entries seen.entries
+    → (ends : Option Why) (n : ℕ) → heard < LINES_PER_CALLER → 3 ≤ left → CallsCrew o seat later t v w es told → ShowsTo desk note n later.known → IsPrefix view.entries seen.entries
     → IsPrefix note.entries seen.entries → (n ≡ 0 → PutsAllOn (crew_texts es told) before now ends) → (0 < n → PutsAllOn (crew_texts es told ++ behind n ∷ []) before now ends)
     → RepliesWatched o heard left before now (request.Crew t v w) seat later view seen ends
 RepliesWatched-crew mine o desk heard left t v w before now seat later view seen note es told ends zero few enough crew shows more learnt put put_behind =

@@ -10,7 +10,7 @@ use Rattle.desk_model.specs.histories.Legal.{IsLegal}
 use Rattle.desk_model.specs.statements.Opening.{OpeningValue}
 use Rattle.turn_gate.specs.Seats.{SeatValue}
 use Rattle.turn_gate.specs.Told.{own}
-use Rattle.serve_desk.specs.declared.limits.TheConstants.{LINE_LIMIT}
+use Rattle.serve_desk.specs.declared.limits.TheConstants.{LINES_PER_CALLER}
 use Rattle.serve_desk.specs.declared.why.Why.{Why}
 use Rattle.serve_desk.specs.Session.{lines_in, asked_then_put}
 use Rattle.serve_desk.specs.Seats.{Made}
@@ -29,8 +29,8 @@ goes-on-watched : (heard left : ℕ) (gave : Given) (es : List EntryValue) (text
     → IsLineMore heard gave
 goes-on-watched heard left _ _ _ _ _ (as_it_is_served gave es texts ends no_look follows) on = goes-on heard left gave es texts ends follows on
 goes-on-watched heard left _ _ _ _ _ (a_call_behind bytes e n texts ends few no_look states some behind puts) on = record { few = few; line = refl }
-goes-on-watched heard left _ _ _ _ _ (a_look bytes board place seen what few is) on = record { few = few; line = refl }
-goes-on-watched heard left _ _ _ _ _ (a_look_that_is_not_put bytes board place few is) on = record { few = few; line = refl }
+goes-on-watched heard left _ _ _ _ _ (a_look bytes board position seen what few is) on = record { few = few; line = refl }
+goes-on-watched heard left _ _ _ _ _ (a_look_that_is_not_put bytes board position few is) on = record { few = few; line = refl }
 goes-on-watched heard left _ _ _ _ _ (too_few_calls_left bytes t v w texts ends few is lacks puts) on = record { few = few; line = refl }
 goes-on-watched heard left _ _ _ _ _ (a_crew_call bytes t v w entries told texts ends few is enough call puts) on = record { few = few; line = refl }
 goes-on-watched heard left _ _ _ _ _ (a_crew_call_behind bytes t v w entries told n texts ends few is enough call behind puts) on = record { few = few; line = refl }
@@ -91,7 +91,7 @@ WatchedSoFar-more o quota heard made_with line now later seat after next view se
 }
 
 -- where it goes on, not too many lines were heard
-pub AnswersWatched-few : (o : OpeningValue) (heard left : ℕ) (now later : LineValue) (after next : SeatValue) (seen sees : FrontValue) → AnswersWatched o heard left now later after next seen sees None → heard < LINE_LIMIT
+pub AnswersWatched-few : (o : OpeningValue) (heard left : ℕ) (now later : LineValue) (after next : SeatValue) (seen sees : FrontValue) → AnswersWatched o heard left now later after next seen sees None → heard < LINES_PER_CALLER
 AnswersWatched-few o heard left now later after next seen sees more = (goes-on-watched heard left more.gave more.entries more.texts more.acts None more.follows refl).few
 
 -- the last answer

@@ -30,7 +30,7 @@ record AreKnown (known : List EntryValue) (upto agreed : ℕ) : Type 0 where
 are-known : (o : OpeningValue) (seen known : List EntryValue) (number : ℕ) (mine : List EntryValue) (made_with : ℕ) (acts : List Act) (es : List EntryValue) (before upto agreed : ℕ) → made_with ≤ length known
     → AreSeen o seen known number mine made_with acts es before upto agreed → AreKnown known upto agreed
 are-known o seen known number mine made_with _ _ _ _ _ made no_act_yet = record { last = made; looked = made }
-are-known o seen known number mine made_with _ _ _ _ _ made (a_look acts es before upto agreed n board place are least shown within) =
+are-known o seen known number mine made_with _ _ _ _ _ made (a_look acts es before upto agreed n board position are least shown within) =
     let was = are-known o seen known number mine made_with acts es before upto agreed made are in record { last = was.last; looked = was.last }
 are-known o seen known number mine made_with _ _ _ _ _ made (a_call_that_is_shown acts es before upto agreed at e are ends) =
     let was = are-known o seen known number mine made_with acts es before upto agreed made are in record { last = ends.within; looked = was.looked }

@@ -6,7 +6,7 @@ use Rattle.desk_model.specs.texts.Journal.{entry_line}
 use Rattle.desk_model.specs.statements.Statement.{StatedValue}
 use Rattle.command_parser.specs.CommandLine.{IsCommandLine, IsMalformed}
 use Rattle.caller_lines.specs.Given.{Given, GaveLine, GaveTooLong, GaveEnd, GaveFailed}
-use Rattle.serve_desk.specs.declared.limits.TheConstants.{LINE_LIMIT}
+use Rattle.serve_desk.specs.declared.limits.TheConstants.{LINES_PER_CALLER}
 use Rattle.serve_desk.specs.declared.why.Why.{Why}
 use Rattle.serve_desk.specs.declared.why.Why.TheVariants as why
 use Rattle.serve_desk.specs.Texts.{too_many, too_long, no_memory, malformed, spent}
@@ -28,15 +28,15 @@ pub data Puts (text : List ℕ) (then : Option Why) : List (List ℕ) → Option
 pub data Follows (heard left : ℕ) : Given → List EntryValue → List (List ℕ) → Option Why → Type 0 where
   the_end : Follows heard left GaveEnd [] [] (Some why.End)
   a_fault : Follows heard left GaveFailed [] [] (Some why.LineFault)
-  one_line_too_many : (gave : Given) (texts : List (List ℕ)) (ends : Option Why) → is_line gave ≡ true → heard ≡ LINE_LIMIT
+  one_line_too_many : (gave : Given) (texts : List (List ℕ)) (ends : Option Why) → is_line gave ≡ true → heard ≡ LINES_PER_CALLER
       → Puts too_many (Some why.TooManyLines) texts ends → Follows heard left gave [] texts ends
-  a_line_too_long : (texts : List (List ℕ)) (ends : Option Why) → heard < LINE_LIMIT
+  a_line_too_long : (texts : List (List ℕ)) (ends : Option Why) → heard < LINES_PER_CALLER
       → Puts too_long None texts ends → Follows heard left GaveTooLong [] texts ends
-  no_memory_for_a_line : (bytes : List ℕ) (texts : List (List ℕ)) (ends : Option Why) → heard < LINE_LIMIT
+  no_memory_for_a_line : (bytes : List ℕ) (texts : List (List ℕ)) (ends : Option Why) → heard < LINES_PER_CALLER
       → Puts no_memory None texts ends → Follows heard left (GaveLine bytes) [] texts ends
-  no_command : (bytes : List ℕ) (field : ℕ) (texts : List (List ℕ)) (ends : Option Why) → heard < LINE_LIMIT → IsMalformed bytes field
+  no_command : (bytes : List ℕ) (field : ℕ) (texts : List (List ℕ)) (ends : Option Why) → heard < LINES_PER_CALLER → IsMalformed bytes field
       → Puts (malformed field) None texts ends → Follows heard left (GaveLine bytes) [] texts ends
-  no_call_left : (bytes : List ℕ) (s : StatedValue) (texts : List (List ℕ)) (ends : Option Why) → heard < LINE_LIMIT → IsCommandLine bytes s → left ≡ 0
+  no_call_left : (bytes : List ℕ) (s : StatedValue) (texts : List (List ℕ)) (ends : Option Why) → heard < LINES_PER_CALLER → IsCommandLine bytes s → left ≡ 0
       → Puts spent (Some why.Spent) texts ends → Follows heard left (GaveLine bytes) [] texts ends
-  a_call : (bytes : List ℕ) (e : EntryValue) (texts : List (List ℕ)) (ends : Option Why) → heard < LINE_LIMIT → IsCommandLine bytes e.stated → 0 < left
+  a_call : (bytes : List ℕ) (e : EntryValue) (texts : List (List ℕ)) (ends : Option Why) → heard < LINES_PER_CALLER → IsCommandLine bytes e.stated → 0 < left
       → Puts (entry_line e) None texts ends → Follows heard left (GaveLine bytes) (e ∷ []) texts ends

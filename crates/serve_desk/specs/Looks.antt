@@ -4,7 +4,7 @@ use Rattle.board_window.specs.declared.spot.Spot.{Spot}
 use Rattle.board_window.specs.declared.spot.Spot.TheVariants as spot
 use Rattle.serve_desk.specs.Texts.{with_feed}
 
--- what stands at the place: a person; or nobody, and the board has so many persons; or the code is no board
+-- what stands at the position: a person; or nobody, and the board has so many persons; or the code is no board
 abbrev pub spot_text : Spot → List ℕ
 spot_text (spot.Person person) = decimal person
 spot_text (spot.NoOne length) = codes "no one " ++ decimal length

@@ -22,9 +22,9 @@ pub record EndsAt (entries : List EntryValue) (number : ℕ) (mine : List EntryV
 pub data AreSeen (o : OpeningValue) (seen known : List EntryValue) (number : ℕ) (mine : List EntryValue) (made_with : ℕ) : List Act → List EntryValue → ℕ → ℕ → ℕ → Type 0 where
   no_act_yet : AreSeen o seen known number mine made_with [] mine made_with made_with made_with
   -- a look sees no fewer entries than the look before it, and each entry that was shown; and who stands where by them
-  a_look : (acts : List Act) (now : List EntryValue) (before upto agreed n : ℕ) (board : List ℕ) (place : ℕ) → AreSeen o seen known number mine made_with acts now before upto agreed
+  a_look : (acts : List Act) (now : List EntryValue) (before upto agreed n : ℕ) (board : List ℕ) (position : ℕ) → AreSeen o seen known number mine made_with acts now before upto agreed
       → before ≤ n → upto ≤ n → n ≤ length seen
-      → AreSeen o seen known number mine made_with (acts ++ Looked n board place (spot_of (history_of o (take n seen)) board place) ∷ []) now n upto upto
+      → AreSeen o seen known number mine made_with (acts ++ Looked n board position (spot_of (history_of o (take n seen)) board position) ∷ []) now n upto upto
   a_call_that_is_shown : (acts : List Act) (now : List EntryValue) (before upto agreed later : ℕ) (e : EntryValue) → AreSeen o seen known number mine made_with acts now before upto agreed
       → EndsAt known number (now ++ e ∷ []) later → AreSeen o seen known number mine made_with (acts ++ Called e true ∷ []) (now ++ e ∷ []) before later agreed
   a_call_that_is_not_shown : (acts : List Act) (now : List EntryValue) (before upto agreed : ℕ) (e : EntryValue) → AreSeen o seen known number mine made_with acts now before upto agreed

@@ -11,7 +11,7 @@ use Rattle.desk_model.specs.declared.limits.TheConstants.{LAST_CALLER}
 use Rattle.command_parser.specs.DayFile.{IsDayFile}
 use Rattle.day_replay.specs.Ends.{WasRead}
 use Rattle.day_replay.specs.Replay.{by_the_day_file}
-use Rattle.day_replay.specs.declared.day_input.TheConstants.{BYTE_LIMIT}
+use Rattle.day_replay.specs.declared.day_input.TheConstants.{DAY_BYTES}
 use Rattle.turn_gate.specs.Told.{own, IsNumber}
 use Rattle.serve_desk.specs.declared.limits.TheConstants.{CALLS_PER_LINE}
 use Rattle.serve_desk.specs.Told.{LineValue}
@@ -54,7 +54,7 @@ pub record ServesAllOfDay (One : OpeningValue → ℕ → OneOfAll) (before afte
   pub opening : OpeningValue
   pub valid : IsOpening opening
   pub commands : List StatedValue
-  pub read : WasRead BYTE_LIMIT before after (λ bytes. IsDayFile bytes opening commands)
+  pub read : WasRead DAY_BYTES before after (λ bytes. IsDayFile bytes opening commands)
   pub serves : ServesAllOf (One opening (length commands)) opening commands lines later Writes
 
 -- each line by a session without looks

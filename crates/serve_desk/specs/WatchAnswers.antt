@@ -40,8 +40,8 @@ KnowsByCalls number known (e ∷ es) now =
 pub data Sight (o : OpeningValue) (number : ℕ) (seen later known now : List EntryValue) : List Act → Type 0 where
   by_calls : (es : List EntryValue) → IsPrefix seen later → KnowsByCalls number known es now → IsPrefix now later → Sight o number seen later known now (shown es)
   by_calls_behind : (es : List EntryValue) → IsPrefix seen later → KnowsByCalls number known es now → Sight o number seen later known now (not_shown es)
-  by_a_look : (board : List ℕ) (place n : ℕ) (what : Spot) → IsPrefix seen later → now ≡ known → n ≡ length later → what ≡ spot_of (history_of o later) board place
-      → Sight o number seen later known now (Looked n board place what ∷ [])
+  by_a_look : (board : List ℕ) (position n : ℕ) (what : Spot) → IsPrefix seen later → now ≡ known → n ≡ length later → what ≡ spot_of (history_of o later) board position
+      → Sight o number seen later known now (Looked n board position what ∷ [])
 
 -- texts were put on a line, one behind the other, where that tells what was put
 pub record PutsAllOn (all : List (List ℕ)) (before now : Option (List LineCall)) (ends : Option Why) : Type 0 where

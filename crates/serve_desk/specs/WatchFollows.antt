@@ -11,7 +11,7 @@ use Rattle.crew_call.specs.declared.crew_outcome.CrewOutcome.{CrewOutcome}
 use Rattle.crew_call.specs.CrewCalls.{CrewCall}
 use Rattle.desk_model.specs.statements.Entry.{EntryValue}
 use Rattle.desk_model.specs.texts.Journal.{entry_line}
-use Rattle.serve_desk.specs.declared.limits.TheConstants.{LINE_LIMIT}
+use Rattle.serve_desk.specs.declared.limits.TheConstants.{LINES_PER_CALLER}
 use Rattle.serve_desk.specs.declared.why.Why.{Why}
 use Rattle.serve_desk.specs.declared.why.Why.TheVariants as why
 use Rattle.serve_desk.specs.Crews.{crew_texts, too_few}
@@ -21,7 +21,7 @@ use Rattle.serve_desk.specs.Texts.{no_memory}
 
 -- what an answer came to: a look, whose text was put; or a call, whose entry is shown, or isn't
 pub data Act : Type 0 where
-  Looked : (seen : ℕ) (board : List ℕ) (place : ℕ) (what : Spot) → Act
+  Looked : (seen : ℕ) (board : List ℕ) (position : ℕ) (what : Spot) → Act
   Called : (entry : EntryValue) (is_shown : Bool) → Act
 
 -- entries are shown where no text `behind n` was put behind their lines, or behind what their crew call came to
@@ -33,7 +33,7 @@ not_shown entries = map (λ e. Called e false) entries
 
 -- a line that is replied to asks for no look and for no crew call
 abbrev pub AsksNoRequest : ℕ → Given → Type 0
-AsksNoRequest heard (GaveLine bytes) = heard < LINE_LIMIT → IsNoRequest bytes
+AsksNoRequest heard (GaveLine bytes) = heard < LINES_PER_CALLER → IsNoRequest bytes
 AsksNoRequest heard GaveTooLong = ⊤
 AsksNoRequest heard GaveEnd = ⊤
 AsksNoRequest heard GaveFailed = ⊤
@@ -49,20 +49,20 @@ pub data PutsAll : List (List ℕ) → List (List ℕ) → Option Why → Type 0
 pub data FollowsWatched (heard left : ℕ) : Given → List EntryValue → List (List ℕ) → List Act → Option Why → Type 0 where
   as_it_is_served : (gave : Given) (entries : List EntryValue) (texts : List (List ℕ)) (ends : Option Why) → AsksNoRequest heard gave
       → Follows heard left gave entries texts ends → FollowsWatched heard left gave entries texts (shown entries) ends
-  a_call_behind : (bytes : List ℕ) (e : EntryValue) (n : ℕ) (texts : List (List ℕ)) (ends : Option Why) → heard < LINE_LIMIT → IsNoRequest bytes
+  a_call_behind : (bytes : List ℕ) (e : EntryValue) (n : ℕ) (texts : List (List ℕ)) (ends : Option Why) → heard < LINES_PER_CALLER → IsNoRequest bytes
       → IsCommandLine bytes e.stated → 0 < left → 0 < n → PutsAll (entry_line e ∷ behind n ∷ []) texts ends
       → FollowsWatched heard left (GaveLine bytes) (e ∷ []) texts (Called e false ∷ []) ends
-  a_look : (bytes board : List ℕ) (place seen : ℕ) (what : Spot) → heard < LINE_LIMIT → IsLookLine bytes board place
-      → FollowsWatched heard left (GaveLine bytes) [] (look_text seen what ∷ []) (Looked seen board place what ∷ []) None
-  a_look_that_is_not_put : (bytes board : List ℕ) (place : ℕ) → heard < LINE_LIMIT → IsLookLine bytes board place
+  a_look : (bytes board : List ℕ) (position seen : ℕ) (what : Spot) → heard < LINES_PER_CALLER → IsLookLine bytes board position
+      → FollowsWatched heard left (GaveLine bytes) [] (look_text seen what ∷ []) (Looked seen board position what ∷ []) None
+  a_look_that_is_not_put : (bytes board : List ℕ) (position : ℕ) → heard < LINES_PER_CALLER → IsLookLine bytes board position
       → FollowsWatched heard left (GaveLine bytes) [] [] [] (Some why.LineFault)
-  too_few_calls_left : (bytes : List ℕ) (t v w : ℕ) (texts : List (List ℕ)) (ends : Option Why) → heard < LINE_LIMIT → IsCrewLine bytes t v w → left < 3
+  too_few_calls_left : (bytes : List ℕ) (t v w : ℕ) (texts : List (List ℕ)) (ends : Option Why) → heard < LINES_PER_CALLER → IsCrewLine bytes t v w → left < 3
       → Puts (too_few left) None texts ends → FollowsWatched heard left (GaveLine bytes) [] texts [] ends
-  a_crew_call : (bytes : List ℕ) (t v w : ℕ) (entries : List EntryValue) (told : CrewOutcome) (texts : List (List ℕ)) (ends : Option Why) → heard < LINE_LIMIT
+  a_crew_call : (bytes : List ℕ) (t v w : ℕ) (entries : List EntryValue) (told : CrewOutcome) (texts : List (List ℕ)) (ends : Option Why) → heard < LINES_PER_CALLER
       → IsCrewLine bytes t v w → 3 ≤ left → CrewCall t v w entries told → PutsAll (crew_texts entries told) texts ends
       → FollowsWatched heard left (GaveLine bytes) entries texts (shown entries) ends
-  a_crew_call_behind : (bytes : List ℕ) (t v w : ℕ) (entries : List EntryValue) (told : CrewOutcome) (n : ℕ) (texts : List (List ℕ)) (ends : Option Why) → heard < LINE_LIMIT
+  a_crew_call_behind : (bytes : List ℕ) (t v w : ℕ) (entries : List EntryValue) (told : CrewOutcome) (n : ℕ) (texts : List (List ℕ)) (ends : Option Why) → heard < LINES_PER_CALLER
       → IsCrewLine bytes t v w → 3 ≤ left → CrewCall t v w entries told → 0 < n → PutsAll (crew_texts entries told ++ behind n ∷ []) texts ends
       → FollowsWatched heard left (GaveLine bytes) entries texts (not_shown entries) ends
-  no_memory_for_a_request : (bytes : List ℕ) (texts : List (List ℕ)) (ends : Option Why) → heard < LINE_LIMIT
+  no_memory_for_a_request : (bytes : List ℕ) (texts : List (List ℕ)) (ends : Option Why) → heard < LINES_PER_CALLER
       → Puts no_memory None texts ends → FollowsWatched heard left (GaveLine bytes) [] texts [] ends

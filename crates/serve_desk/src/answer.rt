@@ -9,7 +9,7 @@ use crate::answered::Answered;
 use crate::entry_lines::EntryLines;
 use crate::put::put_on;
 use crate::texts::{NO_MEMORY, SPENT, TOO_LONG, TOO_MANY, write_malformed};
-use crate::{LINE_LIMIT, Why};
+use crate::{LINES_PER_CALLER, Why};
 use call_history::Book;
 use caller_lines::{CallerLine, Said, hear};
 use desk_model::{DeskCore, Stated};
@@ -29,13 +29,13 @@ pub(crate) fn answer<C: DeskCore, R: Wait>(
     line: &mut Box<dyn CallerLine + Send>,
 ) -> Answered<C>
     requires seat { IsSeatOf desk.now seat }
-    requires heard { heard ≤ LINE_LIMIT }
+    requires heard { heard ≤ LINES_PER_CALLER }
     ensures answers { Answers desk.now.start.book.opening heard (desk.now.start.quota - seat.calls)
         (line_of (faults line.old) (calls line.old))
         (line_of (faults line.new) (calls line.new))
         seat result.seat result.ends }
     ensures seat { IsSeatOf desk.now result.seat }
-    ensures later { faults line.old ≤ faults line.new }
+    ensures faults_grow { faults line.old ≤ faults line.new }
     ensures cause { result.ends ≡ Some Why.LineFault → Rose (faults line.old) (faults line.new) }
     ensures no_fault { result.ends ≢ Some Why.LineFault → faults line.new ≡ faults line.old }
 {
@@ -63,17 +63,17 @@ fn reply<C: DeskCore, R: Wait>(
     line: &mut Box<dyn CallerLine + Send>,
 ) -> Answered<C>
     requires seat { IsSeatOf desk.now seat }
-    requires heard { heard ≤ LINE_LIMIT }
+    requires heard { heard ≤ LINES_PER_CALLER }
     requires not_end { said ≢ Said.End }
     requires no_fault { said ≢ Said.LineFault }
     ensures replies { Replies desk.now.start.book.opening heard (desk.now.start.quota - seat.calls)
         (calls line.old) (calls line.new) said seat result.seat result.ends }
     ensures seat { IsSeatOf desk.now result.seat }
-    ensures later { faults line.old ≤ faults line.new }
+    ensures faults_grow { faults line.old ≤ faults line.new }
     ensures cause { result.ends ≡ Some Why.LineFault → Rose (faults line.old) (faults line.new) }
     ensures no_fault { result.ends ≢ Some Why.LineFault → faults line.new ≡ faults line.old }
 {
-    if heard == LINE_LIMIT {
+    if heard == LINES_PER_CALLER {
         let ends = put_on(line, TOO_MANY, Some(Why::TooManyLines));
         return Answered { seat, ends };
     }
@@ -105,11 +105,11 @@ fn call<C: DeskCore, R: Wait>(
     line: &mut Box<dyn CallerLine + Send>,
 ) -> Answered<C>
     requires { IsSeatOf desk.now seat }
-    ensures replies { (heard : ℕ) → heard < LINE_LIMIT
+    ensures replies { (heard : ℕ) → heard < LINES_PER_CALLER
         → Replies desk.now.start.book.opening heard (desk.now.start.quota - seat.calls)
         (calls line.old) (calls line.new) (Said.Command stated) seat result.seat result.ends }
     ensures seat { IsSeatOf desk.now result.seat }
-    ensures later { faults line.old ≤ faults line.new }
+    ensures faults_grow { faults line.old ≤ faults line.new }
     ensures cause { result.ends ≡ Some Why.LineFault → Rose (faults line.old) (faults line.new) }
     ensures no_fault { result.ends ≢ Some Why.LineFault → faults line.new ≡ faults line.old }
 {

@@ -26,7 +26,7 @@ mod why;
 pub use all_lines::serve_lines;
 pub use ended::Ended;
 pub use ended_watched::EndedWatched;
-pub use limits::{CALLS_PER_LINE, LINE_LIMIT, the_numbers_of_a_session};
+pub use limits::{CALLS_PER_LINE, LINES_PER_CALLER, the_numbers_of_a_session};
 pub use one_line::session;
 pub use serving::serve;
 pub use watch_all::watch_lines;

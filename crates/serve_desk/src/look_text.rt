@@ -7,7 +7,7 @@ use board_window::{Look, Spot};
 use itoa::Buffer;
 use line_writer::{LineText, put, put_byte};
 
-/// The text for a look: how many entries were seen, and the person at the place; or that nobody stands there, with the number of
+/// The text for a look: how many entries were seen, and the person at the position; or that nobody stands there, with the number of
 /// persons on the board; or that the code is no board.
 pub(crate) fn write_look(look: &Look) -> LineText
     ensures { result.items ≡ look_text look.now.seen look.now.what }
@@ -21,7 +21,7 @@ pub(crate) fn write_look(look: &Look) -> LineText
     text
 }
 
-// Adds what stands at a place, 12 bytes at most.
+// Adds what stands at a position, 12 bytes at most.
 fn put_spot(text: &mut LineText, what: Spot)
     requires { array_vec_len text.old + 12 ≤ 512 }
     ensures text { text.new.items ≡ text.old.items ++ spot_text what }

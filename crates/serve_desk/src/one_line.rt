@@ -7,7 +7,7 @@ ghost use Rattle.serve_desk.specs.Serves.{Serves};
 
 use crate::answer::answer;
 use crate::entry_lines::EntryLines;
-use crate::{Ended, LINE_LIMIT, Why};
+use crate::{Ended, LINES_PER_CALLER, Why};
 use call_history::Book;
 use caller_lines::CallerLine;
 use desk_model::DeskCore;
@@ -33,14 +33,14 @@ pub fn session<C: DeskCore, R: Wait>(
         (line_of (faults line.new) (calls line.new))
         seat result.seat result.why result.taken }
     ensures seat { IsSeatOf desk.now result.seat }
-    ensures later { faults line.old ≤ faults line.new }
+    ensures faults_grow { faults line.old ≤ faults line.new }
     ensures cause { result.why ≡ Why.LineFault → Rose (faults line.old) (faults line.new) }
     ensures no_fault { result.why ≢ Why.LineFault → faults line.new ≡ faults line.old }
 {
     let left = desk.left(&seat);
     let mut seat = seat;
     let mut entry_lines = EntryLines::new();
-    for heard in 0..LINE_LIMIT + 1 {
+    for heard in 0..LINES_PER_CALLER + 1 {
         let answered = answer(rt, alloc, desk, seat, heard, &mut entry_lines, line);
         seat = answered.seat;
         match answered.ends {

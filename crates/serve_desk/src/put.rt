@@ -19,7 +19,7 @@ pub(crate) fn put_on(
 ) -> Option<Why>
     requires { then ≢ Some Why.LineFault }
     ensures puts { PutsOn text.now then (calls line.old) (calls line.new) result }
-    ensures later { faults line.old ≤ faults line.new }
+    ensures faults_grow { faults line.old ≤ faults line.new }
     ensures cause { result ≡ Some Why.LineFault → Rose (faults line.old) (faults line.new) }
     ensures no_fault { result ≢ Some Why.LineFault → faults line.new ≡ faults line.old }
 {
@@ -38,7 +38,7 @@ pub(crate) fn put_both(
     second: &[u8],
 ) -> Option<Why>
     ensures puts { PutsAllOn (first.now ∷ second.now ∷ []) (calls line.old) (calls line.new) result }
-    ensures later { faults line.old ≤ faults line.new }
+    ensures faults_grow { faults line.old ≤ faults line.new }
     ensures cause { result ≡ Some Why.LineFault → Rose (faults line.old) (faults line.new) }
     ensures no_fault { result ≢ Some Why.LineFault → faults line.new ≡ faults line.old }
 {
@@ -53,7 +53,7 @@ pub(crate) fn put_both(
 fn put(line: &mut Box<dyn CallerLine + Send>, text: &[u8]) -> bool
     ensures puts { OnTrue result (calls line.new ≡ with_last (calls line.old) (PutText text.now)) }
     ensures no_put { OnFalse result (calls line.new ≡ calls line.old) }
-    ensures later { faults line.old ≤ faults line.new }
+    ensures faults_grow { faults line.old ≤ faults line.new }
     ensures cause { OnFalse result (Rose (faults line.old) (faults line.new)) }
     ensures no_fault { OnTrue result (faults line.new ≡ faults line.old) }
 {

@@ -11,7 +11,7 @@ ghost use Rattle.command_parser.specs.declared.limits.TheConstants.{RECORD_LIMIT
 ghost use Rattle.command_parser.specs.DayFile.{HasTooMany, HasNoOpening};
 ghost use Rattle.day_replay.specs.Ends.{WasRead, WritesOrFails, writes};
 ghost use Rattle.day_replay.specs.Replay.{FindsWrong, EndsByTheDay, day_history};
-ghost use Rattle.day_replay.specs.declared.day_input.TheConstants.{BYTE_LIMIT};
+ghost use Rattle.day_replay.specs.declared.day_input.TheConstants.{DAY_BYTES};
 ghost use Rattle.serve_desk.specs.Told.{line_of};
 ghost use Rattle.serve_desk.specs.Serve.{IsNoNumberOfLines, ServesBehind, ServesDay, ServesHistory};
 
@@ -64,19 +64,19 @@ pub fn serve<R: Threads + Wait + Sync, S: Source, K: Sink>(
     ensures read_count { result ≢ Status.ReadFault → S.faults source.new ≡ S.faults source.old }
     ensures write_count { result ≢ Status.WriteFault → result ≢ Status.Unreadable
         → K.faults sink.new ≡ K.faults sink.old }
-    ensures later_source { S.faults source.old ≤ S.faults source.new }
-    ensures later_sink { K.faults sink.old ≤ K.faults sink.new }
+    ensures source_faults_grow { S.faults source.old ≤ S.faults source.new }
+    ensures sink_faults_grow { K.faults sink.old ≤ K.faults sink.new }
     ensures write_cause { result ≡ Status.WriteFault
         → Rose (K.faults sink.old) (K.faults sink.new) }
     ensures read_cause { result ≡ Status.ReadFault
         → Rose (S.faults source.old) (S.faults source.new) }
     ensures too_long { result ≡ Status.TooLong
-        → TookMore (S.left source.old) (S.left source.new) BYTE_LIMIT
-        ⊎ WasRead BYTE_LIMIT (S.left source.old) (S.left source.new) HasTooMany }
+        → TookMore (S.left source.old) (S.left source.new) DAY_BYTES
+        ⊎ WasRead DAY_BYTES (S.left source.old) (S.left source.new) HasTooMany }
     ensures not_too_long { result ≢ Status.TooLong
-        → TookFront (S.left source.old) (S.left source.new) BYTE_LIMIT }
+        → TookFront (S.left source.old) (S.left source.new) DAY_BYTES }
     ensures no_opening { result ≡ Status.NoOpening
-        → WasRead BYTE_LIMIT (S.left source.old) (S.left source.new) HasNoOpening }
+        → WasRead DAY_BYTES (S.left source.old) (S.left source.new) HasNoOpening }
     ensures unreadable { result ≡ Status.Unreadable
         → FindsWrong (S.left source.old) (S.left source.new)
         (WritesOrFails (K.held sink.old) (K.held sink.new)
@@ -128,7 +128,7 @@ fn serve_day<R: Threads + Wait + Sync, K: Sink>(
     ensures write_cause { result ≡ Status.WriteFault
         → Rose (K.faults sink.old) (K.faults sink.new) }
     ensures write_count { result ≢ Status.WriteFault → K.faults sink.new ≡ K.faults sink.old }
-    ensures later { K.faults sink.old ≤ K.faults sink.new }
+    ensures faults_grow { K.faults sink.old ≤ K.faults sink.new }
     ensures only { (result ≡ Status.Fine)
         ⊎ ((result ≡ Status.WriteFault) ⊎ (result ≡ Status.NoMemory)) }
 {
@@ -183,7 +183,7 @@ fn serve_book<C: DeskCore + Send, R: Threads + Wait + Sync, K: Sink>(
     ensures write_cause { result ≡ Status.WriteFault
         → Rose (K.faults sink.old) (K.faults sink.new) }
     ensures write_count { result ≢ Status.WriteFault → K.faults sink.new ≡ K.faults sink.old }
-    ensures later { K.faults sink.old ≤ K.faults sink.new }
+    ensures faults_grow { K.faults sink.old ≤ K.faults sink.new }
     ensures only { (result ≡ Status.Fine)
         ⊎ ((result ≡ Status.WriteFault) ⊎ (result ≡ Status.NoMemory)) }
 {

@@ -15,7 +15,7 @@ use crate::look_text::{write_behind, write_look};
 use crate::put::{put_both, put_on};
 use crate::texts::{NO_MEMORY, SPENT, TOO_LONG, TOO_MANY, write_malformed};
 use crate::watch_crew::crew;
-use crate::{LINE_LIMIT, Why};
+use crate::{LINES_PER_CALLER, Why};
 use board_window::{Showing, View};
 use call_history::Book;
 use caller_lines::{CallerLine, Request, Said, hear_request};
@@ -39,20 +39,20 @@ pub(crate) fn answer_watched<C: DeskCore, R: Wait>(
     line: &mut Box<dyn CallerLine + Send>,
 ) -> AnsweredWatched<C>
     requires caller { IsCallerOf desk.now seat view.old }
-    requires heard { heard ≤ LINE_LIMIT }
+    requires heard { heard ≤ LINES_PER_CALLER }
     ensures answers { AnswersWatched desk.now.start.book.opening heard (desk.now.start.quota - seat.calls)
         (line_of (faults line.old) (calls line.old))
         (line_of (faults line.new) (calls line.new))
         seat result.seat view.old view.new result.ends }
     ensures caller { IsCallerOf desk.now result.seat view.new }
-    ensures later { faults line.old ≤ faults line.new }
+    ensures faults_grow { faults line.old ≤ faults line.new }
     ensures cause { result.ends ≡ Some Why.LineFault → Rose (faults line.old) (faults line.new) }
     ensures no_fault { result.ends ≢ Some Why.LineFault → faults line.new ≡ faults line.old }
 {
     match hear_request(alloc, line) {
-        Request::Look { board, place } => AnsweredWatched {
+        Request::Look { board, position } => AnsweredWatched {
             seat,
-            ends: look(view, heard, board, place, line),
+            ends: look(view, heard, board, position, line),
         },
         Request::Crew {
             minute,
@@ -84,28 +84,28 @@ pub(crate) fn answer_watched<C: DeskCore, R: Wait>(
     }
 }
 
-// Looks at a place of a board, from 1, and puts what is seen on the line; or that there was nothing to see.
+// Looks at a position of a board, from 1, and puts what is seen on the line; or that there was nothing to see.
 fn look(
     view: &mut View,
     heard: u32,
     board: Code,
-    place: u16,
+    position: u16,
     line: &mut Box<dyn CallerLine + Send>,
 ) -> Option<Why>
-    requires { heard ≤ LINE_LIMIT }
+    requires { heard ≤ LINES_PER_CALLER }
     ensures replies { (left : ℕ) (seat : SeatValue) →
         RepliesWatched view.old.wall.opening heard left (calls line.old) (calls line.new)
-        (Request.Look board place) seat seat view.old view.new result }
+        (Request.Look board position) seat seat view.old view.new result }
     ensures wall { view.new.wall ≡ view.old.wall }
     ensures begins { IsPrefix view.old.entries view.new.entries }
-    ensures later { faults line.old ≤ faults line.new }
+    ensures faults_grow { faults line.old ≤ faults line.new }
     ensures cause { result ≡ Some Why.LineFault → Rose (faults line.old) (faults line.new) }
     ensures no_fault { result ≢ Some Why.LineFault → faults line.new ≡ faults line.old }
 {
-    if heard == LINE_LIMIT {
+    if heard == LINES_PER_CALLER {
         return put_on(line, TOO_MANY, Some(Why::TooManyLines));
     }
-    match view.look(board, place) {
+    match view.look(board, position) {
         Some(look) => put_on(line, write_look(&look).as_slice(), None),
         None => put_on(line, NO_MEMORY, None),
     }
@@ -123,17 +123,17 @@ fn reply<C: DeskCore, R: Wait>(
     line: &mut Box<dyn CallerLine + Send>,
 ) -> AnsweredWatched<C>
     requires caller { IsCallerOf desk.now seat view.old }
-    requires heard { heard ≤ LINE_LIMIT }
+    requires heard { heard ≤ LINES_PER_CALLER }
     requires not_end { said ≢ Said.End }
     requires no_fault { said ≢ Said.LineFault }
     ensures replies { RepliesWatched desk.now.start.book.opening heard (desk.now.start.quota - seat.calls)
         (calls line.old) (calls line.new) (Request.Said said) seat result.seat view.old view.new result.ends }
     ensures caller { IsCallerOf desk.now result.seat view.new }
-    ensures later { faults line.old ≤ faults line.new }
+    ensures faults_grow { faults line.old ≤ faults line.new }
     ensures cause { result.ends ≡ Some Why.LineFault → Rose (faults line.old) (faults line.new) }
     ensures no_fault { result.ends ≢ Some Why.LineFault → faults line.new ≡ faults line.old }
 {
-    if heard == LINE_LIMIT {
+    if heard == LINES_PER_CALLER {
         let ends = put_on(line, TOO_MANY, Some(Why::TooManyLines));
         return AnsweredWatched { seat, ends };
     }
@@ -167,11 +167,11 @@ fn call<C: DeskCore, R: Wait>(
     line: &mut Box<dyn CallerLine + Send>,
 ) -> AnsweredWatched<C>
     requires caller { IsCallerOf desk.now seat view.old }
-    ensures replies { (heard : ℕ) → heard < LINE_LIMIT
+    ensures replies { (heard : ℕ) → heard < LINES_PER_CALLER
         → RepliesWatched desk.now.start.book.opening heard (desk.now.start.quota - seat.calls)
         (calls line.old) (calls line.new) (Request.Said (Said.Command stated)) seat result.seat view.old view.new result.ends }
     ensures caller { IsCallerOf desk.now result.seat view.new }
-    ensures later { faults line.old ≤ faults line.new }
+    ensures faults_grow { faults line.old ≤ faults line.new }
     ensures cause { result.ends ≡ Some Why.LineFault → Rose (faults line.old) (faults line.new) }
     ensures no_fault { result.ends ≢ Some Why.LineFault → faults line.new ≡ faults line.old }
 {
@@ -222,7 +222,7 @@ fn put_entry(
         → PutsOn (entry_line entry.now) None (calls line.old) (calls line.new) result }
     ensures not_shown { 0 < count
         → PutsAllOn (entry_line entry.now ∷ behind count ∷ []) (calls line.old) (calls line.new) result }
-    ensures later { faults line.old ≤ faults line.new }
+    ensures faults_grow { faults line.old ≤ faults line.new }
     ensures cause { result ≡ Some Why.LineFault → Rose (faults line.old) (faults line.new) }
     ensures no_fault { result ≢ Some Why.LineFault → faults line.new ≡ faults line.old }
 {

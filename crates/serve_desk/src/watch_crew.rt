@@ -15,7 +15,7 @@ use crate::look_text::write_behind;
 use crate::put::put_on;
 use crate::texts::TOO_MANY;
 use crate::watch_answer::learn;
-use crate::{LINE_LIMIT, Why};
+use crate::{LINES_PER_CALLER, Why};
 use board_window::View;
 use call_history::Book;
 use caller_lines::{CallerLine, Request};
@@ -41,16 +41,16 @@ pub(crate) fn crew<C: DeskCore, R: Wait>(
     line: &mut Box<dyn CallerLine + Send>,
 ) -> AnsweredWatched<C>
     requires caller { IsCallerOf desk.now seat view.old }
-    requires heard { heard ≤ LINE_LIMIT }
+    requires heard { heard ≤ LINES_PER_CALLER }
     requires minute { IsInYears minute }
     ensures replies { RepliesWatched desk.now.start.book.opening heard (desk.now.start.quota - seat.calls)
         (calls line.old) (calls line.new) (Request.Crew minute first second) seat result.seat view.old view.new result.ends }
     ensures caller { IsCallerOf desk.now result.seat view.new }
-    ensures later { faults line.old ≤ faults line.new }
+    ensures faults_grow { faults line.old ≤ faults line.new }
     ensures cause { result.ends ≡ Some Why.LineFault → Rose (faults line.old) (faults line.new) }
     ensures no_fault { result.ends ≢ Some Why.LineFault → faults line.new ≡ faults line.old }
 {
-    if heard == LINE_LIMIT {
+    if heard == LINES_PER_CALLER {
         let ends = put_on(line, TOO_MANY, Some(Why::TooManyLines));
         return AnsweredWatched { seat, ends };
     }
@@ -90,7 +90,7 @@ fn put_crew(
         → PutsAllOn (crew_texts (somes entries.now) told.now) (calls line.old) (calls line.new) result }
     ensures not_shown { 0 < count
         → PutsAllOn (crew_texts (somes entries.now) told.now ++ behind count ∷ []) (calls line.old) (calls line.new) result }
-    ensures later { faults line.old ≤ faults line.new }
+    ensures faults_grow { faults line.old ≤ faults line.new }
     ensures cause { result ≡ Some Why.LineFault → Rose (faults line.old) (faults line.new) }
     ensures no_fault { result ≢ Some Why.LineFault → faults line.new ≡ faults line.old }
 {
@@ -112,7 +112,7 @@ fn put_outcome(
     told: &CrewOutcome,
 ) -> Option<Why>
     ensures puts { PutsAllOn (crew_texts (somes entries.now) told.now) (calls line.old) (calls line.new) result }
-    ensures later { faults line.old ≤ faults line.new }
+    ensures faults_grow { faults line.old ≤ faults line.new }
     ensures cause { result ≡ Some Why.LineFault → Rose (faults line.old) (faults line.new) }
     ensures no_fault { result ≢ Some Why.LineFault → faults line.new ≡ faults line.old }
 {
@@ -130,7 +130,7 @@ fn put_entries(
     entries: &[Option<Entry>; 3],
 ) -> Option<Why>
     ensures puts { PutsAllOn (map entry_line (somes entries.now)) (calls line.old) (calls line.new) result }
-    ensures later { faults line.old ≤ faults line.new }
+    ensures faults_grow { faults line.old ≤ faults line.new }
     ensures cause { result ≡ Some Why.LineFault → Rose (faults line.old) (faults line.new) }
     ensures no_fault { result ≢ Some Why.LineFault → faults line.new ≡ faults line.old }
 {
@@ -150,7 +150,7 @@ fn put_some(
     entry: &Option<Entry>,
 ) -> Option<Why>
     ensures puts { PutsAllOn (map entry_line (somes (entry.now ∷ []))) (calls line.old) (calls line.new) result }
-    ensures later { faults line.old ≤ faults line.new }
+    ensures faults_grow { faults line.old ≤ faults line.new }
     ensures cause { result ≡ Some Why.LineFault → Rose (faults line.old) (faults line.new) }
     ensures no_fault { result ≢ Some Why.LineFault → faults line.new ≡ faults line.old }
 {

@@ -9,7 +9,7 @@ use crate::answered_watched::AnsweredWatched;
 use crate::ended_watched::EndedWatched;
 use crate::entry_lines::EntryLines;
 use crate::watch_answer::answer_watched;
-use crate::{LINE_LIMIT, Why};
+use crate::{LINES_PER_CALLER, Why};
 use board_window::View;
 use call_history::Book;
 use caller_lines::CallerLine;
@@ -20,7 +20,7 @@ use std::sync::Wait;
 use turn_gate::Seat;
 
 /// Serves a line at a seat of the desk, as `session` does, and answers its looks from the view, which is of the same desk: a line
-/// `look,B,k` asks who stands at place k of board B, from 1, and is answered without an entry and without a turn. Behind the line of an entry that
+/// `look,B,k` asks who stands at position k of board B, from 1, and is answered without an entry and without a turn. Behind the line of an entry that
 /// isn't shown yet stands how many aren't. What a look sees is never older than what the caller saw before, nor than an entry of theirs that
 /// was shown.
 pub fn session_watched<C: DeskCore, R: Wait>(
@@ -37,7 +37,7 @@ pub fn session_watched<C: DeskCore, R: Wait>(
         (line_of (faults line.new) (calls line.new))
         seat result.seat view result.view result.why result.taken }
     ensures caller { IsCallerOf desk.now result.seat result.view }
-    ensures later { faults line.old ≤ faults line.new }
+    ensures faults_grow { faults line.old ≤ faults line.new }
     ensures cause { result.why ≡ Why.LineFault → Rose (faults line.old) (faults line.new) }
     ensures no_fault { result.why ≢ Why.LineFault → faults line.new ≡ faults line.old }
 {
@@ -46,7 +46,7 @@ pub fn session_watched<C: DeskCore, R: Wait>(
     let mut view = view;
     view.is_legal();
     let mut entry_lines = EntryLines::new();
-    for heard in 0..LINE_LIMIT + 1 {
+    for heard in 0..LINES_PER_CALLER + 1 {
         let AnsweredWatched { seat: next, ends } = answer_watched(
             rt,
             alloc,

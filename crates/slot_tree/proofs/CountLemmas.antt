@@ -57,13 +57,13 @@ pub counts-filled : (slots : List (Option Slot)) (keys : List ℕ) (n : ℕ) →
 counts-filled slots keys n are = counted slots keys are.long are.mark n
 
 -- and the one that was found is the slot's
-pub finds-filled : (slots : List (Option Slot)) (keys : List ℕ) (place : ℕ) (at : Option ℕ) → AreKeys slots keys → FindsMarked keys place at → FindsFilled slots place at
-finds-filled slots keys place None are none = λ some.
+pub finds-filled : (slots : List (Option Slot)) (keys : List ℕ) (position : ℕ) (at : Option ℕ) → AreKeys slots keys → FindsMarked keys position at → FindsFilled slots position at
+finds-filled slots keys position None are none = λ some.
     let all : count_by marks_filled keys ≡ length (filled slots) =
     ap (count_by marks_filled) (sym (take_all (length keys) keys (omega arith))) ∙ counts-filled slots keys (length keys) are
     ∙ ap (λ xs. length (filled xs)) (take_all (length keys) slots (omega (arith, are.long))) in
     omega (arith, all, none some)
-finds-filled slots keys place (Some at) are found = record {
+finds-filled slots keys position (Some at) are found = record {
   filled_there = sym (are.mark at (omega (arith, found.within, are.long))) ∙ lt-ltb _ _ found.marked;
   before = omega (arith, found.before, counts-filled slots keys at are);
 }
@@ -77,9 +77,9 @@ counted-block keys start end behind =
     ap (λ n. count_by marks_filled (take n keys)) whole ∙ ap (count_by marks_filled) (take-add start (end - start) keys) ∙ sum_by-append _ (take start keys) (slice_range keys start end)
 
 -- what is found in it is found among all
-pub found-in-block : (keys : List ℕ) (start end place before at : ℕ) → start ≤ end → end ≤ length keys → before ≡ count_by marks_filled (take start keys)
-    → IsMarkedAs (slice_range keys start end) (place - before) at → IsMarkedAs keys place (start + at)
-found-in-block keys start end place before at behind within before_is found =
+pub found-in-block : (keys : List ℕ) (start end position before at : ℕ) → start ≤ end → end ≤ length keys → before ≡ count_by marks_filled (take start keys)
+    → IsMarkedAs (slice_range keys start end) (position - before) at → IsMarkedAs keys position (start + at)
+found-in-block keys start end position before at behind within before_is found =
     let long : length (slice_range keys start end) ≡ end - start = length-chunk start (end - start) keys (omega (arith, behind, within)) in
     let low : at < end - start = omega (arith, found.within, long) in
     let here : slice_index (slice_range keys start end) at ≡ slice_index keys (start + at) = get_or-chunk start (end - start) keys at 0 low in

@@ -45,22 +45,22 @@ finds-ready slots nodes from m many at many_is long keys small found = record {
   ready = key-ready (slot_at slots (at - many)) m small (omega (arith, found.below, here));
   first = λ s low high.
       let is = (keys s (omega (arith, high, found.within, long, many_is))).0 in
-      let place : many + s ≡ length slots + s = omega (arith, many_is) in
-      let same : slice_index nodes (many + s) ≡ slice_index nodes (length slots + s) = ap (slice_index nodes) place in
+      let position : many + s ≡ length slots + s = omega (arith, many_is) in
+      let same : slice_index nodes (many + s) ≡ slice_index nodes (length slots + s) = ap (slice_index nodes) position in
       key-later (slot_at slots s) m (omega (arith, found.first (many + s) (omega (arith, low)) (omega (arith, high)), is, same));
 }
   where
     here : slice_index nodes at ≡ key (slot_at slots (at - many))
     here =
-        let place : at ≡ length slots + (at - many) = omega (arith, found.behind, many_is) in
-        ap (slice_index nodes) place ∙ (keys (at - many) (omega (arith, found.within, found.behind, long, many_is))).0
+        let position : at ≡ length slots + (at - many) = omega (arith, found.behind, many_is) in
+        ap (slice_index nodes) position ∙ (keys (at - many) (omega (arith, found.within, found.behind, long, many_is))).0
 
 pub finds-none : (slots : List (Option Slot)) (nodes : List ℕ) (from m many : ℕ) → many ≡ length slots → length nodes ≡ 2 * length slots → KeysStand slots nodes
     → FindsBelow nodes (many + from) m None → FindsReady slots from m None
 finds-none slots nodes from m many many_is long keys none s low = elim (cases_lt s (length slots)) [
   | inl within ↦
-      let place : many + s ≡ length slots + s = omega (arith, many_is) in
-      let same : slice_index nodes (many + s) ≡ slice_index nodes (length slots + s) = ap (slice_index nodes) place in
+      let position : many + s ≡ length slots + s = omega (arith, many_is) in
+      let same : slice_index nodes (many + s) ≡ slice_index nodes (length slots + s) = ap (slice_index nodes) position in
       key-later (slot_at slots s) m (omega (arith, none (many + s) (omega (arith, low)) (omega (arith, within, long, many_is)), (keys s within).0, same))
   | inr beyond ↦ ap (is_ready m) (past slots s beyond)
 ]

@@ -58,13 +58,13 @@ pub record AreKeys (slots : List (Option Slot)) (keys : List ℕ) : Type 0 where
 abbrev pub AreFloorsOf : List ℕ → List ℕ → Type 0
 AreFloorsOf blocks keys = (b i : ℕ) → b < length blocks → 64 * b ≤ i → i < 64 * b + 64 → i < length keys → slice_index blocks b ≤ slice_index keys i
 
--- the number is a filled slot's, and as many before it are as make it number `place` from the front, from 1
-pub record IsMarkedAs (keys : List ℕ) (place at : ℕ) : Type 0 where
+-- the number is a filled slot's, and as many before it are as make it number `position` from the front, from 1
+pub record IsMarkedAs (keys : List ℕ) (position at : ℕ) : Type 0 where
   pub within : at < length keys
   pub marked : slice_index keys at < EMPTY
-  pub before : count_by marks_filled (take at keys) + 1 ≡ place
+  pub before : count_by marks_filled (take at keys) + 1 ≡ position
 
 -- the number that is a filled slot's as that one from the front, from 1, or that there is none
 abbrev pub FindsMarked : List ℕ → ℕ → Option ℕ → Type 0
-FindsMarked keys place None = 1 ≤ place → count_by marks_filled keys < place
-FindsMarked keys place (Some at) = IsMarkedAs keys place at
+FindsMarked keys position None = 1 ≤ position → count_by marks_filled keys < position
+FindsMarked keys position (Some at) = IsMarkedAs keys position at

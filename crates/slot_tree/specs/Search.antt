@@ -14,12 +14,12 @@ abbrev pub FindsReady : List (Option Slot) → ℕ → ℕ → Option ℕ → Ty
 FindsReady slots from minute None = (s : ℕ) → from ≤ s → is_ready minute (slot_at slots s) ≡ false
 FindsReady slots from minute (Some at) = IsFirstReady slots from minute at
 
--- the slot is filled, and as many are filled before it as make it number `place` from the front, from 1
-pub record IsFilledAs (slots : List (Option Slot)) (place at : ℕ) : Type 0 where
+-- the slot is filled, and as many are filled before it as make it number `position` from the front, from 1
+pub record IsFilledAs (slots : List (Option Slot)) (position at : ℕ) : Type 0 where
   pub filled_there : is_some (slot_at slots at) ≡ true
-  pub before : length (filled (take at slots)) + 1 ≡ place
+  pub before : length (filled (take at slots)) + 1 ≡ position
 
 -- the slot that is filled as that number from the front, from 1, or that there is none
 abbrev pub FindsFilled : List (Option Slot) → ℕ → Option ℕ → Type 0
-FindsFilled slots place None = 1 ≤ place → length (filled slots) < place
-FindsFilled slots place (Some at) = IsFilledAs slots place at
+FindsFilled slots position None = 1 ≤ position → length (filled slots) < position
+FindsFilled slots position (Some at) = IsFilledAs slots position at

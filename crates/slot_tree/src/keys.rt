@@ -52,15 +52,15 @@ pub(crate) fn filled_before(keys: &[u32], blocks: &[u32], slot: usize) -> u32
 }
 
 // The number that is a filled slot's as this one from the front, from 1, read one by one.
-fn filled_in(keys: &[u32], place: u32) -> Option<usize>
+fn filled_in(keys: &[u32], position: u32) -> Option<usize>
     requires { length keys.now ≤ 1_024 }
-    ensures { FindsMarked keys.now place result }
+    ensures { FindsMarked keys.now position result }
 {
     let mut before = 0;
     for i in 0..keys.len() {
         if keys[i] < EMPTY {
             before += 1;
-            if before == place {
+            if before == position {
                 return Some(i);
             }
         }
@@ -69,10 +69,10 @@ fn filled_in(keys: &[u32], place: u32) -> Option<usize>
 }
 
 /// The number that is a filled slot's as this one from the front, from 1; `None` exactly where there is none. `blocks` is as above.
-pub(crate) fn filled_as(keys: &[u32], blocks: &[u32], place: u32) -> Option<usize>
+pub(crate) fn filled_as(keys: &[u32], blocks: &[u32], position: u32) -> Option<usize>
     requires few { length keys.now ≤ 1_024 }
     requires blocks { AreFloorsOf blocks.now keys.now }
-    ensures { FindsMarked keys.now place result }
+    ensures { FindsMarked keys.now position result }
 {
     let mut before = 0;
     let mut start = 0;
@@ -80,8 +80,8 @@ pub(crate) fn filled_as(keys: &[u32], blocks: &[u32], place: u32) -> Option<usiz
         let end = keys.len().min(start + BLOCK);
         let block = &keys[start..end];
         let more = before + count_from(block, blocks.get(start / BLOCK));
-        if place <= more {
-            let at = filled_in(block, place - before)?;
+        if position <= more {
+            let at = filled_in(block, position - before)?;
             return Some(start + at);
         }
         before = more;

@@ -164,11 +164,11 @@ impl SlotTree {
     }
 
     /// The slot that is filled as this number from the front, from 1; `None` exactly where there is none.
-    pub fn nth(&self, place: u32) -> Option<u32>
-        ensures { FindsFilled self.now place result }
+    pub fn nth(&self, position: u32) -> Option<u32>
+        ensures { FindsFilled self.now position result }
     {
         let (keys, blocks) = self.keys()?;
-        let at = filled_as(keys, blocks, place)?;
+        let at = filled_as(keys, blocks, position)?;
         Some(at as u32)
     }
 

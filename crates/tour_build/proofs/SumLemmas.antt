@@ -16,41 +16,41 @@ shared-before from to begin month begun before = omega (arith, begun, first_day-
 pub shared-behind : (from to end month : ℕ) → to < first_minute (end + 1) → end < month → shared from to (first_minute month) (minutes_of month) ≡ 0
 shared-behind from to end month over behind = omega (arith, over, first_day_mono (end + 1) month (omega (arith, behind)))
 
--- what stands at a place from `low` on and before one: the new value, and else the old
+-- what stands at an index from `low` on and before one: the new value, and else the old
 abbrev pub passed : ℕ → ℕ → ℕ → ℕ → ℕ → ℕ
-passed low place k was now = cond (nat_le low k && nat_lt k place) now was
+passed low index k was now = cond (nat_le low k && nat_lt k index) now was
 
-pub passed-in : (low place k was now : ℕ) → low ≤ k → k < place → passed low place k was now ≡ now
-passed-in low place k was now from to = ap (λ b. cond b now was) (within (nat_le low k && nat_lt k place) refl)
+pub passed-in : (low index k was now : ℕ) → low ≤ k → k < index → passed low index k was now ≡ now
+passed-in low index k was now from to = ap (λ b. cond b now was) (within (nat_le low k && nat_lt k index) refl)
   where
-    within : (b : Bool) → (nat_le low k && nat_lt k place) ≡ b → (nat_le low k && nat_lt k place) ≡ true
+    within : (b : Bool) → (nat_le low k && nat_lt k index) ≡ b → (nat_le low k && nat_lt k index) ≡ true
     within true is = is
     within false is = absurd (grind (arith, nat_tests, is, from, to))
 
-pub passed-before : (low place k was now : ℕ) → k < low → passed low place k was now ≡ was
-passed-before low place k was now before = ap (λ b. cond b now was) (apart (nat_le low k && nat_lt k place) refl)
+pub passed-before : (low index k was now : ℕ) → k < low → passed low index k was now ≡ was
+passed-before low index k was now before = ap (λ b. cond b now was) (apart (nat_le low k && nat_lt k index) refl)
   where
-    apart : (b : Bool) → (nat_le low k && nat_lt k place) ≡ b → (nat_le low k && nat_lt k place) ≡ false
+    apart : (b : Bool) → (nat_le low k && nat_lt k index) ≡ b → (nat_le low k && nat_lt k index) ≡ false
     apart true is = absurd (grind (arith, nat_tests, is, before))
     apart false is = is
 
-pub passed-behind : (low place k was now : ℕ) → place ≤ k → passed low place k was now ≡ was
-passed-behind low place k was now behind = ap (λ b. cond b now was) (apart (nat_le low k && nat_lt k place) refl)
+pub passed-behind : (low index k was now : ℕ) → index ≤ k → passed low index k was now ≡ was
+passed-behind low index k was now behind = ap (λ b. cond b now was) (apart (nat_le low k && nat_lt k index) refl)
   where
-    apart : (b : Bool) → (nat_le low k && nat_lt k place) ≡ b → (nat_le low k && nat_lt k place) ≡ false
+    apart : (b : Bool) → (nat_le low k && nat_lt k index) ≡ b → (nat_le low k && nat_lt k index) ≡ false
     apart true is = absurd (grind (arith, nat_tests, is, behind))
     apart false is = is
 
--- one place more changes that place alone
-pub passed-next : (low place k was now : ℕ) → k ≢ place → passed low place k was now ≡ passed low (place + 1) k was now
-passed-next low place k was now other = ap (λ b. cond (nat_le low k && b) now was) (next (nat_lt k place) refl)
+-- one index more changes that index alone
+pub passed-next : (low index k was now : ℕ) → k ≢ index → passed low index k was now ≡ passed low (index + 1) k was now
+passed-next low index k was now other = ap (λ b. cond (nat_le low k && b) now was) (next (nat_lt k index) refl)
   where
-    next : (b : Bool) → nat_lt k place ≡ b → nat_lt k place ≡ nat_lt k (place + 1)
-    next true is = let before : k < place = grind (arith, nat_tests, is) in is ∙ sym (lt-ltb k (place + 1) (omega (arith, before)))
+    next : (b : Bool) → nat_lt k index ≡ b → nat_lt k index ≡ nat_lt k (index + 1)
+    next true is = let before : k < index = grind (arith, nat_tests, is) in is ∙ sym (lt-ltb k (index + 1) (omega (arith, before)))
     next false is =
-        let behind : place ≤ k = grind (arith, nat_tests, is) in
-        elim (cases_lt place k) [
-          | inl past ↦ is ∙ sym (le-ltb k (place + 1) (omega (arith, past)))
+        let behind : index ≤ k = grind (arith, nat_tests, is) in
+        elim (cases_lt index k) [
+          | inl past ↦ is ∙ sym (le-ltb k (index + 1) (omega (arith, past)))
           | inr here ↦ absurd (other (omega (arith, behind, here)))
         ]
 

@@ -46,15 +46,15 @@ impl MonthSums {
         let begin = Month::of(interval.from);
         let low = begin.number().saturating_sub(first);
         let high = (Month::of_from(interval.to, begin).number() + 1).saturating_sub(first);
-        for place in low..high.min(u16::from(window.months())) {
-            let month = window.month(place as u8);
+        for index in low..high.min(u16::from(window.months())) {
+            let month = window.month(index as u8);
             let minutes = shared(
                 interval.from.number(),
                 interval.to.number(),
                 month.first().number(),
                 month.minutes(),
             );
-            self.sums[usize::from(place)] = self.sums[usize::from(place)].saturating_add(minutes);
+            self.sums[usize::from(index)] = self.sums[usize::from(index)].saturating_add(minutes);
         }
     }
 
@@ -63,7 +63,7 @@ impl MonthSums {
         requires { window.now.first ≤ month }
         ensures { result ≡ get_or self.now (month - window.now.first) 0 }
     {
-        let place = month.number() - window.first().number();
-        self.sums.get(usize::from(place)).copied().unwrap_or(0)
+        let index = month.number() - window.first().number();
+        self.sums.get(usize::from(index)).copied().unwrap_or(0)
     }
 }

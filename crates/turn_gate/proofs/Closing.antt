@@ -20,7 +20,7 @@ all-know seats entries [] each = All-nil (Knows entries)
 all-know seats entries (x ∷ l) each =
     All-cons (Knows entries) x l (let note = each 0 (noted x) refl in record { known = note.known; own = note.own }) (all-know seats entries l (λ m a at. each (suc m) a at))
 
--- the notes that are gathered come in the order of their seats
+-- the notes that are rejoined come in the order of their seats
 pub noted-more : (l m : List SeatValue) (x : SeatValue) (rest all : List Note) → m ≡ l ++ x ∷ [] → map noted m ++ rest ≡ all → map noted l ++ noted x ∷ rest ≡ all
 noted-more l m x rest all is was = sym (split l) ∙ (ap (λ (n : List SeatValue). map noted n ++ rest) (sym is) ∙ was)
   where

@@ -18,7 +18,7 @@ use Rattle.turn_gate.specs.declared.view.View.{View}
 use Rattle.turn_gate.specs.Told.{base, end, IsNumber, IsBookOf}
 use Rattle.turn_gate.specs.Notes.{total, is_numbered, numbered, notes, calls, busy_in, busy, HasTicket, IsTurn, IsNote, IsPhase}
 use Rattle.turn_gate.specs.Gate.{IsView, IsHome, IsOut, Gated}
-use Rattle.turn_gate.specs.Steps.{first_view, waits, drew, turns, IsTaken, looked, knows, passes, passed, first_note, other_notes, kept, dealt, joined, spent}
+use Rattle.turn_gate.specs.Steps.{first_view, waits, drew, turns, IsTaken, found_served, knows, passes, passed, first_note, other_notes, kept, dealt, joined, spent}
 use Rattle.turn_gate.specs.Turns.{IsLast}
 use Rattle.turn_gate.proofs.Totals.{total-set, total-append, total-push, total-one, total-two, total-most}
 use Rattle.turn_gate.proofs.Notes.{note-later, note-all, is_numbered-self, is_numbered-as, ticket-in, turn-ticket, turn-one, phase-drawn, phase-passed, length-notes_from, once_numbered, note-new}
@@ -211,7 +211,7 @@ module _ {B : Type 0} (tell : B → Told) (k : Start) where
 
   abbrev Looks : (id : ℕ) (me : Me (Option B) View) (s : St) → List ℕ → Type 0
   Looks id me s ws = (w : View) × (a : Act (Option B)) × Valid s.homes me.1 a
-      × Rule (record { words = set ws 1 (get_or ws 1 0); homes = homes_after s.homes me.1 a; views = set s.views id w }) × looked tell (step 1 1 0 0 none) me (get_or ws 1 0) (w, carried_after me.1 a)
+      × Rule (record { words = set ws 1 (get_or ws 1 0); homes = homes_after s.homes me.1 a; views = set s.views id w }) × found_served tell (step 1 1 0 0 none) me (get_or ws 1 0) (w, carried_after me.1 a)
 
   waiting-is : (p : _) (x y : ℕ) → p ≡ Waiting x → p ≡ Waiting y → x ≡ y
   waiting-is p x y a b = cc
@@ -267,7 +267,7 @@ module _ {B : Type 0} (tell : B → Told) (k : Start) where
         ),
       )
 
-  pub looks : (slots id : ℕ) (me : Me (Option B) View) (x : ℕ) → me.0.phase ≡ Waiting x → me.0.start ≡ k → Allows Rule slots id me 1 (λ n. n) (looked tell (step slots 1 0 0 none) me)
+  pub looks : (slots id : ℕ) (me : Me (Option B) View) (x : ℕ) → me.0.phase ≡ Waiting x → me.0.start ≡ k → Allows Rule slots id me 1 (λ n. n) (found_served tell (step slots 1 0 0 none) me)
   looks slots id me x is start s r deep at wide = subst (Looks id me s) (sym r.words)
       (dite (ℕ_discrete r.serving x) (λ same. looks-mine id me s r x is start at same) (λ other. looks-other id me s r x is start at other))
 
@@ -372,8 +372,8 @@ module _ {B : Type 0} (tell : B → Told) (k : Start) where
       (λ j u there turn. at_longer (set s.views id w) (o ∷ []) j u
       (set_else s.views id j w (λ same. subst IsTurn idle (subst (λ (x : View). IsTurn x.phase) (one-at s.views j id u v there at same) turn)) ∙ there))
 
-  pub gathers : (id : ℕ) (v : View) (other : ℕ) (w : View) → v.phase ≡ Idle → w.phase ≡ Idle → v.start ≡ k → Joins Rule id v other w (joined v w) spent
-  gathers id v other w idle resting start s r at apart there =
+  pub rejoins : (id : ℕ) (v : View) (other : ℕ) (w : View) → v.phase ≡ Idle → w.phase ≡ Idle → v.start ≡ k → Joins Rule id v other w (joined v w) spent
+  rejoins id v other w idle resting start s r at apart there =
       let j : View = joined v w in
       let middle : List View = set s.views id j in
       let here : get_elem? s.views other ≡ some w = sym (set_else s.views id other j apart) ∙ there in

@@ -51,8 +51,8 @@ pub record Looked {B : Type 0} (tell : B → Told) (m : Me (Option B) View) (tic
   pub mine : found ≡ ticket → (b : B) × (m'.0 ≡ turns m.0 ticket (tell b).entries) × (m'.1 ≡ (0, Some b) ∷ m.1) × IsTaken m.0 ticket (tell b)
   pub other : found ≢ ticket → m' ≡ m
 
-abbrev pub looked : {B : Type 0} → (B → Told) → Step (Option B) → Me (Option B) View → ℕ → Me (Option B) View → Type 0
-looked tell st m found m' = (found ≤ end m.0.start) × ((ticket : ℕ) → m.0.phase ≡ Waiting ticket → Looked tell m ticket found m')
+abbrev pub found_served : {B : Type 0} → (B → Told) → Step (Option B) → Me (Option B) View → ℕ → Me (Option B) View → Type 0
+found_served tell st m found m' = (found ≤ end m.0.start) × ((ticket : ℕ) → m.0.phase ≡ Waiting ticket → Looked tell m ticket found m')
 
 -- the book is back, and its list is known
 abbrev pub knows : List EntryValue → Note → Note

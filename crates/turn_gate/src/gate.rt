@@ -5,8 +5,8 @@ ghost use Rattle.turn_gate.specs.Seats.{IsSeatOf, IsTurnOf, new_seats};
 ghost use Rattle.turn_gate.specs.Turns.{Knows, Took, MayGive, Gave, IsLast};
 
 use crate::deal::deal;
-use crate::gather::gather;
-use crate::steps::{Draw, Look, Pass};
+use crate::rejoin::rejoin;
+use crate::steps::{Draw, FindServed, Pass};
 use crate::terms::Terms;
 use crate::tickets::TicketTable;
 use crate::waiters::Waiters;
@@ -105,7 +105,7 @@ impl<B: Booked> Gate<B> {
         let ticket = shared.fetch_add::<Draw>(&mut seat, 0, 1);
         let mut looks = 0u32;
         for _ in rt.forever() {
-            let serving = shared.load::<Look>(&mut seat, 1);
+            let serving = shared.load::<FindServed>(&mut seat, 1);
             if serving == ticket {
                 let book = shared.exchange(&mut seat, 0, None).unwrap();
                 let turn = Turn {
@@ -173,7 +173,7 @@ impl<B: Booked> Gate<B> {
             seats: _,
             waiters: _,
         } = self;
-        let all = gather(&table, seats);
+        let all = rejoin(&table, seats);
         let mut closed = table.close_with(all);
         let slot = closed.take(0);
         closed.free();

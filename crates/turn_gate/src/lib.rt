@@ -3,7 +3,7 @@
 
 mod deal;
 mod gate;
-mod gather;
+mod rejoin;
 mod laws;
 mod note;
 mod phase;

@@ -1,4 +1,4 @@
-//! What each kind of step tells, and how notes are dealt and gathered.
+//! What each kind of step tells, and how notes are dealt and rejoined.
 use crate::view::View;
 use atomic_table::{Join, Play, Split};
 use desk_model::Booked;
@@ -12,14 +12,14 @@ impl<B: Booked> Play<Option<B>, View> for Draw {
     ghost then = { drew };
 }
 
-/// Whose ticket is served is looked up; who has it has the book from then on.
-pub(crate) struct Look;
+/// Whose ticket is served is found_served up; who has it has the book from then on.
+pub(crate) struct FindServed;
 
-impl<B: Booked> Play<Option<B>, View> for Look {
+impl<B: Booked> Play<Option<B>, View> for FindServed {
     ghost use Rattle.turn_gate.specs.Told.{told};
-    ghost use Rattle.turn_gate.specs.Steps.{looked};
+    ghost use Rattle.turn_gate.specs.Steps.{found_served};
 
-    ghost then = { looked (told B.history B.room B.mark) };
+    ghost then = { found_served (told B.history B.room B.mark) };
 }
 
 /// The book is back, and the next ticket is served.
@@ -44,9 +44,9 @@ impl Split<View> for Deal {
 }
 
 /// The notes of two seats come together.
-pub(crate) struct Gather;
+pub(crate) struct Rejoin;
 
-impl Join<View> for Gather {
+impl Join<View> for Rejoin {
     ghost use Rattle.turn_gate.specs.Steps.{joined, spent};
 
     ghost both = { joined };

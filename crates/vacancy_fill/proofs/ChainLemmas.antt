@@ -11,7 +11,7 @@ use Rattle.slot_tree.specs.Search.{IsFirstReady, FindsReady}
 use Rattle.pool_board.specs.Board.{BoardValue}
 use Rattle.pool_board.specs.Members.{persons, are_distinct}
 use Rattle.pool_board.proofs.SlotLemmas.{ready_of-there}
-use Rattle.vacancy_fill.specs.Chain.{members_of, members_at, places, chain_from, first_free, BarsUnready, is_passed_over, passed_over, most_steps}
+use Rattle.vacancy_fill.specs.Chain.{members_of, members_at, positions, chain_from, first_free, BarsUnready, is_passed_over, passed_over, most_steps}
 
 -- who fills a slot before one has a bar
 abbrev pub AreBarred : (ℕ → Option Bar) → List (Option Slot) → ℕ → Type 0
@@ -25,7 +25,7 @@ bar-some (Some b) is = refl
 
 pub first_free-there : (bar : ℕ → Option Bar) (link position : ℕ) (slots : List (Option Slot)) (at : ℕ) (x : Slot) → AreBarred bar slots at → slot_at slots at ≡ Some x
     → is_none (bar x.person) ≡ true
-    → first_free bar (places link position (persons (filled slots))) ≡ Some (record { link = link; person = x.person; position = position + length (filled (take at slots)) })
+    → first_free bar (positions link position (persons (filled slots))) ≡ Some (record { link = link; person = x.person; position = position + length (filled (take at slots)) })
 first_free-there bar link position [] at x barred is free = absurd (let e : None ≡ Some x = is in cc)
 first_free-there bar link position (None ∷ xs) zero x barred is free = absurd (let e : None ≡ Some x = is in cc)
 first_free-there bar link position (Some y ∷ xs) zero x barred is free =
@@ -43,7 +43,7 @@ first_free-there bar link position (Some y ∷ xs) (suc at) x barred is free =
     ∙ ap (λ n. Some (record { link = link; person = x.person; position = n })) later)
 
 pub first_free-none : (bar : ℕ → Option Bar) (link position : ℕ) (slots : List (Option Slot)) → AreBarred bar slots (length slots)
-    → first_free bar (places link position (persons (filled slots))) ≡ None
+    → first_free bar (positions link position (persons (filled slots))) ≡ None
 first_free-none bar link position [] barred = refl
 first_free-none bar link position (None ∷ xs) barred = first_free-none bar link position xs (λ s x low there. barred (suc s) x (omega (arith, low)) there)
 first_free-none bar link position (Some y ∷ xs) barred =
@@ -155,9 +155,9 @@ members_at-link boards chain link index board members index_is within is are =
 
 -- one board of the chain, and those behind it
 pub chain_from-next : (boards : List BoardValue) (chain : List ℕ) (link : ℕ) (members : List Slot) → link < length chain → members_at boards (get_or chain link 0) ≡ members
-    → chain_from boards link (drop link chain) ≡ places link 1 (persons members) ++ chain_from boards (link + 1) (drop (link + 1) chain)
+    → chain_from boards link (drop link chain) ≡ positions link 1 (persons members) ++ chain_from boards (link + 1) (drop (link + 1) chain)
 chain_from-next boards chain link members low are =
-    ap (chain_from boards link) (drop_more chain link 0 low) ∙ ap (λ ms. places link 1 (persons ms) ++ chain_from boards (link + 1) (drop (link + 1) chain)) are
+    ap (chain_from boards link) (drop_more chain link 0 low) ∙ ap (λ ms. positions link 1 (persons ms) ++ chain_from boards (link + 1) (drop (link + 1) chain)) are
 
 pub most_steps-next : (bar : ℕ → Option Bar) (m : ℕ) (boards : List BoardValue) (chain : List ℕ) (link : ℕ) (members : List Slot) → link < length chain
     → members_at boards (get_or chain link 0) ≡ members

@@ -16,15 +16,15 @@ members_of (Some board) = board.members
 abbrev pub members_at : List BoardValue → ℕ → List Slot
 members_at boards index = members_of (slice_get boards index)
 
--- the places of a board from this one on, at that link of the chain, with these persons
-abbrev pub places : ℕ → ℕ → List ℕ → List Found
-places link position [] = []
-places link position (p ∷ ps) = record { link = link; person = p; position = position } ∷ places link (position + 1) ps
+-- the positions of a board from this one on, at that link of the chain, with these persons
+abbrev pub positions : ℕ → ℕ → List ℕ → List Found
+positions link position [] = []
+positions link position (p ∷ ps) = record { link = link; person = p; position = position } ∷ positions link (position + 1) ps
 
 -- the chain from this link on: the boards' members one after another
 abbrev pub chain_from : List BoardValue → ℕ → List ℕ → List Found
 chain_from boards link [] = []
-chain_from boards link (index ∷ chain) = places link 1 (persons (members_at boards index)) ++ chain_from boards (link + 1) chain
+chain_from boards link (index ∷ chain) = positions link 1 (persons (members_at boards index)) ++ chain_from boards (link + 1) chain
 
 -- the first of it whom nothing bars
 abbrev pub first_free : (ℕ → Option Bar) → List Found → Option Found

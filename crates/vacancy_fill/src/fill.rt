@@ -10,7 +10,7 @@ use pool_board::Board;
 use slot_tree::Steps;
 use std::sync::ledger::Ledger;
 
-/// A place in a vacancy's chain of boards.
+/// A position in a vacancy's chain of boards.
 #[derive(Clone, Copy, Debug, PartialEq, Eq)]
 pub struct Found {
     /// The link of the chain, from 0.

@@ -3,7 +3,7 @@ ghost use Rattle.std.specs.Prelude.{◌≡◌, ℕ, ◌+◌, ◌*◌, ◌≤◌,
 ghost use Rattle.denial_rules.specs.declared.bar.Bar.{Bar};
 ghost use Rattle.slot_tree.specs.Slots.{filled};
 ghost use Rattle.pool_board.specs.Members.{persons, are_distinct};
-ghost use Rattle.vacancy_fill.specs.Chain.{places, first_free, BarsUnready, passed_over};
+ghost use Rattle.vacancy_fill.specs.Chain.{positions, first_free, BarsUnready, passed_over};
 
 use crate::{Found, Judge};
 use desk_base::Minute;
@@ -23,7 +23,7 @@ pub(crate) fn first_on<J: Judge, L: Ledger>(
     requires most { length (filled slots.now) ≤ 500 }
     requires distinct { are_distinct (persons (filled slots.now)) ≡ true }
     ensures first { (barred : ℕ → Option Bar) → J.judges judge.now barred → BarsUnready barred m (filled slots.now)
-        → result ≡ first_free barred (places link 1 (persons (filled slots.now))) }
+        → result ≡ first_free barred (positions link 1 (persons (filled slots.now))) }
     ensures cost { (barred : ℕ → Option Bar) → J.judges judge.now barred → BarsUnready barred m (filled slots.now)
         → steps.new ≤ steps.old + (passed_over barred m (filled slots.now) + 1) * (4 * (10 + 1)) }
 {

@@ -3,7 +3,7 @@ use Rattle.std.specs.Prelude.{ℕ, nat_lt, Option, None, Some, is_none, Result, 
 use Rattle.duty_events.specs.declared.event.Event.{Event}
 use Rattle.duty_events.specs.declared.stage.Stage.{Stage}
 use Rattle.duty_events.specs.declared.event_fault.EventFault.{EventFault}
-use Rattle.duty_events.specs.Allowed.{first_minute, last_minute, judge}
+use Rattle.duty_events.specs.Allowed.{first_minute, last_minute, allow}
 use Rattle.duty_events.specs.Lists.{stage_of, latest}
 use Rattle.desk_base.specs.Window.{start_of}
 use Rattle.desk_model.specs.declared.reply.Reply.{Reply}
@@ -24,7 +24,7 @@ abbrev pub told_answer : OpeningValue → List Event → ℕ → Event → Reply
 told_answer o es m e =
     if nat_lt (first_minute e) (start_of o.window) then reply.OutsideWindow
     else if nat_lt m (last_minute e) then reply.EventAhead m
-    else judged_answer (judge (stage_of es) e (latest es))
+    else judged_answer (allow (stage_of es) e (latest es))
 
 -- `past`: nobody has the number; the person was listed, or an event of theirs was accepted by `event`; else what the
 -- event gives

@@ -12,23 +12,23 @@ use Rattle.desk_model.specs.histories.Register.{person_of, vacancy_of}
 use Rattle.desk_model.specs.boards.Boards.{chain}
 use Rattle.desk_model.specs.offers.Bars.{bar_of}
 
--- the first place of a chain that is this person's
-abbrev pub place_in : List Link → ℕ → Option Link
-place_in links p = find (λ link. nat_eq link.person p) links
+-- the first position of a chain that is this person's
+abbrev pub position_in : List Link → ℕ → Option Link
+position_in links p = find (λ link. nat_eq link.person p) links
 
--- the person has no place in the chain; a bar holds; else what the place gives
-abbrev pub place_answer : Option Bar → (Link → Reply) → Option Link → Reply
-place_answer bar rest None = reply.NotListed
-place_answer (Some bar) rest (Some link) = reply.Denied bar
-place_answer None rest (Some link) = rest link
+-- the person has no position in the chain; a bar holds; else what the position gives
+abbrev pub position_answer : Option Bar → (Link → Reply) → Option Link → Reply
+position_answer bar rest None = reply.NotListed
+position_answer (Some bar) rest (Some link) = reply.Denied bar
+position_answer None rest (Some link) = rest link
 
 -- the moment is after the report; else what the chain and the bars give of an enrolled person
 abbrev pub judged_by : History → ℕ → JobValue → ℕ → (Link → Reply) → Person → Reply
 judged_by h m job p rest person =
     if nat_lt job.report m then reply.Lapsed job.report
-    else place_answer (bar_of h m job p person) rest (place_in (chain h job.chain) p)
+    else position_answer (bar_of h m job p person) rest (position_in (chain h job.chain) p)
 
--- where no bar holds the person is clear, at this place
+-- where no bar holds the person is clear, at this position
 abbrev pub clear_answer : Link → Reply
 clear_answer link = reply.Clear link.board link.position
 

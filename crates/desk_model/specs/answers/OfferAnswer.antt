@@ -12,7 +12,7 @@ use Rattle.desk_model.specs.offers.Bars.{first_free}
 use Rattle.desk_model.specs.answers.NextAnswer.{unless_closed}
 use Rattle.desk_model.specs.answers.ExplainAnswer.{judged_by}
 
--- another person is the first of the chain whom nothing bars; else it is offered to this one, at this place
+-- another person is the first of the chain whom nothing bars; else it is offered to this one, at this position
 abbrev pub named_answer : ℕ → Option Link → Link → Reply
 named_answer p None link = reply.Offered p link.board link.position
 named_answer p (Some first) link =

@@ -1,7 +1,7 @@
 -- Ranks: the order of a board as places of entries.
 use Rattle.std.specs.Prelude.{◌≡◌, ℕ, ◌<◌, Bool, true, false, nat_eq, Option, None, Some, if◌then◌else◌, List, [], ◌∷◌, ⊤}
 use Rattle.std.specs.List.{list_any}
-use Rattle.desk_model.specs.histories.History.{History, Step, steps, place_of, last_of}
+use Rattle.desk_model.specs.histories.History.{History, Step, steps, entry_no, last_of}
 use Rattle.desk_model.specs.boards.Boards.{is_on, sent}
 
 -- it is this number
@@ -11,7 +11,7 @@ is_number n (Some other) = nat_eq n other
 
 -- the place of a step that sends the person to the bottom of the board
 abbrev pub sends_at : List ℕ → ℕ → Step → Option ℕ
-sends_at b p s = if is_number p (sent b s) then Some (place_of s) else None
+sends_at b p s = if is_number p (sent b s) then Some (entry_no s) else None
 
 -- the rank of a person on a board: the place of the last entry that sent them to its bottom
 abbrev pub rank : History → List ℕ → ℕ → Option ℕ

@@ -9,7 +9,7 @@ use Rattle.std.specs.List.{filter_map}
 use Rattle.desk_model.specs.declared.command.Cmd.{Cmd}
 use Rattle.desk_model.specs.declared.command.Cmd.TheVariants as cmd
 use Rattle.desk_model.specs.declared.person.Person.{Person}
-use Rattle.desk_model.specs.histories.History.{History, Step, steps, place_of, said, first_of}
+use Rattle.desk_model.specs.histories.History.{History, Step, steps, entry_no, said, first_of}
 
 -- the event that a command tells of this person
 abbrev pub tells : ℕ → Cmd → Option Event
@@ -27,7 +27,7 @@ told_at place event = record { place = place; event = event }
 
 -- what a step tells of this person
 abbrev pub told_by : ℕ → Step → Option Told
-told_by p s = option_map (told_at (place_of s)) (said (tells p) s.entry)
+told_by p s = option_map (told_at (entry_no s)) (said (tells p) s.entry)
 
 -- the events without their places
 abbrev pub events_in : List Told → List Event

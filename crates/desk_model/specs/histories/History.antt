@@ -40,8 +40,8 @@ unfoldable pub steps : History → List Step
 steps h = steps_from (opened h.opening) h.entries
 
 -- the place of a step's entry
-abbrev pub place_of : Step → ℕ
-place_of s = length s.before.entries
+abbrev pub entry_no : Step → ℕ
+entry_no s = length s.before.entries
 
 -- the command was accepted
 abbrev pub is_done : Reply → Bool

@@ -22,7 +22,7 @@ use Rattle.desk_model.specs.answers.NextAnswer.{next_answer}
 use Rattle.desk_model.specs.answers.OfferAnswer.{offer_answer}
 use Rattle.desk_model.specs.answers.SettleAnswer.{accept_answer, decline_answer, no_answer}
 use Rattle.desk_model.specs.answers.GiveUpAnswer.{annul_answer, drop_answer}
-use Rattle.desk_model.specs.answers.LookAnswer.{at_answer, vac_answer}
+use Rattle.desk_model.specs.answers.QuestionAnswer.{at_answer, vac_answer}
 use Rattle.desk_model.specs.answers.EventAnswer.{past_answer, event_answer}
 use Rattle.desk_model.specs.answers.HoursAnswer.{hours_answer}
 use Rattle.desk_model.specs.answers.ExplainAnswer.{explain_answer}

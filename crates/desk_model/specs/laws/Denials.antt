@@ -39,11 +39,11 @@ pub record IsClear (h : History) (m : ℕ) (job : JobValue) (p : ℕ) : Type 0 w
   pub enrolled : person_of h p ≡ Some person
   pub clear : bar_of h m job p person ≡ None
 
--- all who stand at these places are barred
+-- all who stand at these positions are barred
 abbrev pub AreBarred : History → ℕ → JobValue → List Link → Type 0
 AreBarred h m job links = All (λ link. IsBarred h m job link.person) links
 
--- one of these places is the person's
+-- one of these positions is the person's
 abbrev pub Stands : ℕ → List Link → Type 0
 Stands p links = list_any (λ link. nat_eq link.person p) links ≡ true
 
@@ -51,7 +51,7 @@ Stands p links = list_any (λ link. nat_eq link.person p) links ≡ true
 abbrev pub IsUnfilled : History → JobValue → Reply → Type 0
 IsUnfilled h job r = r ≡ reply.Unfilled (length (chain h job.chain))
 
--- this place is in the chain; who stands there is clear, and all who stand before it are barred
+-- this position is in the chain; who stands there is clear, and all who stand before it are barred
 pub record IsFirstClear (h : History) (m : ℕ) (job : JobValue) (link : Link) : Type 0 where
   pub before : List Link
   pub behind : List Link
@@ -73,12 +73,12 @@ pub record OffersRightly (s : Step) : Type 0 where
   pub each : (p k : ℕ) (b : List ℕ) → s.entry.reply ≡ reply.Offered p b k
       → (v : ℕ) × ((asks_for s.entry.stated.cmd ≡ Some v) × IsRightOffer s.before s.entry.moment v (record { board = b; position = k; person = p }))
 
--- the vacancy that was asked for is open, so many places are in its chain, and all who stand there are barred
+-- the vacancy that was asked for is open, so many positions are in its chain, and all who stand there are barred
 pub record IsRightlyUnfilled (h : History) (m v listed : ℕ) : Type 0 where
   pub job : JobValue
   pub is_open : IsOpen h m v job
   pub barred : AreBarred h m job (chain h job.chain)
-  pub places : listed ≡ length (chain h job.chain)
+  pub positions : listed ≡ length (chain h job.chain)
 
 -- where the entry's reply says that a vacancy is unfilled, it is
 pub record IsUnfilledRightly (s : Step) : Type 0 where

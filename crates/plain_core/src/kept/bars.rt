@@ -103,7 +103,7 @@ impl Kept {
         }
     }
 
-    // The first of these members of a board whom nothing bars, with their place, from 1.
+    // The first of these members of a board whom nothing bars, with their position, from 1.
     fn first_free_on(
         &self,
         events: &mut Vec<Event>,

@@ -2,7 +2,7 @@ ghost use Rattle.std.specs.Prelude.{◌≡◌, ◌≤◌, length, vec_capacity};
 ghost use Rattle.desk_model.specs.declared.limits.TheConstants.{MEMBER_LIMIT};
 ghost use Rattle.desk_model.specs.histories.History.{History};
 ghost use Rattle.desk_model.specs.boards.Boards.{links, chain};
-ghost use Rattle.desk_model.specs.answers.ExplainAnswer.{place_in};
+ghost use Rattle.desk_model.specs.answers.ExplainAnswer.{position_in};
 ghost use Rattle.plain_core.specs.Kept.{IsKept};
 ghost use Rattle.plain_core.specs.Room.{HasRoom};
 
@@ -11,10 +11,10 @@ use crate::lists::Lists;
 use desk_base::{Code, PersonNo};
 use desk_model::{Chain, Link};
 
-// The place of this person among the members of a board, from 1.
-fn place_on(board: &Code, members: &[PersonNo], person: PersonNo) -> Option<Link>
+// The position of this person among the members of a board, from 1.
+fn position_on(board: &Code, members: &[PersonNo], person: PersonNo) -> Option<Link>
     requires { length members.now ≤ MEMBER_LIMIT }
-    ensures { result ≡ place_in (links board.now 1 members.now) person }
+    ensures { result ≡ position_in (links board.now 1 members.now) person }
 {
     let mut position = 1;
     for other in members {
@@ -31,8 +31,8 @@ fn place_on(board: &Code, members: &[PersonNo], person: PersonNo) -> Option<Link
 }
 
 impl Kept {
-    /// The first place of the chain that is this person's.
-    pub(crate) fn first_place(
+    /// The first position of the chain that is this person's.
+    pub(crate) fn first_position(
         &self,
         lists: &mut Lists,
         boards: &Chain,
@@ -40,19 +40,19 @@ impl Kept {
     ) -> Option<Link>
         requires { HasRoom (vec_capacity self.now.entries) lists.old }
         ensures first { (h : History) → IsKept self.now.opening self.now.entries.items h
-            → result ≡ place_in (chain h boards.now) person }
+            → result ≡ position_in (chain h boards.now) person }
         ensures room { HasRoom (vec_capacity self.now.entries) lists.new }
     {
         for board in boards.codes() {
             self.fill_members(board, &mut lists.members);
-            if let Some(link) = place_on(board, &lists.members, person) {
+            if let Some(link) = position_on(board, &lists.members, person) {
                 return Some(link);
             }
         }
         None
     }
 
-    /// How many places the chain has.
+    /// How many positions the chain has.
     pub(crate) fn count_listed(&self, lists: &mut Lists, boards: &Chain) -> u16
         requires { HasRoom (vec_capacity self.now.entries) lists.old }
         ensures listed { (h : History) → IsKept self.now.opening self.now.entries.items h

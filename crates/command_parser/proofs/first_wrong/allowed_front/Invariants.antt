@@ -1,5 +1,5 @@
 use Rattle.std.proofs.Common.{map, ℕ, ◌-◌, ◌<◌, get_or, []}
-use Rattle.command_parser.specs.declared.form.Form.TheVariants as form
+use Rattle.command_parser.specs.declared.field_form.FieldForm.TheVariants as form
 use Rattle.command_parser.specs.RecordForms.{HasForm}
 use Rattle.command_parser.proofs.first_wrong.allowed_front.Given as goal
 

@@ -12,12 +12,12 @@ use Rattle.crewdesk_main.proofs.continue_text.continue_text.Goals as goal
 pub returns-in-Ok-clause-fine : goal.returns-in-Ok-clause-fine
 returns-in-Ok-clause-fine g c = λ fine.
     Continues-Resumes c.one_history_is_legal.ensures.grows _ c.args.text.now _ _ _ (Appends (g.K.Sink.held c.args.sink.now) (g.K.Sink.held c.go_on.new.sink))
-    c.cut_at_plus.ensures.journal c.cut_at_plus.ensures.more (omega (arith, c.count_lines.ensures, c.if-count_lines-gt-LINE_LIMIT.false)) c.in-Ok.ensures.legal (c.go_on.ensures.fine fine)
+    c.cut_at_plus.ensures.journal c.cut_at_plus.ensures.more (omega (arith, c.count_lines.ensures, c.if-count_lines-gt-JOURNAL_LINES.false)) c.in-Ok.ensures.legal (c.go_on.ensures.fine fine)
 
 pub returns-in-Ok-clause-write_fault : goal.returns-in-Ok-clause-write_fault
 returns-in-Ok-clause-write_fault g c = λ fault.
     Continues-Resumes c.one_history_is_legal.ensures.grows _ c.args.text.now _ _ _ (AddsFront (g.K.Sink.held c.args.sink.now) (g.K.Sink.held c.go_on.new.sink))
-    c.cut_at_plus.ensures.journal c.cut_at_plus.ensures.more (omega (arith, c.count_lines.ensures, c.if-count_lines-gt-LINE_LIMIT.false)) c.in-Ok.ensures.legal (c.go_on.ensures.write_fault fault)
+    c.cut_at_plus.ensures.journal c.cut_at_plus.ensures.more (omega (arith, c.count_lines.ensures, c.if-count_lines-gt-JOURNAL_LINES.false)) c.in-Ok.ensures.legal (c.go_on.ensures.write_fault fault)
 
 pub returns-in-Ok-clause-no_opening : goal.returns-in-Ok-clause-no_opening
 returns-in-Ok-clause-no_opening g c = λ none. elim c.go_on.ensures.only [
@@ -42,18 +42,18 @@ returns-in-Ok-clause-form g c = no_form c.go_on.result c.go_on.ensures.only
 
 pub returns-in-Ok-clause-unreadable : goal.returns-in-Ok-clause-unreadable
 returns-in-Ok-clause-unreadable g c = λ told.
-    let audited = IsAudited-Resumes _ c.args.text.now _ _ c.cut_at_plus.ensures.journal (omega (arith, c.count_lines.ensures, c.if-count_lines-gt-LINE_LIMIT.false)) c.in-Ok.ensures.legal in
+    let audited = IsAudited-Resumes _ c.args.text.now _ _ c.cut_at_plus.ensures.journal (omega (arith, c.count_lines.ensures, c.if-count_lines-gt-JOURNAL_LINES.false)) c.in-Ok.ensures.legal in
     inr (FindsWrongCommand-at c.args.text.now _ _ (WritesOrFails (g.K.Sink.held c.args.sink.now) (g.K.Sink.held c.go_on.new.sink) (g.K.Sink.faults c.args.sink.now) (g.K.Sink.faults c.go_on.new.sink))
     c.cut_at_plus.ensures.more audited (c.go_on.ensures.unreadable told))
 
 pub returns-in-Ok-clause-by_the_text : goal.returns-in-Ok-clause-by_the_text
 returns-in-Ok-clause-by_the_text g c =
-    let audited = IsAudited-Resumes _ c.args.text.now _ _ c.cut_at_plus.ensures.journal (omega (arith, c.count_lines.ensures, c.if-count_lines-gt-LINE_LIMIT.false)) c.in-Ok.ensures.legal in
+    let audited = IsAudited-Resumes _ c.args.text.now _ _ c.cut_at_plus.ensures.journal (omega (arith, c.count_lines.ensures, c.if-count_lines-gt-JOURNAL_LINES.false)) c.in-Ok.ensures.legal in
     EndsByTheText-legal c.an_audit_finds_one_verdict.ensures c.go_on.result c.args.text.now _ _ c.cut_at_plus.ensures.more audited c.go_on.ensures.by_the_commands
 
 pub returns-in-Err-clause-by_the_text : goal.returns-in-Err-clause-by_the_text
 returns-in-Err-clause-by_the_text g c =
     EndsByTheText-found c.an_audit_finds_one_verdict.ensures c.tell.result c.args.text.now c.in-Err.verdict
-    (subst HasFewLines c.cut_at_plus.ensures.journal (omega (arith, c.count_lines.ensures, c.if-count_lines-gt-LINE_LIMIT.false)))
+    (subst HasFewLines c.cut_at_plus.ensures.journal (omega (arith, c.count_lines.ensures, c.if-count_lines-gt-JOURNAL_LINES.false)))
     (λ some. subst (λ j. Finds j c.in-Err.verdict) c.cut_at_plus.ensures.journal (c.in-Err.ensures.found some))
     c.in-Err.ensures.wrong c.tell.ensures.only

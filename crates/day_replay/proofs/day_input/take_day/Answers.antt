@@ -1,6 +1,6 @@
 use Rattle.std.proofs.Common.{◌≡◌, arith, rules, subst}
 use Rattle.day_replay.specs.Ends.{Tells, WritesOrFails}
-use Rattle.day_replay.specs.declared.day_input.TheConstants.{BYTE_LIMIT}
+use Rattle.day_replay.specs.declared.day_input.TheConstants.{DAY_BYTES}
 use Rattle.command_parser.specs.declared.day_fault.DayFault.{DayFault}
 use Rattle.command_parser.specs.declared.day_fault.DayFault.TheVariants as fault
 use Rattle.command_parser.specs.DayFile.{IsDayFile, HasFault}
@@ -10,7 +10,7 @@ use Rattle.day_replay.proofs.day_input.take_day.Goals as goal
 
 pub returns-in-Ok-read_day-clause-day : goal.returns-in-Ok-read_day-clause-day
 returns-in-Ok-read_day-clause-day g c =
-    WasRead-TookAll BYTE_LIMIT _ _ c.in-Ok.bytes.items (λ b. IsDayFile b c.in-Ok-read_day.day.opening c.in-Ok-read_day.day.commands.items)
+    WasRead-TookAll DAY_BYTES _ _ c.in-Ok.bytes.items (λ b. IsDayFile b c.in-Ok-read_day.day.opening c.in-Ok-read_day.day.commands.items)
     c.in-Ok.ensures.whole (omega (arith, c.in-Ok.ensures.bounded, c.in-Ok.bytes.ok.0))
     (subst (λ b. IsDayFile b c.in-Ok-read_day.day.opening c.in-Ok-read_day.day.commands.items) c.deref.ensures.value c.in-Ok-read_day.ensures.day)
 
@@ -30,7 +30,7 @@ returns-in-Err-Unreadable-clause-unreadable g c = λ told.
 
 pub returns-in-Ok-read_day-clause-by_the_day : goal.returns-in-Ok-read_day-clause-by_the_day
 returns-in-Ok-read_day-clause-by_the_day g c =
-    let without : (cause : DayFault) → Tells BYTE_LIMIT (g.S.Source.left c.args.source.now) (λ bytes. HasFault bytes cause) → ⊥ =
+    let without : (cause : DayFault) → Tells DAY_BYTES (g.S.Source.left c.args.source.now) (λ bytes. HasFault bytes cause) → ⊥ =
     λ cause tells. day-cause _ _ c.in-Ok.bytes.items _ _ _ cause c.in-Ok.ensures.whole c.deref.ensures.value c.in-Ok-read_day.ensures.day tells in
     record {
       more_bytes = search rules;
@@ -43,7 +43,7 @@ returns-in-Ok-read_day-clause-by_the_day g c =
 pub returns-in-Err-NoOpening-clause-by_the_day : goal.returns-in-Err-NoOpening-clause-by_the_day
 returns-in-Err-NoOpening-clause-by_the_day g c =
     let has = rw (c.in-Err-NoOpening.field-0-is) at (c.in-Err-NoOpening.ensures.fault (λ e. let is = c.in-Err-NoOpening.field-0-is in cc)) in
-    let one : (cause : DayFault) → Tells BYTE_LIMIT (g.S.Source.left c.args.source.now) (λ bytes. HasFault bytes cause) → fault.NoOpening ≡ cause =
+    let one : (cause : DayFault) → Tells DAY_BYTES (g.S.Source.left c.args.source.now) (λ bytes. HasFault bytes cause) → fault.NoOpening ≡ cause =
     λ cause tells. one-cause _ _ c.in-Ok.bytes.items _ fault.NoOpening cause c.in-Ok.ensures.whole c.deref.ensures.value has tells in
     record {
       more_bytes = search rules;
@@ -56,7 +56,7 @@ returns-in-Err-NoOpening-clause-by_the_day g c =
 pub returns-in-Err-Unreadable-clause-by_the_day : goal.returns-in-Err-Unreadable-clause-by_the_day
 returns-in-Err-Unreadable-clause-by_the_day g c =
     let has = rw (c.in-Err-Unreadable.field-0-is) at (c.in-Err-Unreadable.ensures.fault (λ e. let is = c.in-Err-Unreadable.field-0-is in cc)) in
-    let one : (cause : DayFault) → Tells BYTE_LIMIT (g.S.Source.left c.args.source.now) (λ bytes. HasFault bytes cause) → fault.Unreadable c.in-Err-Unreadable.record_no c.in-Err-Unreadable.field ≡ cause =
+    let one : (cause : DayFault) → Tells DAY_BYTES (g.S.Source.left c.args.source.now) (λ bytes. HasFault bytes cause) → fault.Unreadable c.in-Err-Unreadable.record_no c.in-Err-Unreadable.field ≡ cause =
     λ cause tells. one-cause _ _ c.in-Ok.bytes.items _ (fault.Unreadable c.in-Err-Unreadable.record_no c.in-Err-Unreadable.field) cause c.in-Ok.ensures.whole c.deref.ensures.value has tells in
     record {
       more_bytes = search rules;

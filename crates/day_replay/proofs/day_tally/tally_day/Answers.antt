@@ -18,11 +18,11 @@ loop-stated-preserved g c =
     let before = c.loop-stated.invariant in
     let o = c.args.opening.now in
     let commands = c.args.commands.now in
-    let place = c.loop-stated.stated-index in
-    let next = goes_on-next (opened o) commands place c.stated-item.result c.step.result
+    let index = c.loop-stated.stated-index in
+    let next = goes_on-next (opened o) commands index c.stated-item.result c.step.result
     c.loop-stated-test.true c.stated-item.is (c.step.ensures.answer _ before.stands) in
     record {
       left = omega (arith, c.step.ensures.room, before.left);
       stands = subst (g.C.DeskCore.stands c.step.new.self) next (c.step.ensures.stands _ before.stands);
-      counts = subst (Counts c.count.new.self) next (c.count.ensures _ (day_history-few o commands place c.requires.few c.loop-stated-test.true) before.counts);
+      counts = subst (Counts c.count.new.self) next (c.count.ensures _ (day_history-few o commands index c.requires.few c.loop-stated-test.true) before.counts);
     }

@@ -10,6 +10,6 @@ returns c =
     let month = c.args.month in
     let at : IsMonthAt month date = record {
       year = c.first_of.ensures.0;
-      place = omega (arith, signed_arith, c.first_of.ensures.1);
+      number = omega (arith, signed_arith, c.first_of.ensures.1);
     } in
     omega (arith, signed_arith, day_of_month date c.day_of.result month c.day_of.ensures at, c.first_of.ensures.2)

@@ -7,8 +7,8 @@ use Rattle.indexmap.proofs.RemoveLemmas.{own_first}
 use Rattle.desk_register.proofs.find_in.find_in.Goals as goal
 
 -- the key at the hint is the one that is asked for, and no key is there twice
-pub returns-then-eq-clause-place : goal.returns-then-eq-clause-place
-returns-then-eq-clause-place g c =
+pub returns-then-eq-clause-index : goal.returns-then-eq-clause-index
+returns-then-eq-clause-index g c =
     let map = c.args.map.now in
     let there = c.in-Some.there.now in
     let same : g.K.PartialEq.eq there c.args.key.now ≡ true = sym c.eq.ensures ∙ c.if-eq.true in

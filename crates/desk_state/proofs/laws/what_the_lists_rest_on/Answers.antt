@@ -7,6 +7,6 @@ returns c h e legal next = record {
   listed = c.who_is_on_a_board_is_listed.ensures.listed h legal;
   empty = c.who_is_on_a_board_is_listed.ensures.empty h legal;
   those = λ b p. (c.order_is_by_rank.ensures.by_rank h b).those p;
-  persons_placed = c.who_is_enrolled_has_a_place.ensures.persons h;
-  boards_placed = c.who_is_enrolled_has_a_place.ensures.boards h;
+  persons_indexed = c.who_is_enrolled_has_an_index.ensures.persons h;
+  boards_indexed = c.who_is_enrolled_has_an_index.ensures.boards h;
 }

@@ -26,5 +26,5 @@ returns-clause-only c = λ reply tells.
     let o = offered _ reply tells in
     let both = c.in_ok-person.ensures.only (decimal o.person) (o.board ++ 32 ∷ decimal o.position) (decimal-unbroken o.person (omega (arith, o.person_in))) o.kept_is in
     let person = same _ _ (c.in_ok-person-2.ensures.only o.person o.person_in both.0) in
-    let place = same _ _ (c.in_ok-board.ensures.only o.board o.position o.board_in o.some o.most both.1) in
-    rw (person, ap (λ p. p.0) place, ap (λ p. p.1) place) (ap Some (sym o.is))
+    let index = same _ _ (c.in_ok-board.ensures.only o.board o.position o.board_in o.some o.most both.1) in
+    rw (person, ap (λ p. p.0) index, ap (λ p. p.1) index) (ap Some (sym o.is))

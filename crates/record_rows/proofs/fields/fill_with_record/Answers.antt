@@ -7,11 +7,11 @@ use Rattle.record_rows.proofs.fields.fill_with_record.Goals as goal
 
 pub returns-in-None : goal.returns-in-None
 returns-in-None c =
-    c.loop-place.invariant.0 ∙ field-none (fields_of c.args.row.now) c.loop-place.place FIELD_LIMIT (omega (arith, c.loop-place-test.true)) c.in-None.ensures.value
+    c.loop-index.invariant.0 ∙ field-none (fields_of c.args.row.now) c.loop-index.index FIELD_LIMIT (omega (arith, c.loop-index-test.true)) c.in-None.ensures.value
 
-pub loop-place-preserved : goal.loop-place-preserved
-loop-place-preserved c = (
-  rw (c.push.ensures.items, map-append (λ field. field.now) c.loop-place.fields.items (c.in-Some.field ∷ []), c.loop-place.invariant.0)
-      (sym (field-there (fields_of c.args.row.now) c.loop-place.place c.in-Some.field.now (rw c.in-Some.is at c.get.ensures.value))),
-  omega (arith, c.loop-place.invariant.1, c.push.ensures.len),
+pub loop-index-preserved : goal.loop-index-preserved
+loop-index-preserved c = (
+  rw (c.push.ensures.items, map-append (λ field. field.now) c.loop-index.fields.items (c.in-Some.field ∷ []), c.loop-index.invariant.0)
+      (sym (field-there (fields_of c.args.row.now) c.loop-index.index c.in-Some.field.now (rw c.in-Some.is at c.get.ensures.value))),
+  omega (arith, c.loop-index.invariant.1, c.push.ensures.len),
 )

@@ -2,8 +2,8 @@ use Rattle.std.proofs.Common.{arith}
 use Rattle.serve_desk.proofs.WatchAnswerLemmas.{RepliesWatched-crew, RepliesWatched-too_few, RepliesWatched-too_many_requests}
 use Rattle.serve_desk.proofs.watch_crew.crew.Goals as goal
 
-pub returns-then-heard-eq-LINE_LIMIT-clause-replies : goal.returns-then-heard-eq-LINE_LIMIT-clause-replies
-returns-then-heard-eq-LINE_LIMIT-clause-replies g c = RepliesWatched-too_many_requests _ _ _ _ _ _ _ _ _ tt c.if-heard-eq-LINE_LIMIT.true c.put_on-ends.ensures.puts
+pub returns-then-heard-eq-LINES_PER_CALLER-clause-replies : goal.returns-then-heard-eq-LINES_PER_CALLER-clause-replies
+returns-then-heard-eq-LINES_PER_CALLER-clause-replies g c = RepliesWatched-too_many_requests _ _ _ _ _ _ _ _ _ tt c.if-heard-eq-LINES_PER_CALLER.true c.put_on-ends.ensures.puts
 
 pub returns-in-Some-clause-replies : goal.returns-in-Some-clause-replies
 returns-in-Some-clause-replies g c =

@@ -1,5 +1,5 @@
 use Rattle.std.proofs.Common.{◌≡◌, ◌-◌, ◌≤◌, length}
-use Rattle.serve_desk.specs.declared.limits.TheConstants.{LINE_LIMIT}
+use Rattle.serve_desk.specs.declared.limits.TheConstants.{LINES_PER_CALLER}
 use Rattle.serve_desk.specs.Told.{line_of}
 use Rattle.serve_desk.specs.WatchAnswers.{IsCallerOf}
 use Rattle.serve_desk.proofs.WatchLemmas.{WatchedSoFar}
@@ -11,7 +11,7 @@ invariant-loop-heard g l =
     let now = goal.CallerLine-dyn g (l.line.vtable, l.line.value) in record {
       so_far : WatchedSoFar l.desk.start.book.opening (l.desk.start.quota - l.fn.seat.calls) l.heard (length l.desk.start.book.entries)
           (line_of (entry.faults l.fn.line.value) (entry.calls l.fn.line.value)) (line_of (now.faults l.line.value) (now.calls l.line.value)) l.fn.seat l.seat l.fn.view l.view;
-      few : l.heard ≤ LINE_LIMIT;
+      few : l.heard ≤ LINES_PER_CALLER;
       caller : IsCallerOf l.desk l.seat l.view;
       faults : now.faults l.line.value ≡ entry.faults l.fn.line.value;
     }

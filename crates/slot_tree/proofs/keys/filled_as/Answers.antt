@@ -3,9 +3,9 @@ use Rattle.std.proofs.lemmas.Simd.{length-chunk}
 use Rattle.slot_tree.proofs.CountLemmas.{counted-block, found-in-block}
 use Rattle.slot_tree.proofs.keys.filled_as.Goals as goal
 
-pub returns-then-place-more : goal.returns-then-place-more
-returns-then-place-more c =
-    found-in-block c.args.keys.now c.loop-start.start c.min-end.result c.args.place c.loop-start.before c.in_ok-at.at (omega arith) (omega arith) c.loop-start.invariant.counted c.in_ok-at.ensures
+pub returns-then-position-more : goal.returns-then-position-more
+returns-then-position-more c =
+    found-in-block c.args.keys.now c.loop-start.start c.min-end.result c.args.position c.loop-start.before c.in_ok-at.at (omega arith) (omega arith) c.loop-start.invariant.counted c.in_ok-at.ensures
 
 pub loop-start-preserved : goal.loop-start-preserved
 loop-start-preserved c =

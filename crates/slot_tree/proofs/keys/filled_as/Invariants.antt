@@ -8,8 +8,8 @@ invariant-loop-start l = record {
   within : l.start ≤ length l.keys;
   counted : l.before ≡ count_by marks_filled (take l.start l.keys);
   few : l.before ≤ l.start;
-  passed : 1 ≤ l.place → l.before < l.place;
-  least : l.before ≤ l.place;
+  passed : 1 ≤ l.position → l.before < l.position;
+  least : l.before ≤ l.position;
   aligned : l.start < length l.keys → 64 * (l.start / 64) ≡ l.start;
 }
 

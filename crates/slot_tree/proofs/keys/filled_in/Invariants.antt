@@ -7,5 +7,5 @@ abbrev pub invariant-loop-i : goal.invariant-loop-i
 invariant-loop-i l = record {
   counted : l.before ≡ count_by marks_filled (take l.i l.keys);
   few : l.before ≤ l.i;
-  passed : 1 ≤ l.place → l.before < l.place;
+  passed : 1 ≤ l.position → l.before < l.position;
 }

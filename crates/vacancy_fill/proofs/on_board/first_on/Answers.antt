@@ -19,9 +19,9 @@ returns-then-is_none-clause-first g c bar judges unready =
     let unbarred : is_some c.bar.result ≡ false = grind (arith, c.is_none.ensures, c.if-is_none.true) in
     let free : is_none (bar c.in-Some-at.held.person) ≡ true = ap is_none (sym (c.bar.ensures bar judges)) ∙ is_none-from c.bar.result unbarred in
     let barred = barred-to bar c.args.m slots c.loop-at.from c.in-Some.at unready c.requires.distinct (c.loop-at.invariant.barred bar judges unready) c.in-Some.ensures.found in
-    let place : 1 + length (filled (take c.in-Some.at slots)) ≡ c.before-then-is_none.result + 1 = omega (arith, c.before-then-is_none.ensures) in
+    let position : 1 + length (filled (take c.in-Some.at slots)) ≡ c.before-then-is_none.result + 1 = omega (arith, c.before-then-is_none.ensures) in
     sym (first_free-there bar c.args.link 1 slots c.in-Some.at c.in-Some-at.held barred is free
-    ∙ ap (λ n. let f : Found = record { link = c.args.link; person = c.in-Some-at.held.person; position = n } in Some f) place)
+    ∙ ap (λ n. let f : Found = record { link = c.args.link; person = c.in-Some-at.held.person; position = n } in Some f) position)
 
 pub returns-then-is_none-clause-cost : goal.returns-then-is_none-clause-cost
 returns-then-is_none-clause-cost g c bar judges unready =

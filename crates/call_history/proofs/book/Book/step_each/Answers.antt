@@ -3,10 +3,10 @@ use Rattle.desk_model.specs.histories.History.{history_of}
 use Rattle.call_history.proofs.BookLemmas.{goes-on}
 use Rattle.call_history.proofs.book.Book.step_each.Goals as goal
 
-pub loop-place-preserved : goal.loop-place-preserved
-loop-place-preserved g c =
-    let so = c.loop-place.invariant in
-    let book = c.loop-place.self in
+pub loop-index-preserved : goal.loop-index-preserved
+loop-index-preserved g c =
+    let so = c.loop-index.invariant in
+    let book = c.loop-index.self in
     let first = c.args.self.now in
     let answered = c.in-Ok.ensures in
     record {
@@ -14,5 +14,5 @@ loop-place-preserved g c =
       many = omega (arith, so.many, ap (λ h. length h.entries) answered.kept, length-append book.entries.items (c.in-Ok._entry ∷ []));
       history = λ commands long told.
           goes-on c.a_history_goes_on_with_commands.ensures.next (history_of (g.C.DeskCore.opening first.core) first.entries.items) (history_of (g.C.DeskCore.opening book.core) book.entries.items) _ commands
-          c.loop-place.place _ _ c.in-Ok._entry (told c.loop-place.place c.command_at-caller.result c.loop-place-test.true c.command_at-caller.ensures) (so.history commands long told) answered.answer answered.kept;
+          c.loop-index.index _ _ c.in-Ok._entry (told c.loop-index.index c.command_at-caller.result c.loop-index-test.true c.command_at-caller.ensures) (so.history commands long told) answered.answer answered.kept;
     }

@@ -6,12 +6,12 @@ use Rattle.desk_model.specs.histories.Legal.{history_from}
 use Rattle.call_history.proofs.book.Book.step_each.Given as goal
 
 -- the book goes on with the first commands
-abbrev pub invariant-loop-place : goal.invariant-loop-place
-invariant-loop-place g l = record {
+abbrev pub invariant-loop-index : goal.invariant-loop-index
+invariant-loop-index g l = record {
   room : length l.self.entries.items + g.C.DeskCore.room l.self.core ≡ length l.fn.self.entries.items + g.C.DeskCore.room l.fn.self.core;
-  many : length l.self.entries.items ≡ length l.fn.self.entries.items + l.place;
+  many : length l.self.entries.items ≡ length l.fn.self.entries.items + l.index;
   history : (commands : List (ℕ × StatedValue)) → length commands ≡ l.count
-      → ((place : ℕ) (command : _) → place < l.count → goal.F-post g l.command_at place command → slice_get commands place ≡ Some command)
+      → ((index : ℕ) (command : _) → index < l.count → goal.F-post g l.command_at index command → slice_get commands index ≡ Some command)
       → history_of (g.C.DeskCore.opening l.self.core) l.self.entries.items
-      ≡ history_from (history_of (g.C.DeskCore.opening l.fn.self.core) l.fn.self.entries.items) (take l.place commands);
+      ≡ history_from (history_of (g.C.DeskCore.opening l.fn.self.core) l.fn.self.entries.items) (take l.index commands);
 }

@@ -1,7 +1,7 @@
 use Rattle.std.proofs.Common.{◌≡◌, ℕ, ◌∙◌, ap, sym, ◌+◌, ◌*◌, ◌%◌, ◌/◌, ◌≤◌, arith, Some}
 use Rattle.std.proofs.lemmas.Bool.{ltb-true, ltb-false}
 use Rattle.desk_base.specs.Month.{month_of_day}
-use Rattle.desk_base.specs.Day.{day_of, place_in_month}
+use Rattle.desk_base.specs.Day.{day_of, number_in_month}
 use Rattle.desk_base.specs.Minute.{minute_text, month_of, IsInYears}
 use Rattle.desk_base.proofs.MonthLemmas.{first_day-next, length_of_bounds, month_of_day_is, month_in_years, day_in_years}
 use Rattle.desk_base.proofs.ReadLemmas.{has_time, length-minute, minute_at, month_text-in, is_month_at, is_minute_text, IsTime, HasTime}
@@ -30,13 +30,13 @@ month_read : (c : After-read) (minute : ℕ) → IsInYears minute → c.args.tex
 month_read c minute in_years e =
     c.read.ensures.only (month_of minute) (month_in_years _ _ (month_of_day_is (day_of minute)) (omega arith) (omega arith)) (c.in_ok-month.ensures.cases.1 ∙ month_text-in _ minute e)
 
-place_bound : (day : ℕ) → place_in_month day ≤ 31
-place_bound day =
+number_bound : (day : ℕ) → number_in_month day ≤ 31
+number_bound day =
     omega (arith, (month_of_day_is day).not_over, first_day-next (month_of_day day), (length_of_bounds (month_of_day day)).1)
 
-day_read : (c : After-number_of) (minute : ℕ) → c.args.text.now ≡ minute_text minute → c.number_of.result ≡ Some (place_in_month (day_of minute))
+day_read : (c : After-number_of) (minute : ℕ) → c.args.text.now ≡ minute_text minute → c.number_of.result ≡ Some (number_in_month (day_of minute))
 day_read c minute e =
-    c.number_of.ensures.only _ (omega (arith, place_bound (day_of minute))) (has_time _ _ minute c.in_ok-month.ensures.cases.2 e).day
+    c.number_of.ensures.only _ (omega (arith, number_bound (day_of minute))) (has_time _ _ minute c.in_ok-month.ensures.cases.2 e).day
 
 hour_read : (c : After-number_of-2) (minute : ℕ) → c.args.text.now ≡ minute_text minute → c.number_of-2.result ≡ Some (minute % 1440 / 60)
 hour_read c minute e = c.number_of-2.ensures.only _ (omega arith) (has_time _ _ minute c.in_ok-month.ensures.cases.2 e).hours
@@ -73,7 +73,7 @@ returns-then-day-lt1-clause-only c = λ minute in_years e.
     let month : c.in_ok-month-2.month ≡ month_of minute = cc in
     let day_told = day_read at.After-number_of minute e in
     let day_was = c.in_ok-day.was in
-    let day : c.in_ok-day.day ≡ place_in_month (day_of minute) = cc in
+    let day : c.in_ok-day.day ≡ number_in_month (day_of minute) = cc in
     absurd (elim c.then-day-lt1.branch [
       | then-day-lt1-via-then-day-lt1 w ↦ omega (arith, day, w.if-day-lt1)
       | then-day-lt1-via-else-day-lt1+then-day-days w ↦ let next = rw month at w.days.ensures.next in omega (arith, day, w.if-day-days, next, is.begun, is.not_over)
@@ -138,7 +138,7 @@ returns-clause-only c = λ minute years e.
     let month : c.in_ok-month-2.month ≡ month_of minute = cc in
     let day_told = day_read at.After-number_of minute e in
     let day_was = c.in_ok-day.was in
-    let day : c.in_ok-day.day ≡ place_in_month (day_of minute) = cc in
+    let day : c.in_ok-day.day ≡ number_in_month (day_of minute) = cc in
     let hour_told = hour_read at.After-number_of-2 minute e in
     let hour_was = c.in_ok-hour.was in
     let hour : c.in_ok-hour.hour ≡ minute % 1440 / 60 = cc in

@@ -3,7 +3,7 @@ use Rattle.jiff_core.proofs.SignedLemmas.{signed_casts}
 use Rattle.jiff_core.proofs.CalendarLemmas.{days_in_month_bounds}
 use Rattle.jiff_core.proofs.DateLemmas.{civil, epoch_day_injective}
 use Rattle.desk_base.specs.Month.{month_of_day, month_text, two_digits}
-use Rattle.desk_base.specs.Day.{day_of, place_in_month}
+use Rattle.desk_base.specs.Day.{day_of, number_in_month}
 use Rattle.desk_base.specs.Minute.{month_of}
 use Rattle.desk_base.specs.Civil.{IsMonthAt}
 use Rattle.desk_base.proofs.MonthLemmas.{month_of_day-unique}
@@ -22,9 +22,9 @@ month_is c =
     ap month_of_day (sym (c.number.ensures.value ∙ c.of.ensures.value))
     ∙ month_of_day-unique c.number.result c.at.result (IsMonthOf-date c.date_of-date.result c.number.result c.at.result c.date_of-date.ensures.day c.at.ensures)
 
--- and its day the place in that month
-place_is : (c : After-at) → place_in_month (day_of c.args.self) ≡ c.date_of-date.result.day
-place_is c =
+-- and its day the number in that month
+number_is : (c : After-at) → number_in_month (day_of c.args.self) ≡ c.date_of-date.result.day
+number_is c =
     let date = c.date_of-date.result in
     rw (month_is c) (omega (arith, (civil date).2.0, day_of_month date c.number.result c.at.result c.date_of-date.ensures.day c.at.ensures, c.number.ensures.value, c.of.ensures.value))
 
@@ -41,7 +41,7 @@ pub returns-clause-text : goal.returns-clause-text
 unfolding month_text
 returns-clause-text c =
     let day = c.date_of-date.result.day in
-    let parts = minute_text-parts c.args.self c.at.result day (c.args.self % 1440 / 60) (c.args.self % 1440 % 60) (month_is (goal.at.returns-clause-text c).After-at) (place_is (goal.at.returns-clause-text c).After-at) refl refl in
+    let parts = minute_text-parts c.args.self c.at.result day (c.args.self % 1440 / 60) (c.args.self % 1440 % 60) (month_is (goal.at.returns-clause-text c).After-at) (number_is (goal.at.returns-clause-text c).After-at) refl refl in
     let days : c.digits_of.result ≡ two_digits day = c.digits_of.ensures ∙ ap two_digits (omega (arith, signed_casts, c.day.ensures, c.date_of-date.result.day_in, days_in_month_bounds c.date_of-date.result.year c.date_of-date.result.month)) in
     let hours = rw (c.self.view_is) at c.digits_of-2.ensures in
     let pasts = rw (c.self.view_is) at c.digits_of-3.ensures in
@@ -51,5 +51,5 @@ pub returns-clause-civil : goal.returns-clause-civil
 returns-clause-civil c = λ date hour past at.
     let after = (goal.at.returns-clause-civil c).After-at in
     let same = epoch_day_injective date c.date_of-date.result (c.of.ensures.civil date hour past at ∙ ap pos (sym c.number.ensures.value) ∙ sym c.date_of-date.ensures.day) in
-    let month : IsMonthAt (month_of c.args.self) date = rw (month_is after) (record { year = same.0 ∙ c.at.ensures.year; place = same.1 ∙ c.at.ensures.place }) in
+    let month : IsMonthAt (month_of c.args.self) date = rw (month_is after) (record { year = same.0 ∙ c.at.ensures.year; number = same.1 ∙ c.at.ensures.number }) in
     returns-clause-text c ∙ minute_text-civil c.args.self date hour past at month

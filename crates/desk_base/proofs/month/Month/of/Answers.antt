@@ -27,4 +27,4 @@ pub returns-clause-civil : goal.returns-clause-civil
 returns-clause-civil c = λ date hour past at.
     let day = c.of.ensures.civil date hour past at in
     let same = epoch_day_injective date c.date_of.result (day ∙ ap pos (sym c.number.ensures.value) ∙ sym c.date_of.ensures.day) in
-    record { year = same.0 ∙ c.at.ensures.year; place = same.1 ∙ c.at.ensures.place }
+    record { year = same.0 ∙ c.at.ensures.year; number = same.1 ∙ c.at.ensures.number }

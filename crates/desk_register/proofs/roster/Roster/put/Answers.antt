@@ -10,6 +10,6 @@ invariant_of-self c = record {
 
 pub returns-in-Some : goal.returns-in-Some
 returns-in-Some c = record {
-  under = get-with_value_at c.args.self.now.kept c.args.place c.args.person c.args.kept c.get_index_mut.ensures.unique c.requires;
-  keys = keys-with_value_at c.args.self.now.kept c.args.place c.args.kept;
+  under = get-with_value_at c.args.self.now.kept c.args.index c.args.person c.args.kept c.get_index_mut.ensures.unique c.requires;
+  keys = keys-with_value_at c.args.self.now.kept c.args.index c.args.kept;
 }

@@ -1,7 +1,7 @@
 use Rattle.std.proofs.Common.{◌<◌, ◌/◌, ◌%◌, length, slice_set, slice_index_or, ap, ◌∙◌, subst}
 use Rattle.std.proofs.lemmas.List.{get_or_default}
 use Rattle.desk_register.specs.TurnedDown.{turned_in}
-use Rattle.desk_register.proofs.PlaceLemmas.{with_bit, turned-inserted}
+use Rattle.desk_register.proofs.WordLemmas.{with_bit, turned-inserted}
 use Rattle.desk_register.proofs.turned_down.TurnedDown.add.Goals as goal
 
 pub returns : goal.returns

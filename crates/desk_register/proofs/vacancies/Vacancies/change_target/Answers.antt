@@ -11,8 +11,8 @@ invariant_of-self c = record {
 
 pub returns-in-Some-get_index_mut-clause-under : goal.returns-in-Some-get_index_mut-clause-under
 returns-in-Some-get_index_mut-clause-under c =
-    Changes-with_value_at c.args.self.now.kept c.in-Some-find.found.place c.in-Some.vac c.in-Some-get_index_mut.kept.now c.change.new.self c.args.cmd.now c.args.had
-    c.get_index_mut.ensures.unique (sym c.in-Some-find.ensures.place) c.in-Some-get_index_mut.ensures.value (sym c.target.ensures ∙ c.in-Some.is) c.change.ensures
+    Changes-with_value_at c.args.self.now.kept c.in-Some-find.found.index c.in-Some.vac c.in-Some-get_index_mut.kept.now c.change.new.self c.args.cmd.now c.args.had
+    c.get_index_mut.ensures.unique (sym c.in-Some-find.ensures.index) c.in-Some-get_index_mut.ensures.value (sym c.target.ensures ∙ c.in-Some.is) c.change.ensures
 
 pub returns-in-Some-get_index_mut-clause-keys : goal.returns-in-Some-get_index_mut-clause-keys
 returns-in-Some-get_index_mut-clause-keys c = keys-with_value_at c.args.self.now.kept _ _

@@ -1,5 +1,5 @@
 use Rattle.std.proofs.Common.{ap, ◌∙◌}
-use Rattle.desk_state.specs.Places.{is_in}
+use Rattle.desk_state.specs.Words.{is_in}
 use Rattle.desk_state.proofs.BitLemmas.{no-words}
 use Rattle.desk_state.proofs.listings.Listings.new.Goals as goal
 

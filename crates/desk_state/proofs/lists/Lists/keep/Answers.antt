@@ -1,4 +1,4 @@
-use Rattle.desk_state.specs.Places.{is_in}
+use Rattle.desk_state.specs.Words.{is_in}
 use Rattle.desk_state.proofs.KeepLemmas.{refused-keep}
 use Rattle.desk_state.proofs.lists.Lists.keep.Goals as goal
 

@@ -1,6 +1,6 @@
 use Rattle.std.proofs.Common.{sym, ap, ◌∙◌, length}
 use Rattle.std.proofs.lemmas.List.{length-map}
-use Rattle.desk_state.specs.Places.{is_in}
+use Rattle.desk_state.specs.Words.{is_in}
 use Rattle.desk_state.proofs.ReadLemmas.{members-are, is-kept}
 use Rattle.desk_state.proofs.lists.Lists.member_count.Goals as goal
 

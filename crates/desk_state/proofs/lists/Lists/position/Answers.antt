@@ -3,7 +3,7 @@ use Rattle.std.specs.List.{find}
 use Rattle.pool_board.specs.Members.{persons}
 use Rattle.desk_model.specs.boards.Boards.{links, order}
 use Rattle.desk_model.specs.boards.Rank.{IsOnce}
-use Rattle.desk_state.specs.Places.{is_in}
+use Rattle.desk_state.specs.Words.{is_in}
 use Rattle.desk_state.proofs.ReadLemmas.{members-are, found}
 use Rattle.desk_state.proofs.lists.Lists.position.Goals as goal
 

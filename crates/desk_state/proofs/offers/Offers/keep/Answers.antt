@@ -4,14 +4,14 @@ use Rattle.desk_state.specs.Holds.{end_at}
 use Rattle.desk_state.proofs.HearLemmas.{settled-none, no-offer, made-to_person}
 use Rattle.desk_state.proofs.HoldLemmas.{holds-stay}
 use Rattle.desk_state.proofs.FlightLemmas.{offers-stay}
-use Rattle.desk_state.proofs.OfferKeepLemmas.{few-stay, from-placed, from-few, offers-started}
+use Rattle.desk_state.proofs.OfferKeepLemmas.{few-stay, from-indexed, from-few, offers-started}
 use Rattle.desk_state.proofs.offers.Offers.keep.Goals as goal
 
 pub returns-in-Some : goal.returns-in-Some
-returns-in-Some c h legal next place from kept = c.settle.ensures h legal next (sym c.settled.ensures ∙ c.in-Some.is) place kept
+returns-in-Some c h legal next index from kept = c.settle.ensures h legal next (sym c.settled.ensures ∙ c.in-Some.is) index kept
 
 pub returns-in_default-asked : goal.returns-in_default-asked
-returns-in_default-asked c h legal next place from kept =
+returns-in_default-asked c h legal next index from kept =
     let e = c.args.entry.now in
     let x = c.args.self.now in
     let comes = c.what_an_entry_makes_of_the_desk.ensures.comes h e in
@@ -24,7 +24,7 @@ returns-in_default-asked c h legal next place from kept =
     }
 
 pub returns-in_default-offered_person : goal.returns-in_default-offered_person
-returns-in_default-offered_person c h legal next place from kept =
+returns-in_default-offered_person c h legal next index from kept =
     let e = c.args.entry.now in
     let x = c.args.self.now in
     let comes = c.what_an_entry_makes_of_the_desk.ensures.comes h e in
@@ -38,22 +38,22 @@ returns-in_default-offered_person c h legal next place from kept =
     }
 
 pub returns-in_default-board : goal.returns-in_default-board
-returns-in_default-board c h legal next place from kept =
+returns-in_default-board c h legal next index from kept =
     let e = c.args.entry.now in
     let made = made-to_person e c.in-Some-offered_person.person (sym c.offered_person.ensures ∙ c.in-Some-offered_person.is) in
     let may = c.what_is_done_rests_on.ensures.offered h e c.in-Some-asked.vac made.offer.person made.position made.offer.board legal next (sym c.asked.ensures ∙ c.in-Some-asked.is) made.reply_is in
     absurd (false≢true (sym (ap is_some c.in_default-board.is)
-    ∙ from-placed h e c.in-Some-asked.vac c.in-Some-offered_person.person c.args.board made may (c.who_is_enrolled_has_a_place.ensures.boards h) from))
+    ∙ from-indexed h e c.in-Some-asked.vac c.in-Some-offered_person.person c.args.board made may (c.who_is_enrolled_has_an_index.ensures.boards h) from))
 
 pub returns-then-board-ge-BOARD_LIMIT : goal.returns-then-board-ge-BOARD_LIMIT
-returns-then-board-ge-BOARD_LIMIT c h legal next place from kept =
+returns-then-board-ge-BOARD_LIMIT c h legal next index from kept =
     let e = c.args.entry.now in
     let made = made-to_person e c.in-Some-offered_person.person (sym c.offered_person.ensures ∙ c.in-Some-offered_person.is) in
     let low = from-few h e c.in-Some-offered_person.person c.in-Some-board.board made (λ b told. sym c.in-Some-board.is ∙ from b told) kept.few in
     absurd (omega (arith, low, c.if-board-ge-BOARD_LIMIT.true))
 
 pub returns : goal.returns
-returns c h legal next place from kept =
+returns c h legal next index from kept =
     let e = c.args.entry.now in
     let x = c.args.self.now in
     let comes = c.what_an_entry_makes_of_the_desk.ensures.comes h e in
@@ -64,7 +64,7 @@ returns c h legal next place from kept =
     record {
       offers = offers-started h e x.flight c.start.new.flight x.answer c.in-Some-asked.vac c.in-Some-offered_person.person _ made comes legal
           (λ p. c.what_an_entry_makes_of_the_desk.ensures.on_offer h e p legal next) (c.each_moment_lies_in_the_window.ensures h e legal next) may
-          (c.who_is_enrolled_has_a_place.ensures.persons h) c.no_person_stands_twice.ensures.apart none asked kept.answer refl refl
+          (c.who_is_enrolled_has_an_index.ensures.persons h) c.no_person_stands_twice.ensures.apart none asked kept.answer refl refl
           (sym c.in-Some-board.is ∙ from made.offer.board made.board) (rw (c.moment.ensures, c.from.ensures) at c.later.ensures)
           c.start.ensures.vacancies c.start.ensures.persons kept.few kept.offers;
       holds = holds-stay h e (end_at x.holds) comes (settled-none e none) kept.holds;

@@ -6,7 +6,7 @@ use Rattle.tour_build.proofs.tour_totals.TourTotals.none.Goals as goal
 
 pub returns : goal.returns
 returns c = record {
-  lawful = record { each = λ place e is. cc };
+  lawful = record { each = λ index e is. cc };
   at = refl;
   came = refl;
   start = refl;

@@ -1,6 +1,0 @@
-use Rattle.std.proofs.Common.{ap, ◌∙◌}
-use Rattle.desk_register.specs.Boards.{board_under}
-use Rattle.fast_core.proofs.looks.LooksReads.board.Goals as goal
-
-pub returns : goal.returns
-returns g c h tells = c.copied.ensures ∙ c.get.ensures ∙ ap (λ bs. board_under bs c.args.board.now) c.boards.ensures ∙ tells.crew.register.boards.each c.args.board.now

@@ -1,0 +1,140 @@
+mod bars;
+mod boards;
+mod chain;
+
+ghost use Rattle.std.specs.Prelude.{◌≡◌, ◌↔◌, IfOk, ◌+◌, ℕ, Some, IfSome};
+ghost use Rattle.desk_model.specs.statements.Opening.{OpeningValue};
+ghost use Rattle.desk_model.specs.histories.History.{History, opened, with_entry, said};
+ghost use Rattle.desk_model.specs.histories.Legal.{IsNext};
+ghost use Rattle.fast_core.specs.KeptDesk.{Tells};
+ghost use Rattle.desk_base.specs.Minute.{IsInYears};
+ghost use Rattle.desk_model.specs.offers.Offers.{open_offer};
+ghost use Rattle.desk_state.specs.Lists.{mover};
+
+use crate::people::People;
+use desk_base::{Minute, NoMemory, PersonNo, VacNo, YEARS_BEGIN, YEARS_END};
+use desk_model::{
+    Cmd, Entry, Offer, Opening, a_legal_history_fits, one_history_is_legal,
+    what_an_entry_makes_of_the_desk,
+};
+use desk_register::Register;
+use desk_state::{Duty, Lists, NamedIndexes, Offers};
+use std::alloc::Global;
+
+/// All that a desk keeps: how it was opened, its last moment, its persons with their clocks, its boards and vacancies, the open
+/// offers and holds, and who is on which board in which order.
+#[derive(Drop)]
+pub(crate) struct KeptDesk {
+    pub opening: Opening,
+    pub last: Minute,
+    pub people: People,
+    pub offers: Offers,
+    pub lists: Lists,
+}
+
+// The minute so many minutes before this one, where both lie in the years 2000 to 2099.
+fn before(minute: Minute, minutes: u8) -> Option<Minute>
+    ensures years { IfSome result (λ made. IsInYears made) }
+    ensures is { (made : ℕ) → IsInYears made → minute ≡ made + minutes → result ≡ Some made }
+{
+    let made = minute.number().saturating_sub(u64::from(minutes));
+    if made >= YEARS_BEGIN && made < YEARS_END {
+        Minute::new(made)
+    } else {
+        None
+    }
+}
+
+/// The person whom the entry's command names, where that was done and may move them, or tells an event of theirs.
+pub(crate) fn mover(entry: &Entry) -> Option<PersonNo>
+    ensures { result ≡ said mover entry.now }
+{
+    let cmd = entry.accepted()?;
+    match cmd {
+        Cmd::List { person, .. }
+        | Cmd::Unlist { person, .. }
+        | Cmd::MarkOn { person }
+        | Cmd::Decline { person, .. }
+        | Cmd::Past { person, .. }
+        | Cmd::Happened { person, .. } => Some(*person),
+        _ => None,
+    }
+}
+
+impl KeptDesk {
+    /// A desk that was opened so and has answered nothing yet; `NoMemory` where there is none for all that it may come to keep.
+    pub(crate) fn new(alloc: Global, opening: Opening) -> Result<KeptDesk, NoMemory>
+        ensures tells { IfOk result (λ d. Tells d (opened opening)) }
+    {
+        one_history_is_legal();
+        opening.answer();
+        let register = Register::new(alloc)?;
+        let duty = Duty::new(alloc, opening.window())?;
+        let offers = Offers::new(alloc, opening.answer())?;
+        let lists = Lists::new(alloc)?;
+        Ok(KeptDesk {
+            opening,
+            last: opening.start(),
+            people: People { register, duty },
+            offers,
+            lists,
+        })
+    }
+
+    /// The same again, with memory of its own for all that it may come to keep; `NoMemory` where there is none for it.
+    pub(crate) fn copy(&self, alloc: Global) -> Result<KeptDesk, NoMemory>
+        ensures tells { IfOk result (λ d. (h : History) → Tells d h ↔ Tells self.now h) }
+        ensures opening { IfOk result (λ d. d.opening ≡ self.now.opening) }
+    {
+        let people = self.people.copy(alloc)?;
+        let offers = self.offers.copy(alloc)?;
+        let lists = self.lists.copy(alloc)?;
+        Ok(KeptDesk {
+            opening: self.opening,
+            last: self.last,
+            people,
+            offers,
+            lists,
+        })
+    }
+
+    /// Keeps what the next entry changes. It stays a call: inlined, the entry is copied twice more on its
+    /// way to the caller.
+    #[inline(never)]
+    pub(crate) fn keep(&mut self, entry: &Entry)
+        ensures tells { (h : History) → Tells self.old h → IsNext h entry.now → Tells self.new (with_entry h entry.now) }
+        ensures opening { self.new.opening ≡ self.old.opening }
+    {
+        what_an_entry_makes_of_the_desk();
+        let mover = mover(entry);
+        let person = self.index_of(&mover);
+        let board = self.named_board(entry);
+        let offered = self.offered_board(entry);
+        self.people.keep(entry, person);
+        self.offers.keep(entry, person, offered);
+        let ready = self.people.ready_of(person);
+        let named = NamedIndexes {
+            person,
+            board,
+            ready,
+        };
+        self.lists.keep(entry, &named);
+        self.last = entry.moment();
+    }
+
+    /// The open offer of the vacancy, made in the years 2000 to 2099; `None` where none is open.
+    pub(crate) fn offer(&self, vac: VacNo) -> Option<Offer>
+        ensures answer { (h : History) → Tells self.now h → result ≡ open_offer h vac }
+        ensures made { IfSome result (λ offer. IsInYears offer.made) }
+    {
+        a_legal_history_fits();
+        let kept = self.offers.offer(vac)?;
+        let board = self.people.register.boards().code(usize::from(kept.board))?;
+        let made = before(kept.deadline, self.opening.answer())?;
+        Some(Offer {
+            person: kept.person,
+            board: *board,
+            made,
+        })
+    }
+}
