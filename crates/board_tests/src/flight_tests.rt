@@ -1,13 +1,14 @@
 //! Open offers beside a plain list of them, by operations that are drawn, and up to the last for which there is room.
 use desk_base::{Minute, PersonNo, VacNo};
+use desk_register::BoardIndex;
 use offer_flight::{Flight, InFlight, OFFERS};
 use std::test::Fail;
 
-fn offer(person: u32, vac: u32, board: u8) -> Option<InFlight> {
+fn offer(person: u32, vac: u32, board: usize) -> Option<InFlight> {
     Some(InFlight {
         person: PersonNo::new(person)?,
         vac: VacNo::new(vac)?,
-        board,
+        board: BoardIndex::new(board)?,
         deadline: Minute::new(u64::from(vac) + 15)?,
     })
 }

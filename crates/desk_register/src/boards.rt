@@ -12,6 +12,7 @@ ghost use Rattle.desk_model.specs.histories.Register.{sets_up_any};
 ghost use Rattle.desk_register.specs.Done.{IsDone};
 
 use crate::add_last::add_last;
+use crate::board_index::BoardIndex;
 use crate::copy_of::copy_of;
 use crate::find_in::{HINT_BITS, Indexed, find_in};
 use desk_base::{Code, NoMemory, IndexHints};
@@ -69,19 +70,18 @@ impl Boards {
     }
 
     /// The index of the board among all, below 64; `None` where the code is no board.
-    pub fn index(&self, board: &Code) -> Option<usize>
+    pub fn index(&self, board: &Code) -> Option<BoardIndex>
         ensures index { result ≡ board_index (board_codes self.now) board.now }
-        ensures range { IfSome result (λ i. i < BOARD_LIMIT) }
         ensures found { is_some result ≡ is_some (board_under self.now board.now) }
     {
-        Some(self.find(board)?.index)
+        BoardIndex::new(self.find(board)?.index)
     }
 
     /// The code of the board at this index among all; `None` where there are fewer.
-    pub fn code(&self, index: usize) -> Option<&Code>
+    pub fn code(&self, index: BoardIndex) -> Option<&Code>
         ensures { option_copied result ≡ slice_get (board_codes self.now) index }
     {
-        match self.kept.get_index(index) {
+        match self.kept.get_index(index.number()) {
             Some((code, _)) => Some(code),
             None => None,
         }

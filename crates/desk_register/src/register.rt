@@ -16,9 +16,11 @@ ghost use Rattle.desk_register.specs.Register.{roster_of, boards_kept, vacancies
 
 use crate::boards::Boards;
 use crate::kept_vacancy::{giver, target, turner};
+use crate::person_index::PersonIndex;
 use crate::roster::Roster;
 use crate::turned_down::TurnedDown;
 use crate::vacancies::Vacancies;
+use crate::vacancy_index::VacancyIndex;
 use desk_base::{NoMemory, PersonNo, VacNo};
 use desk_model::{
     Cmd, Entry, Reply, VacState, a_vacancy_is_in_one_state, what_an_entry_makes_of_the_desk,
@@ -158,19 +160,17 @@ impl Register {
     }
 
     // The index of who turns a vacancy down by the command.
-    fn turner_index(&self, cmd: &Cmd) -> Option<usize>
+    fn turner_index(&self, cmd: &Cmd) -> Option<PersonIndex>
         ensures index { (h : History) → Keeps self.now h → result ≡ turner_index (persons h) cmd.now }
         ensures found { (p : ℕ) → turner cmd.now ≡ Some p → is_none result ≡ is_none (get nat_eq self.now.persons.kept p) }
-        ensures range { IfSome result (λ i. i < PERSON_LIMIT) }
     {
         self.persons.index(turner(cmd)?)
     }
 
     // The index of the vacancy that is turned down by the command.
-    fn turned_index(&self, cmd: &Cmd) -> Option<usize>
+    fn turned_index(&self, cmd: &Cmd) -> Option<VacancyIndex>
         ensures index { (h : History) → Keeps self.now h → result ≡ option_and_then (index_among (vacancies h)) (turned_vac h cmd.now) }
         ensures found { (h : History) (v : ℕ) → Keeps self.now h → turned_vac h cmd.now ≡ Some v → is_none result ≡ is_none (vacancy_under self.now.vacancies v) }
-        ensures range { IfSome result (λ j. j < VACANCY_LIMIT) }
     {
         turner(cmd)?;
         self.vacancies.index(target(cmd, self.had_by(cmd))?)

@@ -14,8 +14,9 @@ ghost use Rattle.desk_register.specs.Done.{IsDone};
 use crate::add_last::add_last;
 use crate::copy_of::copy_of;
 use crate::enrolled::Enrolled;
-use crate::find_in::{HINT_BITS, find_in};
+use crate::find_in::{HINT_BITS, Indexed, find_in};
 use crate::kept_person::{KeptPerson, subject};
+use crate::person_index::PersonIndex;
 use desk_base::{NoMemory, PersonNo, IndexHints, VacNo};
 use desk_model::{
     Cmd, PERSON_LIMIT, a_vacancy_is_in_one_state, one_offer_to_a_person,
@@ -64,32 +65,38 @@ impl Roster {
         })
     }
 
+    // What is kept of this person, and at which index of the map; `None` where nobody has the number.
+    fn found(&self, person: PersonNo) -> Option<Indexed<'_, KeptPerson>>
+        ensures index { option_map (λ x. x.index) result ≡ index_among (person_numbers self.now) person }
+        ensures kept { option_map (λ x. x.value.now) result ≡ person_under self.now person }
+        ensures range { IfSome result (λ x. x.index < PERSON_LIMIT) }
+    {
+        find_in(&self.kept, &person, self.hints.of(person.number()))
+    }
+
     /// What is kept of this person; `None` where nobody has the number.
     pub fn get(&self, person: PersonNo) -> Option<&KeptPerson>
         ensures { option_copied result ≡ person_under self.now person }
     {
-        Some(self.find(person)?.kept)
+        Some(self.found(person)?.value)
     }
 
     /// The index of this person among all, below 1,000; `None` where nobody has the number.
-    pub fn index(&self, person: PersonNo) -> Option<usize>
+    pub fn index(&self, person: PersonNo) -> Option<PersonIndex>
         ensures index { result ≡ index_among (person_numbers self.now) person }
-        ensures range { IfSome result (λ i. i < PERSON_LIMIT) }
         ensures found { is_some result ≡ is_some (person_under self.now person) }
     {
-        Some(self.find(person)?.index)
+        PersonIndex::new(self.found(person)?.index)
     }
 
     /// The index of this person among all, below 1,000, and what is kept of them; `None` where nobody has the number.
     pub fn find(&self, person: PersonNo) -> Option<Enrolled<'_>>
         ensures index { option_map (λ x. x.index) result ≡ index_among (person_numbers self.now) person }
         ensures kept { option_map (λ x. x.kept.now) result ≡ person_under self.now person }
-        ensures range { IfSome result (λ x. x.index < PERSON_LIMIT) }
     {
-        let hint = self.hints.of(person.number());
-        let found = find_in(&self.kept, &person, hint)?;
+        let found = self.found(person)?;
         Some(Enrolled {
-            index: found.index,
+            index: PersonIndex::new(found.index)?,
             kept: found.value,
         })
     }
@@ -102,12 +109,12 @@ impl Roster {
     }
 
     /// Puts what is kept of this person at the index that they have among all.
-    fn put(&mut self, person: PersonNo, index: usize, kept: KeptPerson)
+    fn put(&mut self, person: PersonNo, index: PersonIndex, kept: KeptPerson)
         requires { index_among (person_numbers self.old) person ≡ Some index }
         ensures under { (q : ℕ) → person_under self.new q ≡ (if nat_eq person q then Some kept else person_under self.old q) }
         ensures keys { person_numbers self.new ≡ person_numbers self.old }
     {
-        if let Some(here) = self.kept.get_index_mut(index) {
+        if let Some(here) = self.kept.get_index_mut(index.number()) {
             *here = kept;
         }
     }

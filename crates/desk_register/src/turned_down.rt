@@ -2,8 +2,10 @@ ghost use Rattle.std.specs.Prelude.{◌≤◌, length, vec_capacity, ◌≡◌, 
 ghost use Rattle.desk_register.specs.declared.turned_down.TheConstants.{WORDS};
 ghost use Rattle.desk_model.specs.declared.limits.TheConstants.{PERSON_LIMIT, VACANCY_LIMIT};
 
+use crate::person_index::PersonIndex;
+use crate::vacancy_index::VacancyIndex;
 use desk_base::NoMemory;
-use desk_model::{PERSON_LIMIT, VACANCY_LIMIT};
+use desk_model::VACANCY_LIMIT;
 use std::alloc::Global;
 
 // How many words there are: for each 64 of 1,000 persons, 16 times, one of each of 20,000 vacancies.
@@ -22,13 +24,13 @@ impl TurnedDown {
     ghost use Rattle.desk_register.specs.TurnedDown.{bit_of, turned_at, TurnsDown};
 
     // The bit of the person at one index and the vacancy at another.
-    fn bit_of(person: usize, vacancy: usize) -> usize
-        requires person { person < PERSON_LIMIT }
-        requires vacancy { vacancy < VACANCY_LIMIT }
+    fn bit_of(person: PersonIndex, vacancy: VacancyIndex) -> usize
         ensures value { result ≡ bit_of person vacancy }
+        ensures few { vacancy < VACANCY_LIMIT }
         ensures range { result / 64 < WORDS }
     {
-        (person / 64 * VACANCY_LIMIT + vacancy) * 64 + person % 64
+        let person = person.number();
+        (person / 64 * VACANCY_LIMIT + vacancy.number()) * 64 + person % 64
     }
 
     /// Nobody has turned anything down; `NoMemory` where there is none for 1,000 persons and 20,000 vacancies.
@@ -48,14 +50,10 @@ impl TurnedDown {
         Ok(TurnedDown { words })
     }
 
-    /// Whether the person at one index, below 1,000, has turned down the vacancy at another.
-    pub fn has(&self, person: usize, vacancy: usize) -> bool
-        requires { person < PERSON_LIMIT }
+    /// Whether the person at one index has turned down the vacancy at another.
+    pub fn has(&self, person: PersonIndex, vacancy: VacancyIndex) -> bool
         ensures { result ≡ turned_at self.now person vacancy }
     {
-        if vacancy >= VACANCY_LIMIT {
-            return false;
-        }
         let bit = TurnedDown::bit_of(person, vacancy);
         match self.words.get(bit / 64) {
             Some(word) => (word >> (bit % 64)) & 1 == 1,
@@ -75,9 +73,7 @@ impl TurnedDown {
     }
 
     // Keeps that the person at one index has turned down the vacancy at another.
-    fn add(&mut self, person: usize, vacancy: usize)
-        requires person { person < PERSON_LIMIT }
-        requires vacancy { vacancy < VACANCY_LIMIT }
+    fn add(&mut self, person: PersonIndex, vacancy: VacancyIndex)
         ensures { TurnsDown (Some person) (Some vacancy) (turned_at self.old) (turned_at self.new) }
     {
         let bit = TurnedDown::bit_of(person, vacancy);
@@ -87,9 +83,7 @@ impl TurnedDown {
     }
 
     /// Keeps that the person at one index has turned down the vacancy at another, where there are both.
-    pub(crate) fn keep(&mut self, person: Option<usize>, vacancy: Option<usize>)
-        requires person { IfSome person (λ i. i < PERSON_LIMIT) }
-        requires vacancy { IfSome vacancy (λ j. j < VACANCY_LIMIT) }
+    pub(crate) fn keep(&mut self, person: Option<PersonIndex>, vacancy: Option<VacancyIndex>)
         ensures { TurnsDown person vacancy (turned_at self.old) (turned_at self.new) }
     {
         if let (Some(person), Some(vacancy)) = (person, vacancy) {

@@ -15,6 +15,7 @@ use crate::copy_of::copy_of;
 use crate::find_in::{HINT_BITS, Indexed, find_in};
 use crate::kept_vacancy::{KeptVacancy, target};
 use crate::row_hasher::RowHasher;
+use crate::vacancy_index::VacancyIndex;
 use desk_base::{NoMemory, PersonNo, IndexHints, VacNo};
 use desk_model::{
     Cmd, Job, VACANCY_LIMIT, VacState, a_vacancy_is_in_one_state, what_an_entry_makes_of_the_desk,
@@ -77,12 +78,11 @@ impl Vacancies {
     }
 
     /// The index of this vacancy among all, below 20,000; `None` where it was never made.
-    pub fn index(&self, vac: VacNo) -> Option<usize>
+    pub fn index(&self, vac: VacNo) -> Option<VacancyIndex>
         ensures index { result ≡ index_among (vacancy_numbers self.now) vac }
-        ensures range { IfSome result (λ i. i < VACANCY_LIMIT) }
         ensures found { is_some result ≡ is_some (vacancy_under self.now vac) }
     {
-        Some(self.find(vac)?.index)
+        VacancyIndex::new(self.find(vac)?.index)
     }
 
     /// How many were made.

@@ -93,16 +93,14 @@ decliner-indexed h e p rests indexes told none = false≢true (ap is_some none �
 pub declined-held : (h : History) (e : EntryValue) (ends later : ℕ → ℕ → ℕ) (flight : List InFlight) (minutes vac who index board until : ℕ) (done : InFlight) → Comes h e → IsLegal h
     → Holds h.opening.window e.moment → (is_done e.reply ≡ true → RestsOn h e.stated.cmd) → said settles e ≡ Some vac → said decliner e ≡ Some who → Some done ≡ of_vacancy flight vac
     → Some index ≡ index_among (persons h) who → board ≡ done.board → (e.moment + HOLD < 2 ^ 28 → until ≡ e.moment + HOLD)
-    → (index < PERSON_LIMIT → board < BOARD_LIMIT → Raises index board until ends later) → AreOffers flight minutes h → AreFew h → AreHolds ends h → AreHolds later (with_entry h e)
+    → Raises index board until ends later → AreOffers flight minutes h → AreFew h → AreHolds ends h → AreHolds later (with_entry h e)
 declined-held h e ends later flight minutes vac who index board until done comes legal lies rests settled told found indexed board_is until_is raises offers few are =
     let by = declines e who told in
     let kept = open-of (boards h) minutes done (open_offer h vac) (subst (λ o. IsOffer (boards h) minutes o (open_offer h vac)) (sym found) (offers.each vac)) in
     let from : board_index (boards h) kept.0.board ≡ Some board = kept.1.1.board ∙ ap Some (sym board_is) in
-    let low = position-lt (nat_eq who) (persons h) index 0 (sym indexed) in
-    let low_board = position-lt (bytes_eq kept.0.board) (boards h) board [] from in
     holds-raised h e ends later who index board until kept.0 comes by (ap (open_offer h) (sym (same_vac e vac who settled by)) ∙ kept.1.0) (sym indexed) from
     (until_is (minute-fits h.opening.window e.moment HOLD legal.opening.window lies (omega arith)))
-    (raises (omega (arith, low, few.enrolled)) (omega (arith, low_board, few.set_up))) are
+    raises are
 
 -- ---- what is offered
 
@@ -110,12 +108,6 @@ declined-held h e ends later flight minutes vac who index board until done comes
 pub from-indexed : (h : History) (e : EntryValue) (vac p : ℕ) (board : Option ℕ) → (made : IsMadeTo e p) → MayOffer h vac made.offer.person made.offer.board
     → ((b : List ℕ) → is_some (board_index (boards h) b) ≡ is_some (board_of h b)) → ((b : List ℕ) → offered_from e ≡ Some b → board ≡ board_index (boards h) b) → is_some board ≡ true
 from-indexed h e vac p board made may indexes from = ap is_some (from made.offer.board made.board) ∙ indexes made.offer.board ∙ may.listed.board
-
-pub from-few : (h : History) (e : EntryValue) (p board : ℕ) → (made : IsMadeTo e p) → ((b : List ℕ) → offered_from e ≡ Some b → Some board ≡ board_index (boards h) b) → AreFew h
-    → board < BOARD_LIMIT
-from-few h e p board made from few =
-    let low = position-lt (bytes_eq made.offer.board) (boards h) board [] (sym (from made.offer.board made.board)) in
-    omega (arith, low, few.set_up)
 
 free-of : (theirs : Option InFlight) → option_map (λ offer. offer.vac) theirs ≡ None → theirs ≡ None
 free-of None none = refl

@@ -10,12 +10,13 @@ ghost use Rattle.desk_state.specs.declared.named_indexes.NamedIndexes.{NamedInde
 use crate::listings::with_board;
 use crate::named_indexes::NamedIndexes;
 use desk_base::{Code, Minute, PersonNo, IndexHints};
-use desk_model::{BOARD_LIMIT, Cmd};
+use desk_model::Cmd;
+use desk_register::BoardIndex;
 use duty_events::Event;
 use pool_board::Board;
 
 // Whether this is the index.
-fn is_here(index: usize, named: Option<usize>) -> bool
+fn is_here(index: BoardIndex, named: Option<BoardIndex>) -> bool
     ensures { result ≡ is_of index named }
 {
     match named {
@@ -25,10 +26,10 @@ fn is_here(index: usize, named: Option<usize>) -> bool
 }
 
 /// Whether the word has the board at this index.
-pub(crate) fn has_board(word: u64, index: usize) -> bool
+pub(crate) fn has_board(word: u64, index: BoardIndex) -> bool
     ensures { result ≡ has_board word index }
 {
-    index < BOARD_LIMIT && (word >> index) & 1 == 1
+    (word >> index.number()) & 1 == 1
 }
 
 // Whether the event is a final release at this place.
@@ -110,8 +111,8 @@ pub(crate) fn touched(named: &NamedIndexes, word: u64) -> u64
     ensures { (j : ℕ) → j < BOARD_LIMIT → has_board result j ≡ (is_of j named.now.board || has_board word j) }
 {
     match named.board {
-        Some(board) if board < BOARD_LIMIT => with_board(word, board, true),
-        _ => word,
+        Some(board) => with_board(word, board, true),
+        None => word,
     }
 }
 
@@ -120,7 +121,7 @@ pub(crate) fn touched(named: &NamedIndexes, word: u64) -> u64
 pub(crate) fn change_board(
     board: &mut Board,
     hints: &mut IndexHints,
-    index: usize,
+    index: BoardIndex,
     cmd: &Cmd,
     named: &NamedIndexes,
     word: u64,

@@ -14,7 +14,7 @@ use desk_model::{
     Cmd, Entry, PERSON_LIMIT, what_an_entry_makes_of_the_desk, what_is_done_rests_on,
     what_is_told_may_follow,
 };
-use desk_register::who_is_enrolled_has_an_index;
+use desk_register::{PersonIndex, who_is_enrolled_has_an_index};
 use duty_events::{Event, may_follow_in_words};
 use person_clock::PersonClock;
 use std::alloc::Global;
@@ -74,10 +74,10 @@ impl Duty {
     }
 
     /// The clock of the person at this index among all; `None` where there are fewer.
-    pub fn clock(&self, index: usize) -> Option<&PersonClock>
+    pub fn clock(&self, index: PersonIndex) -> Option<&PersonClock>
         ensures { option_copied result ≡ slice_get (clocks_of self.now) index }
     {
-        self.clocks.get(index)
+        self.clocks.get(index.number())
     }
 
     // A clock for one person more, where there is room.
@@ -95,21 +95,22 @@ impl Duty {
     }
 
     // The clock at this index takes in the event, where it may.
-    fn tell(&mut self, index: usize, event: &Event)
+    fn tell(&mut self, index: PersonIndex, event: &Event)
         ensures clocks { Tells index event.now (clocks_of self.old) (clocks_of self.new) }
         ensures window { window_of self.new ≡ window_of self.old }
     {
-        if index >= self.clocks.len() {
+        let at = index.number();
+        if at >= self.clocks.len() {
             return;
         }
-        if self.clocks[index].may_take(event) {
-            self.clocks[index].apply(*event);
+        if self.clocks[at].may_take(event) {
+            self.clocks[at].apply(*event);
         }
     }
 
     /// Keeps what the next entry of a legal history tells: a clock more of whom it enrols, and the event that it tells of
     /// somebody. `index` is the person's among all; it isn't looked at where the entry tells no event.
-    pub fn keep(&mut self, entry: &Entry, index: Option<usize>)
+    pub fn keep(&mut self, entry: &Entry, index: Option<PersonIndex>)
         ensures clocks { (h : History) → IsLegal h → IsNext h entry.now → window_of self.old ≡ h.opening.window
             → ((p : ℕ) → said teller entry.now ≡ Some p → index ≡ index_among (persons h) p)
             → AreClocks (clocks_of self.old) h → AreClocks (clocks_of self.new) (with_entry h entry.now) }

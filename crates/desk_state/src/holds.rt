@@ -3,6 +3,7 @@ ghost use Rattle.desk_model.specs.declared.limits.TheConstants.{PERSON_LIMIT, BO
 
 use desk_base::{Minute, NoMemory};
 use desk_model::{BOARD_LIMIT, PERSON_LIMIT};
+use desk_register::{BoardIndex, PersonIndex};
 use std::alloc::Global;
 
 // Until when each of 1,000 persons is held by each of 64 boards, by their indexes: the boards of one person after those of
@@ -34,15 +35,14 @@ impl Holds {
         Ok(Holds { ends })
     }
 
-    /// Until when the person at this index is held by the board at this one; the first minute of all where they aren't, or have
-    /// no such indexes.
-    pub(crate) fn end(&self, person: usize, board: usize) -> Minute
+    /// Until when the person at this index is held by the board at this one; the first minute of all where they aren't.
+    pub(crate) fn end(&self, person: PersonIndex, board: BoardIndex) -> Minute
         ensures { result ≡ end_at self.now person board }
     {
-        if person >= PERSON_LIMIT || board >= BOARD_LIMIT {
-            return Minute::FIRST;
-        }
-        match self.ends.get(person * BOARD_LIMIT + board) {
+        match self
+            .ends
+            .get(person.number() * BOARD_LIMIT + board.number())
+        {
             Some(end) => *end,
             None => Minute::FIRST,
         }
@@ -59,18 +59,12 @@ impl Holds {
         }
     }
 
-    /// Holds the person at this index until then by the board at this one, where they aren't held for longer. Of indexes that there are
-    /// not nothing is kept.
-    pub(crate) fn hold(&mut self, person: usize, board: usize, until: Minute)
-        ensures held { person < PERSON_LIMIT → board < BOARD_LIMIT → (i j : ℕ) → end_at self.new i j
+    /// Holds the person at this index until then by the board at this one, where they aren't held for longer.
+    pub(crate) fn hold(&mut self, person: PersonIndex, board: BoardIndex, until: Minute)
+        ensures { (i j : ℕ) → end_at self.new i j
             ≡ (if nat_eq person i && nat_eq board j then max (end_at self.old i j) until else end_at self.old i j) }
-        ensures no_person { PERSON_LIMIT ≤ person → self.new ≡ self.old }
-        ensures no_board { BOARD_LIMIT ≤ board → self.new ≡ self.old }
     {
-        if person >= PERSON_LIMIT || board >= BOARD_LIMIT {
-            return;
-        }
-        let index = person * BOARD_LIMIT + board;
+        let index = person.number() * BOARD_LIMIT + board.number();
         self.reach(index);
         let now = self.ends[index];
         if now < until {

@@ -5,7 +5,8 @@ ghost use Rattle.desk_state.specs.Changes.{put_by, HasRoom};
 
 use crate::named_indexes::NamedIndexes;
 use desk_base::NoMemory;
-use desk_model::{BOARD_LIMIT, Cmd, PERSON_LIMIT};
+use desk_model::{Cmd, PERSON_LIMIT};
+use desk_register::{BoardIndex, PersonIndex};
 use std::alloc::Global;
 
 /// For each of 1,000 persons the boards that they are on, each as a bit.
@@ -15,21 +16,19 @@ pub(crate) struct Listings {
 }
 
 /// The first index at which a word has a board, of a word that has one.
-pub(crate) fn first_board(word: u64) -> usize
+pub(crate) fn first_board(word: u64) -> BoardIndex
     requires { 0 < word }
-    ensures range { result < BOARD_LIMIT }
-    ensures has { has_board word result ≡ true }
+    ensures { has_board word result ≡ true }
 {
-    word.trailing_zeros() as usize
+    BoardIndex::of(word.trailing_zeros() as usize)
 }
 
-/// The word with the board at this index, below 64, or without it.
-pub fn with_board(word: u64, board: usize, on: bool) -> u64
-    requires { board < BOARD_LIMIT }
+/// The word with the board at this index, or without it.
+pub fn with_board(word: u64, board: BoardIndex, on: bool) -> u64
     ensures lesser { on ≡ false → has_board word board ≡ true → result < word }
     ensures has { (j : ℕ) → has_board result j ≡ (if nat_eq board j then on else has_board word j) }
 {
-    let bit = 1 << board;
+    let bit = 1 << board.number();
     if on { word | bit } else { word & !bit }
 }
 
@@ -54,26 +53,27 @@ impl Listings {
     }
 
     /// The boards of the person at this index; none where there is nobody.
-    pub(crate) fn of(&self, person: Option<usize>) -> u64
+    pub(crate) fn of(&self, person: Option<PersonIndex>) -> u64
         ensures { result ≡ word_of self.now.words.items person }
     {
         let Some(index) = person else {
             return 0;
         };
-        match self.words.get(index) {
+        match self.words.get(index.number()) {
             Some(word) => *word,
             None => 0,
         }
     }
 
     // Sets whether the person at one index is on the board at another.
-    fn set(&mut self, person: usize, board: usize, on: bool)
+    fn set(&mut self, person: PersonIndex, board: BoardIndex, on: bool)
         ensures many { length self.new.words.items ≡ length self.old.words.items }
         ensures each { person < length self.old.words.items → board < BOARD_LIMIT → (i j : ℕ)
             → is_in self.new.words.items i j ≡ set_at person board on i j (is_in self.old.words.items i j) }
     {
-        if person < self.words.len() && board < BOARD_LIMIT {
-            self.words[person] = with_board(self.words[person], board, on);
+        let at = person.number();
+        if at < self.words.len() {
+            self.words[at] = with_board(self.words[at], board, on);
         }
     }
 

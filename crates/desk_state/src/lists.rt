@@ -19,6 +19,7 @@ use crate::named_indexes::NamedIndexes;
 use crate::orders::Orders;
 use desk_base::{NoMemory, PersonNo};
 use desk_model::{Cmd, Entry, order_is_by_rank};
+use desk_register::{BoardIndex, PersonIndex};
 use pool_board::Board;
 use std::alloc::Global;
 
@@ -38,14 +39,14 @@ impl Lists {
     }
 
     // The board at this index among all.
-    fn board(&self, index: usize) -> Option<&Board>
+    fn board(&self, index: BoardIndex) -> Option<&Board>
         ensures { option_copied result ≡ slice_get (boards_kept self.now) index }
     {
-        self.orders.boards.get(index)
+        self.orders.boards.get(index.number())
     }
 
     /// Whether the person at one index among all is on the board at another.
-    pub fn is_on(&self, person: usize, board: usize) -> bool
+    pub fn is_on(&self, person: PersonIndex, board: BoardIndex) -> bool
         ensures { (h : History) (p : ℕ) (b : List ℕ) → Keeps self.now h → index_among (persons h) p ≡ Some person
             → board_index (boards h) b ≡ Some board → result ≡ is_on h p b }
     {
@@ -53,14 +54,14 @@ impl Lists {
     }
 
     /// Whether the person at this index among all is on one of the boards that the word has, each as a bit by its index among all.
-    pub fn is_on_one(&self, person: usize, boards: u64) -> bool
+    pub fn is_on_one(&self, person: PersonIndex, boards: u64) -> bool
         ensures { result ≡ is_on_one self.now person boards }
     {
         self.listings.of(Some(person)) & boards != 0
     }
 
     /// On how many boards the person at this index among all is.
-    pub fn list_count(&self, person: usize) -> usize
+    pub fn list_count(&self, person: PersonIndex) -> usize
         ensures { (h : History) (p : ℕ) → Keeps self.now h → index_among (persons h) p ≡ Some person
             → result ≡ length (boards_of h p) }
     {
@@ -68,7 +69,7 @@ impl Lists {
     }
 
     /// How many persons are on the board at this index among all.
-    pub fn member_count(&self, board: usize) -> u16
+    pub fn member_count(&self, board: BoardIndex) -> u16
         ensures { (h : History) (b : List ℕ) → Keeps self.now h → board_index (boards h) b ≡ Some board
             → result ≡ length (order h b) }
     {
@@ -79,7 +80,7 @@ impl Lists {
     }
 
     /// Who stands at a position of the board, from 1; 0 tells the same as 1. `None` where nobody does.
-    pub fn member_at(&self, board: usize, position: u16) -> Option<PersonNo>
+    pub fn member_at(&self, board: BoardIndex, position: u16) -> Option<PersonNo>
         ensures { (h : History) (b : List ℕ) → Keeps self.now h → board_index (boards h) b ≡ Some board
             → result ≡ member_at h b position }
     {
@@ -87,7 +88,7 @@ impl Lists {
     }
 
     /// At which position of the board, from 1, the person stands; `None` where they aren't on it.
-    pub fn position(&self, person: PersonNo, board: usize) -> Option<u16>
+    pub fn position(&self, person: PersonNo, board: BoardIndex) -> Option<u16>
         ensures { (h : History) (b : List ℕ) → Keeps self.now h → board_index (boards h) b ≡ Some board
             → find (λ link. nat_eq link.person person) (links b 1 (order h b))
             ≡ option_map (λ k. record { board = b; position = k; person = person }) result }

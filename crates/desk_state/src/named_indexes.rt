@@ -1,6 +1,7 @@
 ghost use Rattle.std.specs.Prelude.{◌≡◌, ◌<◌};
 
 use desk_base::{Minute, YEARS_END};
+use desk_register::{BoardIndex, PersonIndex};
 
 /// The number of the last minute that there is: who is in a tour of duty isn't ready before it.
 pub const NEVER: u64 = 268_435_455;
@@ -15,10 +16,10 @@ pub fn the_last_minute()
 #[derive(Clone, Copy, Debug)]
 pub struct NamedIndexes {
     /// The index among all persons of the one whom the command names.
-    pub person: Option<usize>,
+    pub person: Option<PersonIndex>,
     /// The index among all boards of the one that the command names, or that the offer was made from which it declines, or
     /// that it sets up.
-    pub board: Option<usize>,
+    pub board: Option<BoardIndex>,
     /// The minute from which the person is ready after the entry.
     pub ready: Minute,
 }

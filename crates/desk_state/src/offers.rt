@@ -15,10 +15,10 @@ ghost use Rattle.desk_state.specs.OfferTold.{decliner, offered_from, offered_per
 use crate::holds::Holds;
 use desk_base::{Minute, NoMemory, PersonNo, VacNo};
 use desk_model::{
-    BOARD_LIMIT, Cmd, Entry, HOLD, Reply, each_moment_lies_in_the_window,
-    what_an_entry_makes_of_the_desk, what_is_done_rests_on,
+    Cmd, Entry, HOLD, Reply, each_moment_lies_in_the_window, what_an_entry_makes_of_the_desk,
+    what_is_done_rests_on,
 };
-use desk_register::who_is_enrolled_has_an_index;
+use desk_register::{BoardIndex, PersonIndex, who_is_enrolled_has_an_index};
 use offer_flight::{Flight, InFlight, OFFERS};
 use std::alloc::Global;
 
@@ -139,7 +139,7 @@ impl Offers {
 
     /// Until when a person is held by a board, both by their indexes among all, from 0, in either edition of the rules: 480 minutes
     /// after they last declined an offer from that board. The first minute of all where they declined none.
-    pub fn hold_end(&self, person: usize, board: usize) -> Minute
+    pub fn hold_end(&self, person: PersonIndex, board: BoardIndex) -> Minute
         ensures { (h : History) (p : ℕ) (b : List ℕ) → Keeps self.now h → index_among (persons h) p ≡ Some person
             → board_index (boards h) b ≡ Some board → result ≡ hold_end h (b ∷ []) p }
     {
@@ -147,7 +147,7 @@ impl Offers {
     }
 
     // Ends the open offer of a vacancy, where it has one; who declines it is held by the board that it was made from.
-    fn settle(&mut self, vac: VacNo, entry: &Entry, person: Option<usize>)
+    fn settle(&mut self, vac: VacNo, entry: &Entry, person: Option<PersonIndex>)
         ensures { (h : History) → IsLegal h → IsNext h entry.now → said settles entry.now ≡ Some vac
             → ((p : ℕ) → said decliner entry.now ≡ Some p → person ≡ index_among (persons h) p)
             → Keeps self.old h → Keeps self.new (with_entry h entry.now) }
@@ -167,13 +167,13 @@ impl Offers {
             return;
         };
         let until = later(entry.moment(), HOLD);
-        self.holds.hold(index, usize::from(done.board), until);
+        self.holds.hold(index, done.board, until);
     }
 
     /// Keeps what the next entry of a legal history makes of offers and holds; of any other entry nothing is promised. `person`
     /// is the index of who declines by it, among all persons, and `board` that of the board which its offer is made from, among
     /// all boards; neither is looked at where the entry tells no such thing. It takes no memory.
-    pub fn keep(&mut self, entry: &Entry, person: Option<usize>, board: Option<usize>)
+    pub fn keep(&mut self, entry: &Entry, person: Option<PersonIndex>, board: Option<BoardIndex>)
         ensures { (h : History) → IsLegal h → IsNext h entry.now
             → ((p : ℕ) → said decliner entry.now ≡ Some p → person ≡ index_among (persons h) p)
             → ((b : List ℕ) → offered_from entry.now ≡ Some b → board ≡ board_index (boards h) b)
@@ -196,14 +196,11 @@ impl Offers {
         let Some(board) = board else {
             return;
         };
-        if board >= BOARD_LIMIT {
-            return;
-        }
         self.flight.no_person_stands_twice();
         let made = InFlight {
             person,
             vac,
-            board: board as u8,
+            board,
             deadline: later(entry.moment(), u64::from(self.answer)),
         };
         start(&mut self.flight, made);

@@ -57,9 +57,10 @@ impl Orders {
         let mut left = touched(named, word);
         while left != 0 {
             let index = first_board(left);
-            if index < self.boards.len() {
+            let at = index.number();
+            if at < self.boards.len() {
                 change_board(
-                    &mut self.boards[index],
+                    &mut self.boards[at],
                     &mut self.hints,
                     index,
                     cmd,

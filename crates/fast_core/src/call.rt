@@ -43,9 +43,10 @@ impl Call<'_> {
         who_is_on_a_board_is_listed();
         who_is_enrolled_has_an_index();
         order_is_by_rank();
-        let Some(at) = self.desk.board_index(board) else {
+        let Some(index) = self.desk.board_index(board) else {
             return None;
         };
+        let at = index.number();
         let boards = self.desk.lists.boards();
         if at >= boards.len() {
             return None;

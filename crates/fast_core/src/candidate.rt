@@ -22,17 +22,16 @@ use crate::job_asked::{JobAsked, may_be_asked};
 use denial_rules::{Bar, Facts, busy_bar};
 use desk_base::Minute;
 use desk_model::{each_vacancy_ends_in_the_window, no_event_lies_ahead};
-use desk_register::KeptPerson;
+use desk_register::{KeptPerson, PersonIndex};
 use duty_events::Stage;
 use person_clock::PersonClock;
 
 /// An enrolled person, by their index among all, with what is kept of them and their clock.
 #[derive(Drop)]
 pub(crate) struct Candidate<'a> {
-    pub index: usize,
+    pub index: PersonIndex,
     pub kept: &'a KeptPerson,
     pub clock: &'a PersonClock,
-    ghost range: { index < PERSON_LIMIT },
 }
 
 impl Candidate<'_> {

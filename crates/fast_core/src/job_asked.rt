@@ -9,7 +9,7 @@ ghost use Rattle.fast_core.specs.Candidates.{IsJobAsked};
 
 use desk_base::Minute;
 use desk_model::{Job, each_vacancy_ends_in_the_window, no_event_lies_ahead};
-use desk_register::TurnedDown;
+use desk_register::{TurnedDown, VacancyIndex};
 use month_hours::PlanMonths;
 use person_clock::PersonClock;
 
@@ -20,7 +20,7 @@ pub(crate) struct JobAsked<'a> {
     pub moment: Minute,
     pub job: &'a Job,
     pub plan: PlanMonths,
-    pub vacancy: Option<usize>,
+    pub vacancy: Option<VacancyIndex>,
     pub turned_down: &'a TurnedDown,
 }
 

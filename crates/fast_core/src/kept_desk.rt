@@ -15,7 +15,7 @@ use crate::people::People;
 use desk_base::{Minute, NoMemory, PersonNo, VacNo, YEARS_BEGIN, YEARS_END};
 use desk_model::{
     Cmd, Entry, Offer, Opening, a_legal_history_fits, one_history_is_legal,
-    what_an_entry_makes_of_the_desk,
+    what_an_entry_makes_of_the_desk, what_is_done_rests_on,
 };
 use desk_register::Register;
 use desk_state::{Duty, Lists, NamedIndexes, Offers};
@@ -106,18 +106,17 @@ impl KeptDesk {
         ensures opening { self.new.opening ≡ self.old.opening }
     {
         what_an_entry_makes_of_the_desk();
+        what_is_done_rests_on();
         let mover = mover(entry);
-        let person = self.index_of(&mover);
-        let board = self.named_board(entry);
         let offered = self.offered_board(entry);
-        self.people.keep(entry, person);
-        self.offers.keep(entry, person, offered);
-        let ready = self.people.ready_of(person);
-        let named = NamedIndexes {
-            person,
-            board,
-            ready,
+        let mut named = NamedIndexes {
+            person: self.index_of(&mover),
+            board: self.named_board(entry),
+            ready: Minute::FIRST,
         };
+        self.people.keep(entry, named.person);
+        self.offers.keep(entry, named.person, offered);
+        named.ready = self.people.ready_of(named.person);
         self.lists.keep(entry, &named);
         self.last = entry.moment();
     }
@@ -129,7 +128,7 @@ impl KeptDesk {
     {
         a_legal_history_fits();
         let kept = self.offers.offer(vac)?;
-        let board = self.people.register.boards().code(usize::from(kept.board))?;
+        let board = self.people.register.boards().code(kept.board)?;
         let made = before(kept.deadline, self.opening.answer())?;
         Some(Offer {
             person: kept.person,

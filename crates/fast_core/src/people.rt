@@ -17,7 +17,7 @@ ghost use Rattle.desk_state.specs.Lists.{mover, ready_minute};
 use crate::candidate::Candidate;
 use desk_base::{Minute, Month, NoMemory, PersonNo, Window};
 use desk_model::Entry;
-use desk_register::{Register, who_is_enrolled_has_an_index};
+use desk_register::{PersonIndex, Register, who_is_enrolled_has_an_index};
 use desk_state::{Duty, NEVER};
 use duty_events::{Event, EventFault, Stage, allowed};
 use month_hours::{capped, used};
@@ -46,7 +46,9 @@ impl People {
         ensures { (h : History) → KeepsPeople self.now h → IsCandidateOf result h number }
     {
         who_is_enrolled_has_an_index();
-        let found = self.register.persons().find(number)?;
+        let Some(found) = self.register.persons().find(number) else {
+            return None;
+        };
         let clock = self.duty.clock(found.index)?;
         Some(Candidate {
             index: found.index,
@@ -56,7 +58,7 @@ impl People {
     }
 
     /// The clock of the person at this index among all; `None` for who has no index.
-    fn clock_at(&self, index: Option<usize>) -> Option<&PersonClock>
+    fn clock_at(&self, index: Option<PersonIndex>) -> Option<&PersonClock>
         ensures { (h : History) (p : ℕ) → KeepsPeople self.now h → index ≡ index_among (persons h) p
             → IsClockOf (option_copied result) h p }
     {
@@ -115,7 +117,7 @@ impl People {
 
     /// Keeps what the next entry of a legal history changes. `index` is that of the person among all whom it moves or of whom it
     /// tells an event.
-    pub(crate) fn keep(&mut self, entry: &Entry, index: Option<usize>)
+    pub(crate) fn keep(&mut self, entry: &Entry, index: Option<PersonIndex>)
         ensures { (h : History) → IsLegal h → IsNext h entry.now
             → ((p : ℕ) → said mover entry.now ≡ Some p → index ≡ index_among (persons h) p)
             → KeepsPeople self.old h → KeepsPeople self.new (with_entry h entry.now) }
@@ -125,7 +127,7 @@ impl People {
     }
 
     /// The minute from which the person at this index among all is ready, and from which anybody is who has no index.
-    pub(crate) fn ready_of(&self, index: Option<usize>) -> Minute
+    pub(crate) fn ready_of(&self, index: Option<PersonIndex>) -> Minute
         ensures { (h : History) (p : ℕ) → KeepsPeople self.now h → index ≡ index_among (persons h) p
             → result ≡ ready_minute h p }
     {

@@ -2,6 +2,7 @@
 use crate::commands::at;
 use desk_base::{Code, Minute, Month, PersonNo, Window};
 use desk_model::{Cmd, Entry, Reply, Stated};
+use desk_register::PersonIndex;
 use desk_state::Duty;
 use duty_events::{Event, Stage};
 use qualifications::{Craft, Quals};
@@ -25,7 +26,7 @@ fn entry_of(cmd: Option<Cmd>, reply: Reply) -> Option<Entry> {
 // The clocks keep this command, answered so, of the person at this place; whether there is such a command.
 fn keep(duty: &mut Duty, cmd: Option<Cmd>, reply: Reply, place: Option<usize>) -> Option<()> {
     let entry = entry_of(cmd, reply)?;
-    duty.keep(&entry, place);
+    duty.keep(&entry, place.and_then(|place| PersonIndex::new(place)));
     Some(())
 }
 
@@ -47,7 +48,7 @@ fn release(number: u32, time: &[u8], place: &[u8]) -> Option<Cmd> {
 type Seen = (Stage, Option<Minute>, Code);
 
 fn look(duty: &Duty, place: usize) -> Option<Seen> {
-    let clock = duty.clock(place)?;
+    let clock = duty.clock(PersonIndex::new(place)?)?;
     Some((clock.stage(), clock.last(), clock.place()))
 }
 

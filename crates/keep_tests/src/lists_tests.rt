@@ -1,6 +1,7 @@
 //! The boards of two persons, by a day worked by hand.
 use desk_base::{Code, Minute, PersonNo, VacNo};
 use desk_model::{Cmd, Entry, Reply, Stated};
+use desk_register::{BoardIndex, PersonIndex};
 use desk_state::{Lists, NEVER, NamedIndexes};
 use duty_events::Event;
 use std::test::Fail;
@@ -95,8 +96,8 @@ fn entry_of(cmd: Option<Cmd>, reply: Reply) -> Option<Entry> {
 fn keep(lists: &mut Lists, told: Told) -> Option<()> {
     let entry = entry_of(cmd_of(told.act, told.who, told.board), told.reply)?;
     let named = NamedIndexes {
-        person: Some(told.who),
-        board: Some(told.board),
+        person: PersonIndex::new(told.who),
+        board: BoardIndex::new(told.board),
         ready: Minute::new(told.ready)?,
     };
     lists.keep(&entry, &named);
@@ -113,6 +114,9 @@ struct Seen {
 }
 
 fn number_at(lists: &Lists, board: usize, place: u16) -> u32 {
+    let Some(board) = BoardIndex::new(board) else {
+        return 0;
+    };
     match lists.member_at(board, place) {
         Some(person) => person.number(),
         None => 0,
@@ -120,7 +124,7 @@ fn number_at(lists: &Lists, board: usize, place: u16) -> u32 {
 }
 
 fn ready_on_first(lists: &Lists, who: usize) -> Option<u64> {
-    let place = lists.position(person_at(who)?, 0)?;
+    let place = lists.position(person_at(who)?, BoardIndex::new(0)?)?;
     let slots = lists.boards().get(0)?.slots();
     Some(slots.at(slots.nth(u32::from(place))?)?.ready.number())
 }
@@ -130,7 +134,7 @@ fn look(lists: &Lists, who: usize) -> Seen {
     let two = [number_at(lists, 1, 1), number_at(lists, 1, 2)];
     Seen {
         members: [one, two],
-        count: lists.list_count(who),
+        count: PersonIndex::new(who).map_or(0, |who| lists.list_count(who)),
         ready: ready_on_first(lists, who),
     }
 }
@@ -182,9 +186,12 @@ fn first_wrong(lists: &mut Lists, rows: &[Row]) -> Result<Option<usize>, Fail> {
 fn two_persons_move_on_two_boards(rt: HostRuntime) -> Result<(), Fail> {
     let mut lists = Lists::new(rt.alloc())?;
     assert_eq!(rt; first_wrong(&mut lists, &DAY)?, None);
-    assert_eq!(rt; lists.member_count(0), 1);
-    assert_eq!(rt; lists.is_on(0, 0), false);
-    assert_eq!(rt; lists.is_on(0, 1), true);
+    let pool = BoardIndex::new(0).ok_or("no board")?;
+    let extra = BoardIndex::new(1).ok_or("no board")?;
+    let first = PersonIndex::new(0).ok_or("no person")?;
+    assert_eq!(rt; lists.member_count(pool), 1);
+    assert_eq!(rt; lists.is_on(first, pool), false);
+    assert_eq!(rt; lists.is_on(first, extra), true);
     let refused = Told {
         act: Act::Unlist,
         who: 1,
@@ -193,6 +200,6 @@ fn two_persons_move_on_two_boards(rt: HostRuntime) -> Result<(), Fail> {
         ready: 500,
     };
     keep(&mut lists, refused).ok_or("not stated")?;
-    assert_eq!(rt; lists.member_count(0), 1);
+    assert_eq!(rt; lists.member_count(pool), 1);
     Ok(())
 }

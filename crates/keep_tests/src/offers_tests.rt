@@ -2,6 +2,7 @@
 use crate::commands::{accept, annul, at, decline, next, of_person, of_vacancy, offered};
 use desk_base::Minute;
 use desk_model::{Cmd, Entry, Reply, Stated};
+use desk_register::{BoardIndex, PersonIndex};
 use desk_state::Offers;
 use offer_flight::InFlight;
 use std::test::Fail;
@@ -45,25 +46,36 @@ struct Step<'a> {
     held: Option<Minute>,
 }
 
-fn open(person: u32, board: u8, until: &[u8]) -> Option<InFlight> {
+fn open(person: u32, board: usize, until: &[u8]) -> Option<InFlight> {
     Some(InFlight {
         person: of_person(person)?,
         vac: of_vacancy(12)?,
-        board,
+        board: BoardIndex::new(board)?,
         deadline: at(until)?,
     })
 }
 
+fn person_at(place: Option<usize>) -> Option<PersonIndex> {
+    PersonIndex::new(place?)
+}
+
+fn board_at(place: Option<usize>) -> Option<BoardIndex> {
+    BoardIndex::new(place?)
+}
+
 fn is_seen(offers: &Offers, step: &Step) -> Option<bool> {
     let offer = offers.offer(of_vacancy(12)?);
-    Some(offer == step.offer && Some(offers.hold_end(1, 1)) == step.held)
+    Some(
+        offer == step.offer
+            && Some(offers.hold_end(PersonIndex::new(1)?, BoardIndex::new(1)?)) == step.held,
+    )
 }
 
 // The place of the first step, from 0, after which something else is seen; `None` where none is.
 fn first_wrong(offers: &mut Offers, steps: &[Step]) -> Result<Option<usize>, Fail> {
     for (i, step) in steps.iter().enumerate() {
         let entry = entry_of(step.cmd, step.time, step.reply).ok_or("not stated")?;
-        offers.keep(&entry, step.place, step.place);
+        offers.keep(&entry, person_at(step.place), board_at(step.place));
         if !is_seen(offers, step).ok_or("no numbers")? {
             return Ok(Some(i));
         }
@@ -92,7 +104,7 @@ fn closed<'a>(
 fn offers_seven<'a>(
     cmd: Option<Cmd>,
     time: &'a [u8],
-    board: u8,
+    board: usize,
     until: &[u8],
     held: Option<Minute>,
 ) -> Step<'a> {
@@ -100,7 +112,7 @@ fn offers_seven<'a>(
         cmd,
         time,
         reply: offered(7),
-        place: Some(usize::from(board)),
+        place: Some(board),
         offer: open(7, board, until),
         held,
     }
@@ -160,7 +172,7 @@ fn a_thousand_persons_have_offers(rt: HostRuntime) -> Result<(), Fail> {
     let mut offers = Offers::new(rt.alloc(), 60)?;
     for vac in 1..=1_001 {
         let entry = entry_of(next(vac), b"12:00", offered(1_002 - vac)).ok_or("no offer")?;
-        offers.keep(&entry, None, Some(vac as usize % 64));
+        offers.keep(&entry, None, BoardIndex::new(vac as usize % 64));
     }
     for vac in 1..=1_001 {
         let vacancy = of_vacancy(vac).ok_or("no number")?;
@@ -174,15 +186,15 @@ fn a_thousand_persons_have_offers(rt: HostRuntime) -> Result<(), Fail> {
         let entry = entry_of(decline(vac, 1_002 - vac), b"12:30", Some(Reply::Done)).ok_or(
             "no decline",
         )?;
-        offers.keep(&entry, Some(vac as usize - 1), None);
+        offers.keep(&entry, PersonIndex::new(vac as usize - 1), None);
         assert!(rt; offers.offer(vacancy).is_none());
     }
     for person in 0..1_000_usize {
-        assert_eq!(rt;
-            Some(offers.hold_end(person, (person + 1) % 64)),
-            at(b"20:30")
-        );
-        assert_eq!(rt; offers.hold_end(person, person % 64), Minute::FIRST);
+        let index = PersonIndex::new(person).ok_or("no person")?;
+        let next = BoardIndex::new((person + 1) % 64).ok_or("no board")?;
+        let other = BoardIndex::new(person % 64).ok_or("no board")?;
+        assert_eq!(rt; Some(offers.hold_end(index, next)), at(b"20:30"));
+        assert_eq!(rt; offers.hold_end(index, other), Minute::FIRST);
     }
     Ok(())
 }

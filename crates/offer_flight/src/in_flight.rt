@@ -1,4 +1,5 @@
 use desk_base::{Minute, PersonNo, VacNo};
+use desk_register::BoardIndex;
 
 /// An offer that is open.
 #[derive(Clone, Copy, Debug, PartialEq, Eq)]
@@ -7,8 +8,8 @@ pub struct InFlight {
     pub person: PersonNo,
     /// Of which vacancy.
     pub vac: VacNo,
-    /// On which board the person stood, by its index.
-    pub board: u8,
+    /// On which board the person stood.
+    pub board: BoardIndex,
     /// From which minute on it counts as not answered.
     pub deadline: Minute,
 }

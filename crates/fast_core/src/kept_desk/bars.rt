@@ -18,6 +18,7 @@ use crate::job_asked::JobAsked;
 use denial_rules::{Bar, first_bar, the_law_comes_last};
 use desk_base::{Code, Minute, PersonNo};
 use desk_model::{Chain, Edition, Job, a_hold_is_by_boards};
+use desk_register::PersonIndex;
 use month_hours::{Plan, PlanMonths};
 
 // What the months have of a job's plan.
@@ -93,7 +94,7 @@ impl KeptDesk {
     }
 
     // Until when the person is held by this board alone; the first minute of all where they aren't.
-    fn hold_by(&self, board: &Code, person: usize) -> Minute
+    fn hold_by(&self, board: &Code, person: PersonIndex) -> Minute
         ensures { (h : History) (p : ℕ) → Tells self.now h → index_among (persons h) p ≡ Some person
             → result ≡ hold_end h (board.now ∷ []) p }
     {
@@ -104,7 +105,7 @@ impl KeptDesk {
     }
 
     // Until when the person is held by a chain's boards.
-    fn hold_end(&self, boards: &Chain, person: usize) -> Minute
+    fn hold_end(&self, boards: &Chain, person: PersonIndex) -> Minute
         ensures { (h : History) (p : ℕ) → Tells self.now h → index_among (persons h) p ≡ Some person
             → result ≡ hold_end h boards.now p }
     {
@@ -117,7 +118,7 @@ impl KeptDesk {
     }
 
     /// Until when the person at this index among all is held from vacancies of this chain, at this moment; `None` where they aren't.
-    pub(crate) fn held(&self, moment: Minute, boards: &Chain, person: usize) -> Option<Minute>
+    pub(crate) fn held(&self, moment: Minute, boards: &Chain, person: PersonIndex) -> Option<Minute>
         ensures { (h : History) (p : ℕ) → Tells self.now h → index_among (persons h) p ≡ Some person
             → result ≡ held h moment boards.now p }
     {

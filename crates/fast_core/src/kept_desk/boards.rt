@@ -15,21 +15,20 @@ ghost use Rattle.desk_state.specs.Lists.{mover_board};
 use crate::kept_desk::KeptDesk;
 use desk_base::{Code, PersonNo};
 use desk_model::{Cmd, Entry, Reply, who_is_on_a_board_is_listed};
-use desk_register::who_is_enrolled_has_an_index;
+use desk_register::{BoardIndex, PersonIndex, who_is_enrolled_has_an_index};
 use desk_state::with_board;
 
 impl KeptDesk {
     /// The index of a person among all; `None` where nobody has the number.
-    pub(crate) fn person_index(&self, person: PersonNo) -> Option<usize>
+    pub(crate) fn person_index(&self, person: PersonNo) -> Option<PersonIndex>
         ensures { (h : History) → Tells self.now h → result ≡ index_among (persons h) person }
     {
         self.people.register.persons().index(person)
     }
 
     /// The index of a board among all, below 64; `None` where the code is no board.
-    pub(crate) fn board_index(&self, board: &Code) -> Option<usize>
-        ensures index { (h : History) → Tells self.now h → result ≡ board_index (boards h) board.now }
-        ensures range { IfSome result (λ i. i < BOARD_LIMIT) }
+    pub(crate) fn board_index(&self, board: &Code) -> Option<BoardIndex>
+        ensures { (h : History) → Tells self.now h → result ≡ board_index (boards h) board.now }
     {
         self.people.register.boards().index(board)
     }
@@ -97,7 +96,7 @@ impl KeptDesk {
     }
 
     /// The index of this person among all; `None` where there is none such.
-    pub(crate) fn index_of(&self, person: &Option<PersonNo>) -> Option<usize>
+    pub(crate) fn index_of(&self, person: &Option<PersonNo>) -> Option<PersonIndex>
         ensures { (h : History) (p : ℕ) → Tells self.now h → person.now ≡ Some p → result ≡ index_among (persons h) p }
     {
         match person {
@@ -108,18 +107,18 @@ impl KeptDesk {
 
     /// The index of the board that an accepted command names, or that the offer was made from which it declines, or that the board
     /// gets which it sets up.
-    pub(crate) fn named_board(&self, entry: &Entry) -> Option<usize>
+    pub(crate) fn named_board(&self, entry: &Entry) -> Option<BoardIndex>
         ensures named { (h : History) (b : List ℕ) → Tells self.now h → said (mover_board h) entry.now ≡ Some b
             → result ≡ board_index (boards h) b }
         ensures set_up { (h : History) (b : List ℕ) → Tells self.now h → said sets_up_any entry.now ≡ Some b
-            → result ≡ Some (length (boards h)) }
+            → length (boards h) < BOARD_LIMIT → result ≡ Some (length (boards h)) }
     {
         let cmd = entry.accepted()?;
         match cmd {
             Cmd::List { board, .. } | Cmd::Unlist { board, .. } => self.board_index(board),
-            Cmd::Board { .. } => Some(self.people.register.boards().count()),
+            Cmd::Board { .. } => BoardIndex::new(self.people.register.boards().count()),
             Cmd::Decline { vac, .. } => match self.offers.offer(*vac) {
-                Some(offer) => Some(usize::from(offer.board)),
+                Some(offer) => Some(offer.board),
                 None => None,
             },
             _ => None,
@@ -127,7 +126,7 @@ impl KeptDesk {
     }
 
     /// The index of the board which the entry's offer is made from.
-    pub(crate) fn offered_board(&self, entry: &Entry) -> Option<usize>
+    pub(crate) fn offered_board(&self, entry: &Entry) -> Option<BoardIndex>
         ensures { (h : History) (b : List ℕ) → Tells self.now h → offered_from entry.now ≡ Some b
             → result ≡ board_index (boards h) b }
     {

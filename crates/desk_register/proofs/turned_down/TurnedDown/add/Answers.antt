@@ -12,4 +12,4 @@ returns c i j =
     let within = c.reach.ensures.reached in
     ap (λ w. turned_in (slice_set words (bit / 64) (with_bit w (bit % 64))) i j) (c.index-word.ensures ∙ get_or_default words (bit / 64) _ 0 within)
     ∙ ap (λ b. turned_in (slice_set words (b / 64) (with_bit (slice_index_or words (b / 64) 0) (b % 64))) i j) is
-    ∙ turned-inserted words c.args.self.now.words.items c.args.person c.args.vacancy c.requires.vacancy (subst (λ b. b / 64 < length words) is within) c.reach.ensures.same i j
+    ∙ turned-inserted words c.args.self.now.words.items c.args.person c.args.vacancy c.bit_of-bit.ensures.few (subst (λ b. b / 64 < length words) is within) c.reach.ensures.same i j

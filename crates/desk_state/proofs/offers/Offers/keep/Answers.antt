@@ -4,7 +4,7 @@ use Rattle.desk_state.specs.Holds.{end_at}
 use Rattle.desk_state.proofs.HearLemmas.{settled-none, no-offer, made-to_person}
 use Rattle.desk_state.proofs.HoldLemmas.{holds-stay}
 use Rattle.desk_state.proofs.FlightLemmas.{offers-stay}
-use Rattle.desk_state.proofs.OfferKeepLemmas.{few-stay, from-indexed, from-few, offers-started}
+use Rattle.desk_state.proofs.OfferKeepLemmas.{few-stay, from-indexed, offers-started}
 use Rattle.desk_state.proofs.offers.Offers.keep.Goals as goal
 
 pub returns-in-Some : goal.returns-in-Some
@@ -44,13 +44,6 @@ returns-in_default-board c h legal next index from kept =
     let may = c.what_is_done_rests_on.ensures.offered h e c.in-Some-asked.vac made.offer.person made.position made.offer.board legal next (sym c.asked.ensures ∙ c.in-Some-asked.is) made.reply_is in
     absurd (false≢true (sym (ap is_some c.in_default-board.is)
     ∙ from-indexed h e c.in-Some-asked.vac c.in-Some-offered_person.person c.args.board made may (c.who_is_enrolled_has_an_index.ensures.boards h) from))
-
-pub returns-then-board-ge-BOARD_LIMIT : goal.returns-then-board-ge-BOARD_LIMIT
-returns-then-board-ge-BOARD_LIMIT c h legal next index from kept =
-    let e = c.args.entry.now in
-    let made = made-to_person e c.in-Some-offered_person.person (sym c.offered_person.ensures ∙ c.in-Some-offered_person.is) in
-    let low = from-few h e c.in-Some-offered_person.person c.in-Some-board.board made (λ b told. sym c.in-Some-board.is ∙ from b told) kept.few in
-    absurd (omega (arith, low, c.if-board-ge-BOARD_LIMIT.true))
 
 pub returns : goal.returns
 returns c h legal next index from kept =

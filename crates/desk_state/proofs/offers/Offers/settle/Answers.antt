@@ -1,4 +1,4 @@
-use Rattle.std.proofs.Common.{sym, ◌∙◌, subst}
+use Rattle.std.proofs.Common.{refl, sym, ◌∙◌, subst}
 use Rattle.desk_model.specs.histories.History.{with_entry}
 use Rattle.desk_state.specs.OpenOffers.{AreOffers}
 use Rattle.desk_state.specs.Holds.{end_at}
@@ -52,9 +52,9 @@ returns c h legal next settled index kept =
     record {
       offers = offers-ended h e x.flight c.finish.new.self x.answer c.args.vac c.in-Some.done comes (λ p. c.what_an_entry_makes_of_the_desk.ensures.on_offer h e p legal next) settled
           c.no_person_stands_twice.ensures.one_map c.in-Some.ensures.value c.in-Some.ensures.vacancies c.in-Some.ensures.persons kept.offers;
-      holds = declined-held h e (end_at x.holds) (end_at c.hold.new.self) x.flight x.answer c.args.vac c.in-Some-decliner.field-0 c.in-Some-person.index c.from.result c.later-until.result c.in-Some.done
+      holds = declined-held h e (end_at x.holds) (end_at c.hold.new.self) x.flight x.answer c.args.vac c.in-Some-decliner.field-0 c.in-Some-person.index c.in-Some.done.board c.later-until.result c.in-Some.done
           comes legal (c.each_moment_lies_in_the_window.ensures h e legal next) rests settled told c.in-Some.ensures.value (sym c.in-Some-person.is ∙ index c.in-Some-decliner.field-0 told)
-          c.from.ensures (rw c.moment.ensures at c.later-until.ensures) c.hold.ensures.held kept.offers kept.few kept.holds;
+          refl (rw c.moment.ensures at c.later-until.ensures) c.hold.ensures kept.offers kept.few kept.holds;
       answer = kept.answer;
       few = few-stay h e comes rests kept.few;
     }

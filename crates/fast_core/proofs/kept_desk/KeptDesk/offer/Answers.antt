@@ -13,8 +13,8 @@ returns-clause-answer c h tells =
     let answer = c.answer.ensures.value ∙ ap (λ o. o.answer) tells.opening in
     offer-is h c.args.vac h.opening.answer c.in_ok-kept.kept c.in_ok-board.board.now c.before-2.result c.in_ok-made.made (c.a_legal_history_fits.ensures h tells.legal)
     (subst (λ k. IsOffer (boards h) h.opening.answer k (open_offer h c.args.vac)) c.in_ok-kept.was (c.offer.ensures h tells.offers))
-    (sym (ap option_copied c.in_ok-board.was) ∙ c.code.ensures ∙ ap (λ bs. slice_get (board_codes bs) c.from.result) c.boards.ensures
-    ∙ ap (λ cs. slice_get cs c.from.result) tells.people.register.boards.order ∙ ap (slice_get (boards h)) c.from.ensures)
+    (sym (ap option_copied c.in_ok-board.was) ∙ c.code.ensures ∙ ap (λ bs. slice_get (board_codes bs) c.in_ok-kept.kept.board) c.boards.ensures
+    ∙ ap (λ cs. slice_get cs c.in_ok-kept.kept.board) tells.people.register.boards.order)
     (λ made years is. c.before-2.ensures.is made years (is ∙ ap (λ n. made + n) (sym answer)))
     c.in_ok-made.was
 

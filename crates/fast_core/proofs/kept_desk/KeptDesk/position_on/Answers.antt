@@ -20,10 +20,10 @@ pub returns-in_default-board_index : goal.returns-in_default-board_index
 returns-in_default-board_index c h tells =
     off h c.args.person c.args.board.now (c.order_is_by_rank.ensures.by_rank h c.args.board.now)
     (off-nowhere h c.args.person c.args.board.now (c.who_is_on_a_board_is_listed.ensures.listed h tells.legal) (c.who_is_enrolled_has_an_index.ensures.boards h)
-    (sym (c.board_index.ensures.index h tells) ∙ c.in_default-board_index.is))
+    (sym (c.board_index.ensures h tells) ∙ c.in_default-board_index.is))
 
 pub returns-then-not-is_on : goal.returns-then-not-is_on
 returns-then-not-is_on c h tells =
     off h c.args.person c.args.board.now (c.order_is_by_rank.ensures.by_rank h c.args.board.now)
     (sym c.if-not-is_on.true
-    ∙ c.is_on.ensures h c.args.person c.args.board.now tells.lists (sym (c.person_index.ensures h tells) ∙ c.in-Some.is) (sym (c.board_index.ensures.index h tells) ∙ c.in-Some-board_index.is))
+    ∙ c.is_on.ensures h c.args.person c.args.board.now tells.lists (sym (c.person_index.ensures h tells) ∙ c.in-Some.is) (sym (c.board_index.ensures h tells) ∙ c.in-Some-board_index.is))

@@ -9,12 +9,12 @@ use Rattle.fast_core.proofs.people.People.candidate.Goals as goal
 pub returns : goal.returns
 returns c h keeps =
     let p = c.args.number in
-    let found = c.in_ok-found.found in
+    let found = c.in-Some.found in
     let index : index_among (persons h) p ≡ Some found.index =
-    sym (c.in_ok-found.ensures.index ∙ ap (λ r. index_among (person_numbers r) p) c.persons.ensures ∙ ap (λ ns. index_among ns p) keeps.register.persons.order) in
+    sym (c.in-Some.ensures.index ∙ ap (λ r. index_among (person_numbers r) p) c.persons.ensures ∙ ap (λ ns. index_among ns p) keeps.register.persons.order) in
     let clock = keeps.clocks.each p found.index index in
     record {
       index = index;
-      kept = subst (λ k. IsPerson k h p) (sym (c.in_ok-found.ensures.kept ∙ ap (λ r. person_under r p) c.persons.ensures)) (keeps.register.persons.each p);
+      kept = subst (λ k. IsPerson k h p) (sym (c.in-Some.ensures.kept ∙ ap (λ r. person_under r p) c.persons.ensures)) (keeps.register.persons.each p);
       clock = subst (λ x. IsClock x h p) (same_Some _ _ (sym clock.1.0 ∙ sym c.in_ok-clock.ensures)) clock.1.1;
     }
