@@ -1,21 +1,14 @@
 //! Boards against lists that are changed by hand.
 ghost use Rattle.std.specs.Prelude.{◌≡◌, ◌<◌, ◌≤◌, IfSome, length, vec_len};
 
-use desk_base::{Code, Minute, PersonNo, IndexHints};
+use crate::given::{Draws, minute, person};
+use desk_base::{Code, Minute, IndexHints};
 use pool_board::{Board, MOST_MEMBERS};
 use slot_tree::Steps;
 use std::alloc::Global;
 use std::marker::Brand;
 use std::sync::ledger::{Blank, Ledger};
 use std::test::Fail;
-
-fn person(number: u32) -> Result<PersonNo, Fail> {
-    Ok(PersonNo::new(number).ok_or("no person")?)
-}
-
-fn minute(number: u64) -> Result<Minute, Fail> {
-    Ok(Minute::new(number).ok_or("no minute")?)
-}
 
 // A board with its hints.
 #[derive(Drop)]
@@ -187,17 +180,6 @@ fn a_board_starts_again(rt: HostRuntime) -> Result<(), Fail> {
     Ok(())
 }
 
-// The next of numbers in no plain order, below one.
-fn drawn(seed: &mut u64, below: u32) -> u32
-    requires { 0 < below }
-    ensures { result < below }
-{
-    *seed = seed
-        .wrapping_mul(6_364_136_223_846_793_005)
-        .wrapping_add(1_442_695_040_888_963_407);
-    (*seed >> 33) as u32 % below
-}
-
 // Where a person stands in the list, from 0.
 fn index_of(order: &[(u32, u64)], number: u32) -> Option<usize>
     ensures { IfSome result (λ index. index < length order.now) }
@@ -210,26 +192,26 @@ fn index_of(order: &[(u32, u64)], number: u32) -> Option<usize>
     None
 }
 
-fn drawn_act(seed: &mut u64) -> Act {
-    match drawn(seed, 8) {
+fn drawn_act(draws: &mut Draws) -> Act {
+    match draws.below(8) {
         0 => Act::Unlist,
-        1 | 2 => Act::Ready(u64::from(drawn(seed, 100))),
-        3 | 4 => Act::ToBottomReady(u64::from(drawn(seed, 100))),
+        1 | 2 => Act::Ready(u64::from(draws.below(100))),
+        3 | 4 => Act::ToBottomReady(u64::from(draws.below(100))),
         _ => Act::ToBottom,
     }
 }
 
 // One change of the board, and of the list that it should stand for.
-fn change(board: &mut Kept, order: &mut Vec<(u32, u64)>, seed: &mut u64) -> Result<(), Fail> {
-    let number = 1 + drawn(seed, 30);
+fn change(board: &mut Kept, order: &mut Vec<(u32, u64)>, draws: &mut Draws) -> Result<(), Fail> {
+    let number = 1 + draws.below(30);
     match index_of(order, number) {
         None => {
-            let ready = u64::from(drawn(seed, 100));
+            let ready = u64::from(draws.below(100));
             list(board, number, ready)?;
             order.push((number, ready))?;
         }
         Some(index) => {
-            let drawn = drawn_act(seed);
+            let drawn = drawn_act(draws);
             act_on_board(board, number, drawn)?;
             act_on_list(order, index, drawn);
         }
@@ -253,12 +235,12 @@ fn scanned(order: &[(u32, u64)], from: u16, m: u64) -> Option<u16> {
 fn changes_as_a_list(rt: HostRuntime) -> Result<(), Fail> {
     let mut pool = board(rt.alloc())?;
     let mut order = Vec::new(rt.alloc());
-    let mut seed = 11;
+    let mut draws = Draws { state: 11 };
     for _ in 0..4_000 {
-        change(&mut pool, &mut order, &mut seed)?;
+        change(&mut pool, &mut order, &mut draws)?;
         assert!(rt; stands_as(&pool.board, &order));
-        let from = 1 + drawn(&mut seed, 32) as u16;
-        let m = u64::from(drawn(&mut seed, 100));
+        let from = 1 + draws.below(32) as u16;
+        let m = u64::from(draws.below(100));
         assert_eq!(rt;
             ready_from(&pool.board, from, minute(m)?),
             scanned(&order, from, m)

@@ -2,6 +2,7 @@
 ghost use Rattle.std.specs.Prelude.{◌≡◌, ◌<◌, ◌≤◌, length};
 ghost use Rattle.std.specs.List.{All};
 
+use crate::given::{minute, person};
 use denial_rules::Bar;
 use desk_base::{Code, Minute, PersonNo, IndexHints};
 use pool_board::Board;
@@ -49,9 +50,7 @@ fn board(alloc: Global, members: &[(u32, u64)], m: Minute) -> Result<Board, Fail
     let mut board = Board::new(alloc, 0, place, false)?;
     let mut hints = Board::hints(alloc)?;
     for (number, ready) in members {
-        let person = PersonNo::new(*number).ok_or("no person")?;
-        let ready = Minute::new(*ready).ok_or("no minute")?;
-        put(&mut board, &mut hints, person, ready, m);
+        put(&mut board, &mut hints, person(*number)?, minute(*ready)?, m);
     }
     Ok(board)
 }
@@ -73,7 +72,7 @@ fn found(
     pool: &[(u32, u64)],
     extra: &[(u32, u64)],
 ) -> Result<Option<(u8, u32, u16)>, Fail> {
-    let m = Minute::new(100).ok_or("no minute")?;
+    let m = minute(100)?;
     let boards = [board(alloc, pool, m)?, board(alloc, extra, m)?];
     match first_of::<Brand>(Blank::new(1), &boards, &[0, 1], m) {
         Some(found) => Ok(Some((found.link, found.person.number(), found.position))),

@@ -1,4 +1,5 @@
 //! Open offers beside a plain list of them, by operations that are drawn, and up to the last for which there is room.
+use crate::given::Draws;
 use desk_base::{Minute, PersonNo, VacNo};
 use desk_register::BoardIndex;
 use offer_flight::{Flight, InFlight, OFFERS};
@@ -25,28 +26,12 @@ fn start(flight: &mut Flight, made: &InFlight) -> bool {
     true
 }
 
-// Numbers that are drawn, the same in each run.
-#[derive(Drop)]
-struct Draws {
-    state: u64,
-}
-
-impl Draws {
-    fn below(&mut self, limit: u32) -> u32 {
-        self.state = self
-            .state
-            .wrapping_mul(6_364_136_223_846_793_005)
-            .wrapping_add(1_442_695_040_888_963_407);
-        ((self.state >> 33) % u64::from(limit.max(1))) as u32
-    }
-
-    // An offer of one of 60 vacancies to one of 40 persons.
-    fn offer(&mut self) -> Option<InFlight> {
-        let person = self.below(40).saturating_add(1);
-        let vac = self.below(60).saturating_add(1);
-        let board = if person < vac { 1 } else { 2 };
-        offer(person, vac, board)
-    }
+// An offer of one of 60 vacancies to one of 40 persons.
+fn drawn_offer(draws: &mut Draws) -> Option<InFlight> {
+    let person = draws.below(40).saturating_add(1);
+    let vac = draws.below(60).saturating_add(1);
+    let board = if person < vac { 1 } else { 2 };
+    offer(person, vac, board)
 }
 
 #[test]
@@ -56,7 +41,7 @@ fn offers_that_are_drawn(rt: HostRuntime) -> Result<(), Fail> {
     let mut plain: Vec<InFlight> = Vec::new(rt.alloc());
     let mut most = 0;
     for _ in 0..4_000 {
-        let made = draws.offer().ok_or("no offer")?;
+        let made = drawn_offer(&mut draws).ok_or("no offer")?;
         let of_vacancy = plain.iter().find(|one| one.vac == made.vac).copied();
         if draws.below(5) < 3 {
             let idle = !plain.iter().any(|one| one.person == made.person);
@@ -69,7 +54,7 @@ fn offers_that_are_drawn(rt: HostRuntime) -> Result<(), Fail> {
             assert_eq!(rt; flight.finish(made.vac), of_vacancy);
         }
         most = plain.len().max(most);
-        let asked = draws.offer().ok_or("no offer")?;
+        let asked = drawn_offer(&mut draws).ok_or("no offer")?;
         let of_vacancy = plain.iter().find(|one| one.vac == asked.vac).copied();
         let of_person = plain.iter().find(|one| one.person == asked.person).copied();
         assert_eq!(rt; flight.of_vacancy(asked.vac), of_vacancy);

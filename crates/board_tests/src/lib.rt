@@ -9,4 +9,6 @@ mod fill_tests;
 #[cfg(test)]
 mod flight_tests;
 #[cfg(test)]
+mod given;
+#[cfg(test)]
 mod tree_tests;

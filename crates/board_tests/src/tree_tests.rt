@@ -1,20 +1,13 @@
 //! Trees of slots against lists of slots that are read from the first on.
 ghost use Rattle.std.specs.Prelude.{◌≡◌, ◌<◌};
 
-use desk_base::{Minute, PersonNo};
+use crate::given::{Draws, minute, person};
+use desk_base::Minute;
 use slot_tree::{Slot, SlotTree, Steps};
 use std::alloc::Global;
 use std::marker::Brand;
 use std::sync::ledger::{Blank, Ledger};
 use std::test::Fail;
-
-fn person(number: u32) -> Result<PersonNo, Fail> {
-    Ok(PersonNo::new(number).ok_or("no person")?)
-}
-
-fn minute(number: u64) -> Result<Minute, Fail> {
-    Ok(Minute::new(number).ok_or("no minute")?)
-}
 
 // The first slot that is ready, with a count of steps of its own.
 fn first_of<L: Ledger>(blank: Blank, tree: &SlotTree, from: u32, m: Minute) -> Option<u32>
@@ -110,17 +103,6 @@ fn what_is_empty_moves_behind(rt: HostRuntime) -> Result<(), Fail> {
     Ok(())
 }
 
-// The next of numbers in no plain order, below one.
-fn drawn(seed: &mut u64, below: u32) -> u32
-    requires { 0 < below }
-    ensures { result < below }
-{
-    *seed = seed
-        .wrapping_mul(6_364_136_223_846_793_005)
-        .wrapping_add(1_442_695_040_888_963_407);
-    (*seed >> 33) as u32 % below
-}
-
 // The first slot that is ready, read slot by slot.
 fn scanned(tree: &SlotTree, many: u32, from: u32, m: u64) -> Option<u32> {
     for slot in from..many {
@@ -134,13 +116,13 @@ fn scanned(tree: &SlotTree, many: u32, from: u32, m: u64) -> Option<u32> {
 }
 
 // Fills a slot with someone, and the same at the list's end.
-fn put_in(tree: &mut SlotTree, list: &mut Vec<(u32, u64)>, seed: &mut u64) -> Result<(), Fail> {
+fn put_in(tree: &mut SlotTree, list: &mut Vec<(u32, u64)>, draws: &mut Draws) -> Result<(), Fail> {
     if tree.free() == 0 {
         tree.compact();
     }
     if tree.free() > 0 {
-        let number = 1 + drawn(seed, 1_000);
-        let ready = u64::from(drawn(seed, 1_000));
+        let number = 1 + draws.below(1_000);
+        let ready = u64::from(draws.below(1_000));
         append(tree, number, ready)?;
         list.push((number, ready))?;
     }
@@ -152,14 +134,14 @@ fn change(
     tree: &mut SlotTree,
     list: &mut Vec<(u32, u64)>,
     index: usize,
-    seed: &mut u64,
+    draws: &mut Draws,
 ) -> Result<(), Fail> {
     let Some(kept) = list.get_mut(index) else {
         return Ok(());
     };
     let slot = u32::try_from(index).unwrap_or(0).saturating_add(1);
     let slot = tree.nth(slot).ok_or("no such slot")?;
-    let ready = u64::from(drawn(seed, 1_000));
+    let ready = u64::from(draws.below(1_000));
     if ready < 500 {
         set(tree, slot, ready)?;
         kept.1 = ready;
@@ -174,15 +156,15 @@ fn change(
 fn searches_as_a_scan(rt: HostRuntime) -> Result<(), Fail> {
     let mut slots = tree(rt.alloc(), 5)?;
     let mut list = Vec::new(rt.alloc());
-    let mut seed = 5;
+    let mut draws = Draws { state: 5 };
     for _ in 0..1_000 {
-        put_in(&mut slots, &mut list, &mut seed)?;
-        put_in(&mut slots, &mut list, &mut seed)?;
-        let index = drawn(&mut seed, 40) as usize;
-        change(&mut slots, &mut list, index, &mut seed)?;
+        put_in(&mut slots, &mut list, &mut draws)?;
+        put_in(&mut slots, &mut list, &mut draws)?;
+        let index = draws.below(40) as usize;
+        change(&mut slots, &mut list, index, &mut draws)?;
         stands_for(&slots, &list)?;
-        let from = drawn(&mut seed, 33);
-        let m = u64::from(drawn(&mut seed, 1_000));
+        let from = draws.below(33);
+        let m = u64::from(draws.below(1_000));
         assert!(rt; first(&slots, from, minute(m)?) == scanned(&slots, 32, from, m));
     }
     Ok(())

@@ -12,7 +12,6 @@ use Rattle.duty_events.specs.declared.kind.Kind.{Kind}
 use Rattle.duty_events.specs.declared.kind.Kind.TheVariants as kind
 use Rattle.duty_events.specs.declared.event.Event.{Event}
 use Rattle.duty_events.specs.declared.event.Event.TheVariants as event
-use Rattle.desk_base.specs.Minute.{minute_text}
 use Rattle.desk_base.specs.Parts.{parts_by}
 use Rattle.desk_base.proofs.TextLemmas.{month_text_spells}
 use Rattle.qualifications.specs.declared.craft.Craft.{Craft}

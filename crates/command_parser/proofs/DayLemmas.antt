@@ -5,9 +5,9 @@ use Rattle.std.specs.Prelude.{IfOk, IfErr, Result, Ok, Err, ◌≢◌, ◌⊎◌
 use Rattle.std.specs.Result.{IsOkUnless}
 use Rattle.command_parser.specs.declared.day_file.DayFile.{DayFile}
 use Rattle.std.proofs.lemmas.Bool.{false≢true}
-use Rattle.std.proofs.lemmas.List.{map-append, length-map, get_or-map, get_or_append_left}
+use Rattle.std.proofs.lemmas.List.{length-map, get_or-map, get_or_append_left}
 use Rattle.std.proofs.Math.Seq.{get_or-append_seam}
-use Rattle.std.proofs.lemmas.List.Elements.{All-append, All-cons, All-nil, All-head, All-tail}
+use Rattle.std.proofs.lemmas.List.Elements.{All-head, All-tail}
 use Rattle.std.specs.List.{All}
 use Rattle.desk_model.specs.statements.Opening.{OpeningValue}
 use Rattle.desk_model.specs.declared.command.Cmd.TheVariants as cmd
@@ -18,7 +18,6 @@ use Rattle.record_rows.specs.declared.rows.Rows.{Rows}
 use Rattle.record_rows.specs.Rows.{HasLeft, records_of}
 use Rattle.command_parser.specs.declared.wrong_field.WrongField.{WrongField}
 use Rattle.command_parser.specs.DayCommands.{StatesOrWrong}
-use Rattle.command_parser.specs.RecordForms.{IsWrongAt}
 use Rattle.command_parser.specs.Spelled.{StatesCommand}
 use Rattle.command_parser.specs.OpeningRecord.{StatesOpening}
 use Rattle.command_parser.specs.declared.limits.TheConstants.{RECORD_LIMIT}

@@ -8,4 +8,3 @@ pub mod OpeningLemmas
 pub mod DayLemmas
 pub mod LineReadLemmas
 pub mod MoreLemmas
-pub mod WordLemmas

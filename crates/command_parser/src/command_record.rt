@@ -6,15 +6,10 @@ ghost use Rattle.command_parser.specs.Spelled.{SpellsCommand, StatesCommand};
 ghost use Rattle.command_parser.specs.RecordForms.{IsWrongAt};
 
 use crate::first_wrong::wrong_field;
-use crate::spelled_command::{
-    read_annul, read_at, read_board, read_next, read_vac_state, read_vacancy,
-};
-use crate::spelled_offer::{
-    read_accept, read_decline, read_explain, read_no_answer, read_offer, read_withdraw,
-};
+use crate::spelled_command::{read_about_vac, read_at, read_board, read_vacancy};
+use crate::spelled_offer::read_about_offer;
 use crate::spelled_person::{
-    read_drop, read_enrol, read_happened, read_hours, read_list, read_off, read_on, read_past,
-    read_qualify, read_unlist,
+    read_about_event, read_about_person, read_enrol, read_hours, read_listing, read_qualify,
 };
 use crate::word::Word;
 use desk_model::{Cmd, Stated};
@@ -83,30 +78,25 @@ fn read_cmd(fields: &[&[u8]]) -> Option<Cmd>
     let [word, about @ ..] = fields else {
         return None;
     };
-    match Word::read(word)? {
+    let word = Word::read(word)?;
+    match word {
         Word::Enrol => read_enrol(about),
         Word::Board => read_board(about),
-        Word::List => read_list(about),
-        Word::Unlist => read_unlist(about),
-        Word::Off => read_off(about),
-        Word::On => read_on(about),
+        Word::List | Word::Unlist => read_listing(word, about),
+        Word::Off | Word::On | Word::Drop => read_about_person(word, about),
         Word::Qualify => read_qualify(about),
-        Word::Past => read_past(about),
-        Word::Event => read_happened(about),
+        Word::Past | Word::Event => read_about_event(word, about),
         Word::Vacancy => read_vacancy(about, false),
         Word::Relief => read_vacancy(about, true),
-        Word::Next => read_next(about),
-        Word::Offer => read_offer(about),
-        Word::Accept => read_accept(about),
-        Word::Decline => read_decline(about),
-        Word::NoAnswer => read_no_answer(about),
-        Word::Withdraw => read_withdraw(about),
-        Word::Annul => read_annul(about),
-        Word::Drop => read_drop(about),
+        Word::Next | Word::Annul | Word::Vac => read_about_vac(word, about),
+        Word::Offer
+        | Word::Accept
+        | Word::Decline
+        | Word::NoAnswer
+        | Word::Withdraw
+        | Word::Explain => read_about_offer(word, about),
         Word::Hours => read_hours(about),
         Word::At => read_at(about),
-        Word::Explain => read_explain(about),
-        Word::Vac => read_vac_state(about),
     }
 }
 

@@ -12,233 +12,53 @@ pub(crate) fn record_rows() -> &'static [&'static [FieldForm]]
     &RECORD_FORMS
 }
 
-const RECORD_FORMS: [&[FieldForm]; 37] = [
-    &[
-        FieldForm::Minute,
-        FieldForm::Word(Word::Enrol),
-        FieldForm::Number,
-        FieldForm::Craft,
-        FieldForm::Code,
-        FieldForm::Quals,
-    ],
-    &[
-        FieldForm::Minute,
-        FieldForm::Word(Word::Board),
-        FieldForm::Code,
-        FieldForm::Sort,
-        FieldForm::Code,
-    ],
-    &[
-        FieldForm::Minute,
-        FieldForm::Word(Word::List),
-        FieldForm::Number,
-        FieldForm::Code,
-    ],
-    &[
-        FieldForm::Minute,
-        FieldForm::Word(Word::Unlist),
-        FieldForm::Number,
-        FieldForm::Code,
-    ],
-    &[FieldForm::Minute, FieldForm::Word(Word::Off), FieldForm::Number],
-    &[FieldForm::Minute, FieldForm::Word(Word::On), FieldForm::Number],
-    &[
-        FieldForm::Minute,
-        FieldForm::Word(Word::Qualify),
-        FieldForm::Number,
-        FieldForm::Quals,
-    ],
-    &[
-        FieldForm::Minute,
-        FieldForm::Word(Word::Past),
-        FieldForm::Number,
-        FieldForm::Event(EventWord::Ride),
-        FieldForm::Minute,
-    ],
-    &[
-        FieldForm::Minute,
-        FieldForm::Word(Word::Past),
-        FieldForm::Number,
-        FieldForm::Event(EventWord::Duty),
-        FieldForm::Minute,
-    ],
-    &[
-        FieldForm::Minute,
-        FieldForm::Word(Word::Past),
-        FieldForm::Number,
-        FieldForm::Event(EventWord::Interim),
-        FieldForm::Minute,
-        FieldForm::Kind,
-        FieldForm::Code,
-    ],
-    &[
-        FieldForm::Minute,
-        FieldForm::Word(Word::Past),
-        FieldForm::Number,
-        FieldForm::Event(EventWord::Resume),
-        FieldForm::Minute,
-    ],
-    &[
-        FieldForm::Minute,
-        FieldForm::Word(Word::Past),
-        FieldForm::Number,
-        FieldForm::Event(EventWord::Relieve),
-        FieldForm::Minute,
-    ],
-    &[
-        FieldForm::Minute,
-        FieldForm::Word(Word::Past),
-        FieldForm::Number,
-        FieldForm::Event(EventWord::RideHome),
-        FieldForm::Minute,
-    ],
-    &[
-        FieldForm::Minute,
-        FieldForm::Word(Word::Past),
-        FieldForm::Number,
-        FieldForm::Event(EventWord::Final),
-        FieldForm::Minute,
-        FieldForm::Code,
-    ],
-    &[
-        FieldForm::Minute,
-        FieldForm::Word(Word::Past),
-        FieldForm::Number,
-        FieldForm::Event(EventWord::Other),
-        FieldForm::Minute,
-        FieldForm::LaterMinute,
-        FieldForm::Code,
-    ],
-    &[
-        FieldForm::Minute,
-        FieldForm::Word(Word::Event),
-        FieldForm::Number,
-        FieldForm::Event(EventWord::Ride),
-        FieldForm::Minute,
-    ],
-    &[
-        FieldForm::Minute,
-        FieldForm::Word(Word::Event),
-        FieldForm::Number,
-        FieldForm::Event(EventWord::Duty),
-        FieldForm::Minute,
-    ],
-    &[
-        FieldForm::Minute,
-        FieldForm::Word(Word::Event),
-        FieldForm::Number,
-        FieldForm::Event(EventWord::Interim),
-        FieldForm::Minute,
-        FieldForm::Kind,
-        FieldForm::Code,
-    ],
-    &[
-        FieldForm::Minute,
-        FieldForm::Word(Word::Event),
-        FieldForm::Number,
-        FieldForm::Event(EventWord::Resume),
-        FieldForm::Minute,
-    ],
-    &[
-        FieldForm::Minute,
-        FieldForm::Word(Word::Event),
-        FieldForm::Number,
-        FieldForm::Event(EventWord::Relieve),
-        FieldForm::Minute,
-    ],
-    &[
-        FieldForm::Minute,
-        FieldForm::Word(Word::Event),
-        FieldForm::Number,
-        FieldForm::Event(EventWord::RideHome),
-        FieldForm::Minute,
-    ],
-    &[
-        FieldForm::Minute,
-        FieldForm::Word(Word::Event),
-        FieldForm::Number,
-        FieldForm::Event(EventWord::Final),
-        FieldForm::Minute,
-        FieldForm::Code,
-    ],
-    &[
-        FieldForm::Minute,
-        FieldForm::Word(Word::Event),
-        FieldForm::Number,
-        FieldForm::Event(EventWord::Other),
-        FieldForm::Minute,
-        FieldForm::LaterMinute,
-        FieldForm::Code,
-    ],
-    &[
-        FieldForm::Minute,
-        FieldForm::Word(Word::Vacancy),
-        FieldForm::Number,
-        FieldForm::Craft,
-        FieldForm::Quals,
-        FieldForm::Code,
-        FieldForm::Minute,
-        FieldForm::Duty,
-        FieldForm::Limbo,
-        FieldForm::Chain,
-    ],
-    &[
-        FieldForm::Minute,
-        FieldForm::Word(Word::Relief),
-        FieldForm::Number,
-        FieldForm::Craft,
-        FieldForm::Quals,
-        FieldForm::Code,
-        FieldForm::Minute,
-        FieldForm::Duty,
-        FieldForm::Limbo,
-        FieldForm::Chain,
-    ],
-    &[FieldForm::Minute, FieldForm::Word(Word::Next), FieldForm::Number],
-    &[
-        FieldForm::Minute,
-        FieldForm::Word(Word::Offer),
-        FieldForm::Number,
-        FieldForm::Number,
-    ],
-    &[
-        FieldForm::Minute,
-        FieldForm::Word(Word::Accept),
-        FieldForm::Number,
-        FieldForm::Number,
-    ],
-    &[
-        FieldForm::Minute,
-        FieldForm::Word(Word::Decline),
-        FieldForm::Number,
-        FieldForm::Number,
-    ],
-    &[
-        FieldForm::Minute,
-        FieldForm::Word(Word::NoAnswer),
-        FieldForm::Number,
-        FieldForm::Number,
-    ],
-    &[
-        FieldForm::Minute,
-        FieldForm::Word(Word::Withdraw),
-        FieldForm::Number,
-        FieldForm::Number,
-    ],
-    &[FieldForm::Minute, FieldForm::Word(Word::Annul), FieldForm::Number],
-    &[FieldForm::Minute, FieldForm::Word(Word::Drop), FieldForm::Number],
-    &[
-        FieldForm::Minute,
-        FieldForm::Word(Word::Hours),
-        FieldForm::Number,
-        FieldForm::Month,
-    ],
-    &[FieldForm::Minute, FieldForm::Word(Word::At), FieldForm::Code, FieldForm::Position],
-    &[
-        FieldForm::Minute,
-        FieldForm::Word(Word::Explain),
-        FieldForm::Number,
-        FieldForm::Number,
-    ],
-    &[FieldForm::Minute, FieldForm::Word(Word::Vac), FieldForm::Number],
-];
+// The forms of records: the minute, the command's word, and the forms behind them that a row of the table names.
+macro_rules! forms_of_records {
+    ($($word:ident: $($form:ident $(($event:ident))?),+;)+) => {
+        [$(&[
+            FieldForm::Minute,
+            FieldForm::Word(Word::$word),
+            $(FieldForm::$form $((EventWord::$event))?),+
+        ]),+]
+    };
+}
+
+const RECORD_FORMS: [&[FieldForm]; 37] = forms_of_records! {
+    Enrol: Number, Craft, Code, Quals;
+    Board: Code, Sort, Code;
+    List: Number, Code;
+    Unlist: Number, Code;
+    Off: Number;
+    On: Number;
+    Qualify: Number, Quals;
+    Past: Number, Event(Ride), Minute;
+    Past: Number, Event(Duty), Minute;
+    Past: Number, Event(Interim), Minute, Kind, Code;
+    Past: Number, Event(Resume), Minute;
+    Past: Number, Event(Relieve), Minute;
+    Past: Number, Event(RideHome), Minute;
+    Past: Number, Event(Final), Minute, Code;
+    Past: Number, Event(Other), Minute, LaterMinute, Code;
+    Event: Number, Event(Ride), Minute;
+    Event: Number, Event(Duty), Minute;
+    Event: Number, Event(Interim), Minute, Kind, Code;
+    Event: Number, Event(Resume), Minute;
+    Event: Number, Event(Relieve), Minute;
+    Event: Number, Event(RideHome), Minute;
+    Event: Number, Event(Final), Minute, Code;
+    Event: Number, Event(Other), Minute, LaterMinute, Code;
+    Vacancy: Number, Craft, Quals, Code, Minute, Duty, Limbo, Chain;
+    Relief: Number, Craft, Quals, Code, Minute, Duty, Limbo, Chain;
+    Next: Number;
+    Offer: Number, Number;
+    Accept: Number, Number;
+    Decline: Number, Number;
+    NoAnswer: Number, Number;
+    Withdraw: Number, Number;
+    Annul: Number;
+    Drop: Number;
+    Hours: Number, Month;
+    At: Code, Position;
+    Explain: Number, Number;
+    Vac: Number;
+};

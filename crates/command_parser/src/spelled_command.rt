@@ -1,19 +1,19 @@
 //! Commands about a board or a vacancy, read from the fields behind their word.
-ghost use Rattle.std.specs.Prelude.{◌≡◌, ◌∷◌, IfSome, map};
+ghost use Rattle.std.specs.Prelude.{◌≡◌, ◌⊎◌, ◌∷◌, IfSome, map};
 ghost use Rattle.desk_model.specs.declared.command.Cmd.{Cmd as CmdValue};
-ghost use Rattle.command_parser.specs.declared.word.Word.TheVariants as word;
 ghost use Rattle.desk_model.specs.texts.StatedTexts.{job_word};
 ghost use Rattle.command_parser.specs.Spelled.{Spells, SpellsCommand};
 
 use crate::field::{read_count, read_extra, read_position, read_vac};
+use crate::word::Word;
 use desk_base::{Code, Minute};
 use desk_model::{Chain, Cmd, Job};
 use qualifications::{Craft, Quals};
 
 /// Board, sort and place.
 pub(crate) fn read_board(about: &[&[u8]]) -> Option<Cmd>
-    ensures some { IfSome result (Spells word.Board (map (λ field. field.now) about.now)) }
-    ensures only { (cmd : CmdValue) → Spells word.Board (map (λ field. field.now) about.now) cmd
+    ensures some { IfSome result (Spells Word.Board (map (λ field. field.now) about.now)) }
+    ensures only { (cmd : CmdValue) → Spells Word.Board (map (λ field. field.now) about.now) cmd
         → result ≡ Some cmd }
 {
     let [board, sort, place] = about else {
@@ -51,38 +51,29 @@ pub(crate) fn read_vacancy(about: &[&[u8]], relief: bool) -> Option<Cmd>
     Some(Cmd::Vacancy(job))
 }
 
-/// Vacancy.
-pub(crate) fn read_next(about: &[&[u8]]) -> Option<Cmd>
-    ensures some { IfSome result (Spells word.Next (map (λ field. field.now) about.now)) }
-    ensures only { (cmd : CmdValue) → Spells word.Next (map (λ field. field.now) about.now) cmd
+/// The command of `next`, `annul` or `vac`: a vacancy.
+pub(crate) fn read_about_vac(word: Word, about: &[&[u8]]) -> Option<Cmd>
+    requires { (word ≡ Word.Next) ⊎ (word ≡ Word.Annul) ⊎ (word ≡ Word.Vac) }
+    ensures some { IfSome result (Spells word (map (λ field. field.now) about.now)) }
+    ensures only { (cmd : CmdValue) → Spells word (map (λ field. field.now) about.now) cmd
         → result ≡ Some cmd }
 {
     let [vac] = about else {
         return None;
     };
-    Some(Cmd::Next {
-        vac: read_vac(vac)?,
-    })
-}
-
-/// Vacancy.
-pub(crate) fn read_annul(about: &[&[u8]]) -> Option<Cmd>
-    ensures some { IfSome result (Spells word.Annul (map (λ field. field.now) about.now)) }
-    ensures only { (cmd : CmdValue) → Spells word.Annul (map (λ field. field.now) about.now) cmd
-        → result ≡ Some cmd }
-{
-    let [vac] = about else {
-        return None;
-    };
-    Some(Cmd::Annul {
-        vac: read_vac(vac)?,
-    })
+    let vac = read_vac(vac)?;
+    match word {
+        Word::Next => Some(Cmd::Next { vac }),
+        Word::Annul => Some(Cmd::Annul { vac }),
+        Word::Vac => Some(Cmd::Vac { vac }),
+        _ => None,
+    }
 }
 
 /// Board and place.
 pub(crate) fn read_at(about: &[&[u8]]) -> Option<Cmd>
-    ensures some { IfSome result (Spells word.At (map (λ field. field.now) about.now)) }
-    ensures only { (cmd : CmdValue) → Spells word.At (map (λ field. field.now) about.now) cmd
+    ensures some { IfSome result (Spells Word.At (map (λ field. field.now) about.now)) }
+    ensures only { (cmd : CmdValue) → Spells Word.At (map (λ field. field.now) about.now) cmd
         → result ≡ Some cmd }
 {
     let [board, place] = about else {
@@ -91,19 +82,5 @@ pub(crate) fn read_at(about: &[&[u8]]) -> Option<Cmd>
     Some(Cmd::At {
         board: Code::read(board)?,
         place: read_position(place)?,
-    })
-}
-
-/// Vacancy.
-pub(crate) fn read_vac_state(about: &[&[u8]]) -> Option<Cmd>
-    ensures some { IfSome result (Spells word.Vac (map (λ field. field.now) about.now)) }
-    ensures only { (cmd : CmdValue) → Spells word.Vac (map (λ field. field.now) about.now) cmd
-        → result ≡ Some cmd }
-{
-    let [vac] = about else {
-        return None;
-    };
-    Some(Cmd::Vac {
-        vac: read_vac(vac)?,
     })
 }

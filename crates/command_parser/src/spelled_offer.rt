@@ -1,98 +1,32 @@
 //! Commands about a vacancy and a person, read from the fields behind their word.
-ghost use Rattle.std.specs.Prelude.{◌≡◌, IfSome, map};
+ghost use Rattle.std.specs.Prelude.{◌≡◌, ◌⊎◌, IfSome, map};
 ghost use Rattle.desk_model.specs.declared.command.Cmd.{Cmd as CmdValue};
-ghost use Rattle.command_parser.specs.declared.word.Word.TheVariants as word;
 ghost use Rattle.command_parser.specs.Spelled.{Spells};
 
 use crate::field::{read_person, read_vac};
+use crate::word::Word;
 use desk_model::Cmd;
 
-/// Vacancy and person.
-pub(crate) fn read_offer(about: &[&[u8]]) -> Option<Cmd>
-    ensures some { IfSome result (Spells word.Offer (map (λ field. field.now) about.now)) }
-    ensures only { (cmd : CmdValue) → Spells word.Offer (map (λ field. field.now) about.now) cmd
+/// The command of `offer`, `accept`, `decline`, `noanswer`, `withdraw` or `explain`: a vacancy and a person.
+pub(crate) fn read_about_offer(word: Word, about: &[&[u8]]) -> Option<Cmd>
+    requires { (word ≡ Word.Offer) ⊎ (word ≡ Word.Accept) ⊎ (word ≡ Word.Decline)
+        ⊎ (word ≡ Word.NoAnswer) ⊎ (word ≡ Word.Withdraw) ⊎ (word ≡ Word.Explain) }
+    ensures some { IfSome result (Spells word (map (λ field. field.now) about.now)) }
+    ensures only { (cmd : CmdValue) → Spells word (map (λ field. field.now) about.now) cmd
         → result ≡ Some cmd }
 {
     let [vac, person] = about else {
         return None;
     };
-    Some(Cmd::Offer {
-        vac: read_vac(vac)?,
-        person: read_person(person)?,
-    })
-}
-
-/// Vacancy and person.
-pub(crate) fn read_accept(about: &[&[u8]]) -> Option<Cmd>
-    ensures some { IfSome result (Spells word.Accept (map (λ field. field.now) about.now)) }
-    ensures only { (cmd : CmdValue) → Spells word.Accept (map (λ field. field.now) about.now) cmd
-        → result ≡ Some cmd }
-{
-    let [vac, person] = about else {
-        return None;
-    };
-    Some(Cmd::Accept {
-        vac: read_vac(vac)?,
-        person: read_person(person)?,
-    })
-}
-
-/// Vacancy and person.
-pub(crate) fn read_decline(about: &[&[u8]]) -> Option<Cmd>
-    ensures some { IfSome result (Spells word.Decline (map (λ field. field.now) about.now)) }
-    ensures only { (cmd : CmdValue) → Spells word.Decline (map (λ field. field.now) about.now) cmd
-        → result ≡ Some cmd }
-{
-    let [vac, person] = about else {
-        return None;
-    };
-    Some(Cmd::Decline {
-        vac: read_vac(vac)?,
-        person: read_person(person)?,
-    })
-}
-
-/// Vacancy and person.
-pub(crate) fn read_no_answer(about: &[&[u8]]) -> Option<Cmd>
-    ensures some { IfSome result (Spells word.NoAnswer (map (λ field. field.now) about.now)) }
-    ensures only { (cmd : CmdValue) → Spells word.NoAnswer (map (λ field. field.now) about.now) cmd
-        → result ≡ Some cmd }
-{
-    let [vac, person] = about else {
-        return None;
-    };
-    Some(Cmd::NoAnswer {
-        vac: read_vac(vac)?,
-        person: read_person(person)?,
-    })
-}
-
-/// Vacancy and person.
-pub(crate) fn read_withdraw(about: &[&[u8]]) -> Option<Cmd>
-    ensures some { IfSome result (Spells word.Withdraw (map (λ field. field.now) about.now)) }
-    ensures only { (cmd : CmdValue) → Spells word.Withdraw (map (λ field. field.now) about.now) cmd
-        → result ≡ Some cmd }
-{
-    let [vac, person] = about else {
-        return None;
-    };
-    Some(Cmd::Withdraw {
-        vac: read_vac(vac)?,
-        person: read_person(person)?,
-    })
-}
-
-/// Vacancy and person.
-pub(crate) fn read_explain(about: &[&[u8]]) -> Option<Cmd>
-    ensures some { IfSome result (Spells word.Explain (map (λ field. field.now) about.now)) }
-    ensures only { (cmd : CmdValue) → Spells word.Explain (map (λ field. field.now) about.now) cmd
-        → result ≡ Some cmd }
-{
-    let [vac, person] = about else {
-        return None;
-    };
-    Some(Cmd::Explain {
-        vac: read_vac(vac)?,
-        person: read_person(person)?,
-    })
+    let vac = read_vac(vac)?;
+    let person = read_person(person)?;
+    match word {
+        Word::Offer => Some(Cmd::Offer { vac, person }),
+        Word::Accept => Some(Cmd::Accept { vac, person }),
+        Word::Decline => Some(Cmd::Decline { vac, person }),
+        Word::NoAnswer => Some(Cmd::NoAnswer { vac, person }),
+        Word::Withdraw => Some(Cmd::Withdraw { vac, person }),
+        Word::Explain => Some(Cmd::Explain { vac, person }),
+        _ => None,
+    }
 }

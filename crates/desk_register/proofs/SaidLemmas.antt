@@ -27,27 +27,30 @@ Said true h c v = (makes v c ≡ None) × (state_by v c (state_of h v) ≡ state
 Said false h c v = (makes v c ≡ None) × (state_by v c (state_of h v) ≡ state_of h v)
 
 -- a command of a vacancy by its number
-named-said : (h : History) (c : Cmd) (v vac : ℕ) → ((here : Bool) → nat_eq vac v ≡ here → Said here h c v) → Said (nat_eq vac v) h c v
-named-said h c v vac go = go (nat_eq vac v) refl
+named-said : (h : History) (c : Cmd) (v vac : ℕ) → (nat_eq vac v ≡ true → Said true h c v) → (nat_eq vac v ≡ false → Said false h c v) → Said (nat_eq vac v) h c v
+named-said h c v vac this other = go (nat_eq vac v) refl
+  where
+    go : (here : Bool) → nat_eq vac v ≡ here → Said here h c v
+    go true is = this is
+    go false is = other is
 
 -- whose vacancy this isn't doesn't give it up, nor begin it
-not-given_up : (p : ℕ) (how : VacState) → ((how ≡ state.Taken p) → false ≡ true) → given_up p how ≡ how
-not-given_up p (state.Taken x) other = go (nat_eq p x) refl
+not-theirs : (p x : ℕ) (left : VacState) → ((state.Taken x ≡ state.Taken p) → false ≡ true) → cond (nat_eq p x) left (state.Taken x) ≡ state.Taken x
+not-theirs p x left other = go (nat_eq p x) refl
   where
-    go : (here : Bool) → nat_eq p x ≡ here → cond here state.Vacant (state.Taken x) ≡ state.Taken x
+    go : (here : Bool) → nat_eq p x ≡ here → cond here left (state.Taken x) ≡ state.Taken x
     go true here = absurd (false≢true (other (ap state.Taken (sym (same_number p x here)))))
     go false here = refl
+
+not-given_up : (p : ℕ) (how : VacState) → ((how ≡ state.Taken p) → false ≡ true) → given_up p how ≡ how
+not-given_up p (state.Taken x) other = not-theirs p x state.Vacant other
 not-given_up p (state.OnOffer x) other = refl
 not-given_up p (state.Begun x) other = refl
 not-given_up p state.Vacant other = refl
 not-given_up p state.Annulled other = refl
 
 not-started : (p : ℕ) (how : VacState) → ((how ≡ state.Taken p) → false ≡ true) → started p how ≡ how
-not-started p (state.Taken x) other = go (nat_eq p x) refl
-  where
-    go : (here : Bool) → nat_eq p x ≡ here → cond here (state.Begun x) (state.Taken x) ≡ state.Taken x
-    go true here = absurd (false≢true (other (ap state.Taken (sym (same_number p x here)))))
-    go false here = refl
+not-started p (state.Taken x) other = not-theirs p x (state.Begun x) other
 not-started p (state.OnOffer x) other = refl
 not-started p (state.Begun x) other = refl
 not-started p state.Vacant other = refl
@@ -73,31 +76,11 @@ happened-said h p v e law false false report here = (refl, rw report refl)
 
 -- what a command that makes no vacancy says of one
 pub vacancy-said : (h : History) (c : Cmd) (v : ℕ) → TakenIsAssigned h → makes v c ≡ None → Said (is_of v (target c (had_by h c))) h c v
-vacancy-said h (cmd.Accept vac p) v law unmade = named-said h (cmd.Accept vac p) v vac (λ here is. said here is)
-  where
-    said : (here : Bool) → nat_eq vac v ≡ here → Said here h (cmd.Accept vac p) v
-    said true is = (refl, rw is refl)
-    said false is = (refl, rw is refl)
-vacancy-said h (cmd.Decline vac p) v law unmade = named-said h (cmd.Decline vac p) v vac (λ here is. said here is)
-  where
-    said : (here : Bool) → nat_eq vac v ≡ here → Said here h (cmd.Decline vac p) v
-    said true is = (refl, rw is refl)
-    said false is = (refl, rw is refl)
-vacancy-said h (cmd.NoAnswer vac p) v law unmade = named-said h (cmd.NoAnswer vac p) v vac (λ here is. said here is)
-  where
-    said : (here : Bool) → nat_eq vac v ≡ here → Said here h (cmd.NoAnswer vac p) v
-    said true is = (refl, rw is refl)
-    said false is = (refl, rw is refl)
-vacancy-said h (cmd.Withdraw vac p) v law unmade = named-said h (cmd.Withdraw vac p) v vac (λ here is. said here is)
-  where
-    said : (here : Bool) → nat_eq vac v ≡ here → Said here h (cmd.Withdraw vac p) v
-    said true is = (refl, rw is refl)
-    said false is = (refl, rw is refl)
-vacancy-said h (cmd.Annul vac) v law unmade = named-said h (cmd.Annul vac) v vac (λ here is. said here is)
-  where
-    said : (here : Bool) → nat_eq vac v ≡ here → Said here h (cmd.Annul vac) v
-    said true is = (refl, rw is refl)
-    said false is = (refl, rw is refl)
+vacancy-said h (cmd.Accept vac p) v law unmade = named-said h (cmd.Accept vac p) v vac (λ is. (refl, rw is refl)) (λ is. (refl, rw is refl))
+vacancy-said h (cmd.Decline vac p) v law unmade = named-said h (cmd.Decline vac p) v vac (λ is. (refl, rw is refl)) (λ is. (refl, rw is refl))
+vacancy-said h (cmd.NoAnswer vac p) v law unmade = named-said h (cmd.NoAnswer vac p) v vac (λ is. (refl, rw is refl)) (λ is. (refl, rw is refl))
+vacancy-said h (cmd.Withdraw vac p) v law unmade = named-said h (cmd.Withdraw vac p) v vac (λ is. (refl, rw is refl)) (λ is. (refl, rw is refl))
+vacancy-said h (cmd.Annul vac) v law unmade = named-said h (cmd.Annul vac) v vac (λ is. (refl, rw is refl)) (λ is. (refl, rw is refl))
 vacancy-said h (cmd.Drop p) v law unmade = drop-said h p v law (is_of v (assigned h p)) refl
 vacancy-said h (cmd.Happened p e) v law unmade = happened-said h p v e law (reports e) (is_of v (if reports e then assigned h p else None)) refl refl
 vacancy-said h (cmd.Vacancy job) v law unmade = (unmade, refl)

@@ -1,14 +1,13 @@
 -- Boards as the bits of a word.
-use Rattle.std.proofs.Common.{◌≡◌, ◌≢◌, ◌<◌, ◌^◌, ◌*◌, ◌%◌, ◌&&◌, ◌==◌, ℕ, zero, suc, replicate, Bool, true, false, cond, List, length, nat_eq, nat_lt, slice_index_or, slice_set, bit_or, bit_and, refl, sym, ap, ◌∙◌, arith, w64}
+use Rattle.std.proofs.Common.{◌≡◌, ◌≢◌, ◌<◌, ◌^◌, ◌*◌, ◌%◌, ◌&&◌, ◌==◌, ℕ, zero, suc, replicate, Bool, true, false, cond, nat_eq, nat_lt, slice_index_or, bit_or, bit_and, refl, sym, ap, ◌∙◌, arith, w64}
 use Rattle.std.specs.Prelude.{if◌then◌else◌}
 use Rattle.std.proofs.lemmas.Bool.Decides.{nat_tests}
-use Rattle.std.proofs.lemmas.List.{get_or-set_same, get_or-set_other}
 use Rattle.std.proofs.lemmas.Nat.Bits.{bit_at_set_same, bit_at_set_other, bit_at_clear_same, bit_at_clear_other, bit_at-zero, bit_at-trailing_zeros, bit_at_and, bit_at-lt}
 use Rattle.std.proofs.lemmas.Nat.{and_le_l}
 use Rattle.std.proofs.lemmas.Bool.{false≢true}
 use Rattle.std.specs.Int.{bit_at, bit_not, trailing_zeros}
 use Rattle.desk_model.specs.declared.limits.TheConstants.{BOARD_LIMIT}
-use Rattle.desk_state.specs.Words.{has_board, is_in, set_at}
+use Rattle.desk_state.specs.Words.{has_board, is_in}
 
 pub no-board : (j : ℕ) → has_board 0 j ≡ false
 no-board j = go (nat_lt j BOARD_LIMIT)

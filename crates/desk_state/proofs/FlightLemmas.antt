@@ -21,11 +21,10 @@ use Rattle.desk_model.specs.offers.Offers.{asks_for, offer_in, settles, open_off
 use Rattle.desk_model.specs.laws.Comes.{Comes, left_open, on_offer_after}
 use Rattle.desk_register.specs.Among.{index_among}
 use Rattle.desk_register.proofs.PersonLemmas.{same, same_number}
-use Rattle.desk_register.proofs.IndexAmongLemmas.{index-lt, index-is}
+use Rattle.desk_register.proofs.IndexAmongLemmas.{index-lt, index-is, number-decides}
 use Rattle.desk_state.specs.OpenOffers.{IsSame, IsOffer, AreOffers}
 use Rattle.desk_state.proofs.HoldIndexLemmas.{position-stays}
 use Rattle.desk_state.proofs.HearLemmas.{OffersNothing, settled-offer, settled-to, made-offer, made-to, silent-offer, silent-to}
-use Rattle.desk_state.proofs.HoldLemmas.{number-decides}
 
 -- ---- what is kept, among persons and boards of which there may be one more
 

@@ -1,7 +1,6 @@
 -- What is kept of holds goes on as the history does.
-use Rattle.std.proofs.Common.{◌≡◌, ◌≤◌, ◌+◌, ℕ, max, Bool, true, false, ◌&&◌, cond, nat_eq, List, [], ◌∷◌, ◌++◌, length, Option, None, Some, unwrap_or, refl, sym, ap, ◌∙◌, subst, length-append, arith}
+use Rattle.std.proofs.Common.{◌≡◌, ◌≤◌, ◌+◌, ℕ, max, Bool, true, false, ◌&&◌, cond, nat_eq, List, [], ◌∷◌, ◌++◌, length, Option, None, Some, unwrap_or, refl, sym, ap, ◌∙◌, length-append, arith}
 use Rattle.std.specs.Prelude.{if◌then◌else◌, position}
-use Rattle.std.specs.Bool.{Decides}
 use Rattle.std.specs.Str.{bytes_eq}
 use Rattle.std.specs.List.{cons_option}
 use Rattle.std.proofs.lemmas.Bool.Decides.{nat_tests}
@@ -15,14 +14,11 @@ use Rattle.desk_model.specs.offers.Offers.{open_offer}
 use Rattle.desk_model.specs.offers.Held.{hold_end}
 use Rattle.desk_model.specs.laws.Comes.{Comes}
 use Rattle.desk_register.specs.Among.{index_among, board_index}
-use Rattle.desk_register.proofs.PersonLemmas.{same, same_number}
+use Rattle.desk_register.proofs.IndexAmongLemmas.{number-decides, position-lt, indexes-differ, indexed-differ}
 use Rattle.desk_state.specs.OfferTold.{decliner}
 use Rattle.desk_state.specs.Holds.{end_for, AreHolds}
-use Rattle.desk_state.proofs.HoldIndexLemmas.{position-stays, position-new, position-lt, indexes-differ, indexed-differ}
+use Rattle.desk_state.proofs.HoldIndexLemmas.{position-stays, position-new}
 use Rattle.desk_state.proofs.HearLemmas.{Declines, no-hold, hold-told}
-
-pub number-decides : (a b : ℕ) → Decides (nat_eq a b) (a ≡ b)
-number-decides a b = (same_number a b, λ is. subst (λ x. nat_eq a x ≡ true) is (same a))
 
 -- ---- one person more, or one board
 

@@ -10,9 +10,8 @@ use Rattle.vacancy_fill.specs.Chain.{members_at}
 use Rattle.desk_model.specs.declared.command.Cmd.{Cmd}
 use Rattle.desk_model.specs.declared.board_setup.BoardSetup.{BoardSetup}
 use Rattle.desk_model.specs.declared.limits.TheConstants.{PERSON_LIMIT, BOARD_LIMIT}
-use Rattle.desk_model.specs.statements.Opening.{OpeningValue}
 use Rattle.desk_model.specs.statements.Entry.{EntryValue}
-use Rattle.desk_model.specs.histories.History.{History, opened, with_entry, is_done, said}
+use Rattle.desk_model.specs.histories.History.{History, with_entry, is_done, said}
 use Rattle.desk_model.specs.histories.Register.{enrols_any, sets_up, sets_up_any, board_of, persons, boards}
 use Rattle.desk_model.specs.boards.Boards.{is_on, order, puts, sends}
 use Rattle.desk_model.specs.histories.Duty.{tells}

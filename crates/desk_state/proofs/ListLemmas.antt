@@ -12,7 +12,6 @@ use Rattle.desk_model.specs.declared.command.Cmd.TheVariants as cmd
 use Rattle.desk_model.specs.offers.Offers.{is_of}
 use Rattle.desk_model.specs.declared.limits.TheConstants.{BOARD_LIMIT}
 use Rattle.desk_state.specs.Words.{has_board}
-use Rattle.desk_state.proofs.BitLemmas.{no-board}
 use Rattle.desk_state.specs.Changes.{IsThen, EachBecomes, BecomesBy}
 use Rattle.desk_state.specs.declared.named_indexes.NamedIndexes.{NamedIndexes}
 

@@ -24,11 +24,11 @@ use Rattle.desk_model.specs.laws.RestsOn.{RestsOn, MayOffer}
 use Rattle.desk_model.specs.histories.Legal.{IsLegal}
 use Rattle.desk_model.proofs.SaidLemmas.{said-some}
 use Rattle.desk_register.specs.Among.{index_among, board_index}
+use Rattle.desk_register.proofs.IndexAmongLemmas.{position-lt}
 use Rattle.desk_state.specs.OfferTold.{decliner, offered_from}
 use Rattle.desk_state.specs.OpenOffers.{IsSame, IsOffer, AreOffers, CanStart}
 use Rattle.desk_state.specs.Holds.{AreHolds}
 use Rattle.desk_state.specs.Keeps.{AreFew}
-use Rattle.desk_state.proofs.HoldIndexLemmas.{position-lt}
 use Rattle.desk_state.proofs.HearLemmas.{Declines, declines, may-decline, IsMadeTo}
 use Rattle.desk_state.proofs.HoldLemmas.{Raises, holds-raised}
 use Rattle.desk_state.proofs.FlightLemmas.{closed-vacancy, offers-few, offers-made}

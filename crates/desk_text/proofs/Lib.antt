@@ -7,4 +7,3 @@ pub mod PartLemmas
 pub mod SpelledReplyLemmas
 pub mod SpelledEntryLemmas
 pub mod BeginningLemmas
-mod PlainReplyLemmas

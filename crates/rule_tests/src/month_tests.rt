@@ -94,100 +94,48 @@ const OVER_ENDS_OF_MONTHS: [Case; 8] = [
     ),
 ];
 
+// The used and the capped minutes of February, and those of March.
+macro_rules! of_two_months {
+    ($used:expr, $capped:expr; $used_in_march:expr, $capped_in_march:expr) => {
+        &[
+            Asks::Hours(b"2024-02", $used, $capped),
+            Asks::Hours(b"2024-03", $used_in_march, $capped_in_march),
+        ]
+    };
+}
+
+// A tour from one minute on with a wait for the ride home from the next to the last, and the minutes of both months.
+macro_rules! waits {
+    ($from:expr, $relieved:expr, $home:expr; $($minutes:tt)+) => {
+        (
+            &[],
+            &[
+                ($from, Does::Duty),
+                ($relieved, Does::Relieve),
+                ($home, Does::Final(b"HOM")),
+            ],
+            of_two_months!($($minutes)+),
+        )
+    };
+}
+
 // Of February and March, for which a window of these two months is enough.
 const OF_TWO_MONTHS: [Case; 13] = [
     // A wait for the ride home before and behind the 720th minute of a tour.
     // thirty hours of waiting behind twelve on duty
-    (
-        &[],
-        &[
-            (March(1, 0_00), Does::Duty),
-            (March(1, 12_00), Does::Relieve),
-            (March(2, 18_00), Does::Final(b"HOM")),
-        ],
-        &[
-            Asks::Hours(b"2024-02", 0, 0),
-            Asks::Hours(b"2024-03", 2_520, 1_800),
-        ],
-    ),
+    waits!(March(1, 0_00), March(1, 12_00), March(2, 18_00); 0, 0; 2_520, 1_800),
     // of two minutes the second is the 721st
-    (
-        &[],
-        &[
-            (March(1, 0_00), Does::Duty),
-            (March(1, 11_59), Does::Relieve),
-            (March(1, 12_01), Does::Final(b"HOM")),
-        ],
-        &[
-            Asks::Hours(b"2024-02", 0, 0),
-            Asks::Hours(b"2024-03", 721, 1),
-        ],
-    ),
+    waits!(March(1, 0_00), March(1, 11_59), March(1, 12_01); 0, 0; 721, 1),
     // the 720th is none
-    (
-        &[],
-        &[
-            (March(1, 0_00), Does::Duty),
-            (March(1, 11_59), Does::Relieve),
-            (March(1, 12_00), Does::Final(b"HOM")),
-        ],
-        &[
-            Asks::Hours(b"2024-02", 0, 0),
-            Asks::Hours(b"2024-03", 720, 0),
-        ],
-    ),
+    waits!(March(1, 0_00), March(1, 11_59), March(1, 12_00); 0, 0; 720, 0),
     // nor are two hours before it
-    (
-        &[],
-        &[
-            (March(1, 0_00), Does::Duty),
-            (March(1, 10_00), Does::Relieve),
-            (March(1, 12_00), Does::Final(b"HOM")),
-        ],
-        &[
-            Asks::Hours(b"2024-02", 0, 0),
-            Asks::Hours(b"2024-03", 720, 0),
-        ],
-    ),
+    waits!(March(1, 0_00), March(1, 10_00), March(1, 12_00); 0, 0; 720, 0),
     // and of three hours the third counts
-    (
-        &[],
-        &[
-            (March(1, 0_00), Does::Duty),
-            (March(1, 10_00), Does::Relieve),
-            (March(1, 13_00), Does::Final(b"HOM")),
-        ],
-        &[
-            Asks::Hours(b"2024-02", 0, 0),
-            Asks::Hours(b"2024-03", 780, 60),
-        ],
-    ),
+    waits!(March(1, 0_00), March(1, 10_00), March(1, 13_00); 0, 0; 780, 60),
     // over the end of a month: two hours in each
-    (
-        &[],
-        &[
-            (March(0, 10_00), Does::Duty),
-            (March(0, 22_00), Does::Relieve),
-            (March(1, 2_00), Does::Final(b"HOM")),
-        ],
-        &[
-            Asks::Hours(b"2024-02", 840, 120),
-            Asks::Hours(b"2024-03", 120, 120),
-        ],
-    ),
+    waits!(March(0, 10_00), March(0, 22_00), March(1, 2_00); 840, 120; 120, 120),
     // over the end of a month: all in the second
-    (
-        &[],
-        &[
-            (March(0, 20_00), Does::Duty),
-            (March(0, 22_00), Does::Relieve),
-            (March(1, 10_00), Does::Final(b"HOM")),
-        ],
-        &[
-            Asks::Hours(b"2024-02", 240, 0),
-            Asks::Hours(b"2024-03", 600, 120),
-        ],
-    ),
+    waits!(March(0, 20_00), March(0, 22_00), March(1, 10_00); 240, 0; 600, 120),
     // Sums of tours.
     // rides to duty and home: 720 minutes are summed at 12:00, an hour before the end
     (
@@ -199,10 +147,7 @@ const OF_TWO_MONTHS: [Case; 13] = [
             (March(1, 11_30), Does::RideHome),
             (March(1, 13_00), Does::Final(b"HOM")),
         ],
-        &[
-            Asks::Hours(b"2024-02", 0, 0),
-            Asks::Hours(b"2024-03", 780, 60),
-        ],
+        of_two_months!(0, 0; 780, 60),
     ),
     // four hours off in the midst of a tour are not summed: 720 minutes are reached at 16:00
     (
@@ -214,10 +159,7 @@ const OF_TWO_MONTHS: [Case; 13] = [
             (March(1, 15_00), Does::RideHome),
             (March(1, 17_00), Does::Final(b"HOM")),
         ],
-        &[
-            Asks::Hours(b"2024-02", 0, 0),
-            Asks::Hours(b"2024-03", 780, 60),
-        ],
+        of_two_months!(0, 0; 780, 60),
     ),
     // a second tour sums its own minutes only
     (
@@ -229,10 +171,7 @@ const OF_TWO_MONTHS: [Case; 13] = [
             (March(2, 11_00), Does::Relieve),
             (March(2, 12_30), Does::Final(b"HOM")),
         ],
-        &[
-            Asks::Hours(b"2024-02", 0, 0),
-            Asks::Hours(b"2024-03", 660 + 750, 30),
-        ],
+        of_two_months!(0, 0; 660 + 750, 30),
     ),
     // What has not ended is counted nowhere.
     // nothing is told
@@ -244,10 +183,7 @@ const OF_TWO_MONTHS: [Case; 13] = [
             (March(4, 8_00), Does::Duty),
             (March(4, 10_00), Does::Interim(Kind::O, b"HOM")),
         ],
-        &[
-            Asks::Hours(b"2024-02", 0, 0),
-            Asks::Hours(b"2024-03", 120, 0),
-        ],
+        of_two_months!(0, 0; 120, 0),
     ),
     // a wait
     (
@@ -256,10 +192,7 @@ const OF_TWO_MONTHS: [Case; 13] = [
             (March(4, 8_00), Does::Duty),
             (March(4, 21_00), Does::Relieve),
         ],
-        &[
-            Asks::Hours(b"2024-02", 0, 0),
-            Asks::Hours(b"2024-03", 780, 0),
-        ],
+        of_two_months!(0, 0; 780, 0),
     ),
 ];
 

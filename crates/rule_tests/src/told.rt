@@ -109,28 +109,18 @@ pub(crate) fn stage(stands: &Stands) -> Option<Stage> {
     })
 }
 
+// A tour from 08:00 to 16:00 that ends at home, on each of these days of March.
+macro_rules! day_tours {
+    ($($day:literal),+) => {
+        [$(
+            (At::March($day, 8_00), Does::Duty),
+            (At::March($day, 16_00), Does::Final(b"HOM"))
+        ),+]
+    };
+}
+
 /// Four days with a tour from 08:00 to 16:00 that ends at home.
-pub(crate) const FOUR_DAYS: [Step; 8] = [
-    (At::March(4, 8_00), Does::Duty),
-    (At::March(4, 16_00), Does::Final(b"HOM")),
-    (At::March(5, 8_00), Does::Duty),
-    (At::March(5, 16_00), Does::Final(b"HOM")),
-    (At::March(6, 8_00), Does::Duty),
-    (At::March(6, 16_00), Does::Final(b"HOM")),
-    (At::March(7, 8_00), Does::Duty),
-    (At::March(7, 16_00), Does::Final(b"HOM")),
-];
+pub(crate) const FOUR_DAYS: [Step; 8] = day_tours![4, 5, 6, 7];
 
 /// Five days with a tour from 08:00 to 16:00 that ends at home.
-pub(crate) const FIVE_DAYS: [Step; 10] = [
-    (At::March(4, 8_00), Does::Duty),
-    (At::March(4, 16_00), Does::Final(b"HOM")),
-    (At::March(5, 8_00), Does::Duty),
-    (At::March(5, 16_00), Does::Final(b"HOM")),
-    (At::March(6, 8_00), Does::Duty),
-    (At::March(6, 16_00), Does::Final(b"HOM")),
-    (At::March(7, 8_00), Does::Duty),
-    (At::March(7, 16_00), Does::Final(b"HOM")),
-    (At::March(8, 8_00), Does::Duty),
-    (At::March(8, 16_00), Does::Final(b"HOM")),
-];
+pub(crate) const FIVE_DAYS: [Step; 10] = day_tours![4, 5, 6, 7, 8];

@@ -22,21 +22,6 @@ duty_fits n most = omega arith
 limbo_fits : (n : ℕ) → n ≤ 999 → n < 2 ^ 16
 limbo_fits n most = omega arith
 
-pub returns-in_err-read_vac-clause-only : goal.returns-in_err-read_vac-clause-only
-returns-in_err-read_vac-clause-only c = λ command spells.
-    let v = vacancy _ _ command spells in
-    let none = c.in_err-read_vac.ensures.only v.job.vac v.job_in.vac (field_at _ _ 0 _ v.fields_are (stands _ 0 7 c.in-len8.len_at_least refl)) in absurd (no_field _ none)
-
-pub returns-in_err-read-clause-only : goal.returns-in_err-read-clause-only
-returns-in_err-read-clause-only c = λ command spells.
-    let v = vacancy _ _ command spells in
-    let none = c.in_err-read.ensures.only v.job.craft (field_at _ _ 1 _ v.fields_are (stands _ 1 6 c.in-len8.len_at_least refl)) in absurd (no_field _ none)
-
-pub returns-in_err-read-2-clause-only : goal.returns-in_err-read-2-clause-only
-returns-in_err-read-2-clause-only c = λ command spells.
-    let v = vacancy _ _ command spells in
-    let none = c.in_err-read-2.ensures.only v.job.quals v.job_in.quals (field_at _ _ 2 _ v.fields_are (stands _ 2 5 c.in-len8.len_at_least refl)) in absurd (no_field _ none)
-
 pub returns-in_err-read-4-clause-only : goal.returns-in_err-read-4-clause-only
 returns-in_err-read-4-clause-only c = λ command spells.
     let v = vacancy _ _ command spells in

@@ -17,6 +17,4 @@ returns-else-eq-3-clause-only c none (bar.SixDays n m) spells = absurd (none bar
 returns-else-eq-3-clause-only c none (bar.SevenDays n m) spells = absurd (none bar_head.SevenDays _ spells.text_is)
 returns-else-eq-3-clause-only c none (bar.MonthHours n m) spells = absurd (none bar_head.MonthHours _ spells.text_is)
 returns-else-eq-3-clause-only c none (bar.LimboHours n m) spells = absurd (none bar_head.LimboHours _ spells.text_is)
-returns-else-eq-3-clause-only c none bar.MarkedOff spells = search rules
-returns-else-eq-3-clause-only c none bar.InTour spells = search rules
-returns-else-eq-3-clause-only c none bar.Answered spells = search rules
+returns-else-eq-3-clause-only c none other spells = search rules
