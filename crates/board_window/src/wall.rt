@@ -1,4 +1,5 @@
 ghost use Rattle.std.specs.Prelude.{◌≡◌, ◌+◌, ◌<◌, ◌≤◌, ◌^◌, [], ◌∷◌, ◌++◌, IfOk, IfSome, IfNone, OnOk, MatchBool, None, Some, length, drop, vec_len};
+ghost use Rattle.desk_model.specs.declared.limits.TheConstants.{LAST_CALLER};
 ghost use Rattle.std.specs.List.{All};
 ghost use mathlib.Core.List.{IsPrefix};
 ghost use Rattle.desk_model.specs.histories.History.{history_of};
@@ -119,7 +120,7 @@ impl Wall {
         requires legal { IsLegal (history_of opening.now entries.now) }
         requires few { length entries.now < 2 ^ 32 }
         requires some { 1 ≤ views }
-        requires most { views ≤ 63 }
+        requires most { views ≤ LAST_CALLER }
         ensures opening { IfOk result (λ made. made.0.wall.opening ≡ opening.now) }
         ensures shown { IfOk result (λ made. made.0.shown ≡ entries.now) }
         ensures added { IfOk result (λ made. made.0.added ≡ entries.now) }

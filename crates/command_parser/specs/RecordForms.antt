@@ -1,5 +1,6 @@
 -- The forms of the fields of a record.
 use Rattle.std.specs.Prelude.{◌≡◌, ◌<◌, ◌≤◌, ◌^◌, ◌-◌, ℕ, Bool, List, decimal, length, get_or, [], ◌∷◌}
+use Rattle.desk_model.specs.declared.limits.TheConstants.{DUTY_PLAN_LIMIT, LIMBO_PLAN_LIMIT, POSITION_LIMIT}
 use Rattle.std.specs.List.{Contains}
 use Rattle.desk_base.specs.Code.{IsCode}
 use Rattle.desk_base.specs.Minute.{IsInYears, minute_text}
@@ -31,9 +32,9 @@ HasForm form.Quals before field = (quals : ℕ) × (quals < 2 ^ 64) × (field �
 HasForm form.Sort before field = (extra : Bool) × (field ≡ sort_text extra)
 HasForm form.Kind before field = (kind : Kind) × (field ≡ kind_text kind)
 HasForm form.Chain before field = (chain : List (List ℕ)) × IsChain chain × (field ≡ chain_text chain)
-HasForm form.Duty before field = (minutes : ℕ) × (1 ≤ minutes) × (minutes ≤ 9_999) × (field ≡ decimal minutes)
-HasForm form.Limbo before field = (minutes : ℕ) × (minutes ≤ 999) × (field ≡ decimal minutes)
-HasForm form.Position before field = (position : ℕ) × (1 ≤ position) × (position ≤ 9_999) × (field ≡ decimal position)
+HasForm form.Duty before field = (minutes : ℕ) × (1 ≤ minutes) × (minutes ≤ DUTY_PLAN_LIMIT) × (field ≡ decimal minutes)
+HasForm form.Limbo before field = (minutes : ℕ) × (minutes ≤ LIMBO_PLAN_LIMIT) × (field ≡ decimal minutes)
+HasForm form.Position before field = (position : ℕ) × (1 ≤ position) × (position ≤ POSITION_LIMIT) × (field ≡ decimal position)
 
 -- the forms of the fields of each record that states a command
 abbrev pub record_forms : List (List FieldForm)

@@ -1,9 +1,11 @@
 //! Single fields of a record, read.
 ghost use Rattle.std.specs.Prelude.{◌≡◌, ◌<◌, ◌≤◌, ◌^◌, ℕ, Bool, decimal, IfSome};
+ghost use Rattle.desk_model.specs.declared.limits.TheConstants.{POSITION_LIMIT};
 ghost use Rattle.desk_base.specs.Number.{IsNumber};
 ghost use Rattle.desk_model.specs.texts.StatedTexts.{sort_text};
 
 use desk_base::{PersonNo, VacNo, read_decimal};
+use desk_model::POSITION_LIMIT;
 
 /// The person whose number a field spells in decimal, 1 to 9,999,999.
 pub fn read_person(text: &[u8]) -> Option<PersonNo>
@@ -33,13 +35,13 @@ pub fn read_count(text: &[u8]) -> Option<u16>
 
 /// The position of a board, 1 to 9,999, that a field spells in decimal.
 pub fn read_position(text: &[u8]) -> Option<u16>
-    ensures some { IfSome result (λ position. (1 ≤ position) × (position ≤ 9_999)
+    ensures some { IfSome result (λ position. (1 ≤ position) × (position ≤ POSITION_LIMIT)
         × (text.now ≡ decimal position)) }
-    ensures only { (position : ℕ) → 1 ≤ position → position ≤ 9_999 → text.now ≡ decimal position
+    ensures only { (position : ℕ) → 1 ≤ position → position ≤ POSITION_LIMIT → text.now ≡ decimal position
         → result ≡ Some position }
 {
     let position = u16::try_from(read_decimal(text)?).ok()?;
-    if position >= 1 && position <= 9_999 {
+    if position >= 1 && position <= POSITION_LIMIT {
         Some(position)
     } else {
         None

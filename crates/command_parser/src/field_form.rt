@@ -7,7 +7,7 @@ use crate::field::{read_count, read_extra, read_person, read_position};
 use crate::spelled_event::read_kind;
 use crate::word::Word;
 use desk_base::{Code, Minute, Month};
-use desk_model::Chain;
+use desk_model::{Chain, DUTY_PLAN_LIMIT, LIMBO_PLAN_LIMIT};
 use qualifications::{Craft, Quals};
 
 /// What a field of a record may be.
@@ -63,8 +63,8 @@ impl FieldForm {
             FieldForm::Sort => read_extra(field).is_some(),
             FieldForm::Kind => read_kind(field).is_some(),
             FieldForm::Chain => Chain::read(field).is_some(),
-            FieldForm::Duty => matches!(read_count(field), Some(1..=9_999)),
-            FieldForm::Limbo => matches!(read_count(field), Some(0..=999)),
+            FieldForm::Duty => matches!(read_count(field), Some(1..=DUTY_PLAN_LIMIT)),
+            FieldForm::Limbo => matches!(read_count(field), Some(0..=LIMBO_PLAN_LIMIT)),
             FieldForm::Position => read_position(field).is_some(),
         }
     }

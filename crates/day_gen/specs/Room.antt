@@ -1,5 +1,6 @@
 -- Room for further commands.
 use Rattle.std.specs.Prelude.{◌+◌, ◌<◌, ◌≤◌}
+use Rattle.desk_base.specs.declared.limits.TheConstants.{NUMBER_LIMIT}
 use Rattle.desk_base.specs.declared.minute.TheConstants.{YEARS_BEGIN, YEARS_END}
 use Rattle.day_gen.specs.declared.course.Course.{Course}
 
@@ -7,10 +8,10 @@ use Rattle.day_gen.specs.declared.course.Course.{Course}
 pub record HasVacancyRoom (c : Course) : Type 0 where
   pub begins : YEARS_BEGIN ≤ c.minute
   pub ends : c.minute + 1_000 < YEARS_END
-  pub numbers : c.made < 9_999_999
+  pub numbers : c.made < NUMBER_LIMIT
 
 -- there is room for one turn more, whatever it is
 pub record HasRoom (c : Course) : Type 0 where
   pub begins : YEARS_BEGIN ≤ c.minute
   pub ends : c.minute + 10_000 < YEARS_END
-  pub numbers : c.made < 9_999_999
+  pub numbers : c.made < NUMBER_LIMIT

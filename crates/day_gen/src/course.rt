@@ -1,5 +1,6 @@
 //! How a generated day goes on: its number, its minute and its vacancies, and the rules of its commands.
 ghost use Rattle.std.specs.Prelude.{◌≡◌, ◌<◌, ◌≤◌, max, slice_get};
+ghost use Rattle.desk_model.specs.declared.limits.TheConstants.{DUTY_PLAN_LIMIT};
 ghost use Rattle.day_gen.specs.Day.{first_course, turn_at};
 ghost use Rattle.day_gen.specs.Draws.{next_number, moved, drawn};
 ghost use Rattle.day_gen.specs.Room.{HasRoom, HasVacancyRoom};
@@ -47,7 +48,7 @@ fn later(minute: Minute, job: &Option<Job>) -> Minute
 // The job's planned minutes on duty.
 fn duty_of(job: &Option<Job>) -> u16
     ensures value { result ≡ duty_of job.now }
-    ensures most { result ≤ 9_999 }
+    ensures most { result ≤ DUTY_PLAN_LIMIT }
 {
     match job {
         Some(job) => job.duty(),

@@ -2,6 +2,7 @@ ghost use Rattle.std.specs.Prelude.{◌≡◌, ℕ};
 ghost use Rattle.std.specs.Option.{SomeIff};
 ghost use Rattle.desk_base.specs.Number.{IsNumber};
 
+use crate::limits::NUMBER_LIMIT;
 use std::marker::Model;
 
 /// The number of a vacancy, 1 to 9,999,999.
@@ -23,7 +24,7 @@ impl VacNo {
     pub fn new(number: u32) -> Option<VacNo>
         ensures { SomeIff result (IsNumber number) number }
     {
-        if number >= 1 && number <= 9_999_999 {
+        if number >= 1 && number <= NUMBER_LIMIT {
             Some(VacNo(number))
         } else {
             None

@@ -1,5 +1,6 @@
 -- What is registered, listed, offered and assigned in a legal history has its values in their ranges.
 use Rattle.std.proofs.Common.{◌≡◌, ℕ, ◌+◌, ◌≤◌, Bool, true, false, cond, ◌&&◌, nat_eq, Option, None, Some, IfSome, unwrap_or, List, [], ◌∷◌, length, refl, subst, arith}
+use Rattle.desk_model.specs.declared.limits.TheConstants.{POSITION_LIMIT}
 use Rattle.std.specs.Option.{option_map, option_or}
 use Rattle.std.specs.Str.{bytes_eq}
 use Rattle.std.specs.List.{All}
@@ -102,7 +103,7 @@ order-fits h b legal =
     (All-keep_last IsNumber (sent_to h b) (All-filter_map (sent b) IsNumber (steps h) (each-step (Tells (sent b) IsNumber) (sent-fits b) h legal)))
 
 abbrev pub FitsLink : Link → Type 0
-FitsLink link = IsNumber link.person × IsCode link.board × (1 ≤ link.position) × (link.position ≤ 9_999)
+FitsLink link = IsNumber link.person × IsCode link.board × (1 ≤ link.position) × (link.position ≤ POSITION_LIMIT)
 
 links-fit : (b : List ℕ) (k : ℕ) (ps : List ℕ) → IsCode b → 1 ≤ k → k + length ps ≤ 10_000 → All IsNumber ps → All FitsLink (links b k ps)
 links-fit b k [] code some few all = All-nil FitsLink

@@ -1,9 +1,10 @@
 ghost use Rattle.std.specs.Prelude.{◌≡◌, ◌≤◌};
+ghost use Rattle.desk_model.specs.declared.limits.TheConstants.{DUTY_PLAN_LIMIT, LIMBO_PLAN_LIMIT};
 ghost use Rattle.std.specs.Option.{SomeIff};
 ghost use Rattle.desk_base.specs.Minute.{IsInYears};
 ghost use Rattle.desk_model.specs.statements.Job.{IsPlan, job_of};
 
-use crate::Chain;
+use crate::{Chain, DUTY_PLAN_LIMIT, LIMBO_PLAN_LIMIT};
 use desk_base::{Code, Minute, VacNo};
 use qualifications::{Craft, Quals};
 use std::marker::Model;
@@ -61,7 +62,7 @@ impl Job {
         ensures { SomeIff result (IsPlan report duty limbo)
             (job_of vac craft quals place report duty limbo chain relief) }
     {
-        if report.is_in_years() && duty >= 1 && duty <= 9_999 && limbo <= 999 {
+        if report.is_in_years() && duty >= 1 && duty <= DUTY_PLAN_LIMIT && limbo <= LIMBO_PLAN_LIMIT {
             Some(Job {
                 vac,
                 craft,
@@ -118,7 +119,7 @@ impl Job {
     pub fn duty(&self) -> u16
         ensures value { result ≡ self.now.duty }
         ensures some { 1 ≤ result }
-        ensures most { result ≤ 9_999 }
+        ensures most { result ≤ DUTY_PLAN_LIMIT }
     {
         self.duty
     }
@@ -126,7 +127,7 @@ impl Job {
     /// The planned minutes in limbo behind these, at most 999.
     pub fn limbo(&self) -> u16
         ensures value { result ≡ self.now.limbo }
-        ensures most { result ≤ 999 }
+        ensures most { result ≤ LIMBO_PLAN_LIMIT }
     {
         self.limbo
     }

@@ -2,7 +2,7 @@
 ghost use Rattle.std.specs.Prelude.{◌≡◌};
 
 use consecutive_days::{OFF_AFTER_SEVEN_DAYS, OFF_AFTER_SIX_DAYS, SIX_DAYS};
-use desk_base::{MONTHS_BEGIN, MONTHS_END, WINDOW_MONTHS, YEARS_BEGIN, YEARS_END};
+use desk_base::{MONTHS_BEGIN, MONTHS_END, NUMBER_LIMIT, WINDOW_MONTHS, YEARS_BEGIN, YEARS_END};
 use duty_events::{DUTY_LIMIT, INTERIM_LIMIT, OFF_DUTY_INTERIM};
 use month_hours::{LIMBO_LIMIT, MONTH_LIMIT};
 use rest_rules::REST;
@@ -18,6 +18,15 @@ pub const LIST_LIMIT: usize = 4;
 
 /// How many persons may be on a board.
 pub const MEMBER_LIMIT: usize = 500;
+
+/// The last position of a board that may be asked about; the first is 1.
+pub const POSITION_LIMIT: u16 = 9_999;
+
+/// How many minutes on duty any vacancy may plan; the least are 1.
+pub const DUTY_PLAN_LIMIT: u16 = 9_999;
+
+/// How many minutes in limbo any vacancy may plan.
+pub const LIMBO_PLAN_LIMIT: u16 = 999;
 
 /// How many vacancies may be made.
 pub const VACANCY_LIMIT: usize = 20_000;
@@ -67,7 +76,11 @@ pub fn the_numbers_of_the_desk()
     ensures boards { BOARD_LIMIT ≡ 64 }
     ensures lists { LIST_LIMIT ≡ 4 }
     ensures members { MEMBER_LIMIT ≡ 500 }
+    ensures positions { POSITION_LIMIT ≡ 9_999 }
     ensures vacancies { VACANCY_LIMIT ≡ 20_000 }
+    ensures numbers { NUMBER_LIMIT ≡ 9_999_999 }
+    ensures planned_duty { DUTY_PLAN_LIMIT ≡ 9_999 }
+    ensures planned_limbo { LIMBO_PLAN_LIMIT ≡ 999 }
     ensures chain { CHAIN_LIMIT ≡ 4 }
     ensures hold { HOLD ≡ 480 }
     ensures callers { LAST_CALLER ≡ 63 }

@@ -4,7 +4,7 @@ ghost use Rattle.std.specs.Bool.{Decides};
 ghost use Rattle.desk_model.specs.statements.Statement.{stated_of};
 ghost use Rattle.desk_model.specs.statements.Fits.{IsEvent, IsJob, IsCommand, IsStated};
 
-use crate::{Cmd, Job};
+use crate::{Cmd, Job, POSITION_LIMIT};
 use desk_base::Minute;
 use duty_events::Event;
 use std::marker::Model;
@@ -116,7 +116,7 @@ fn is_command(cmd: &Cmd) -> bool
         }
         Cmd::At { board, place } => {
             board.text();
-            *place >= 1 && *place <= 9_999
+            *place >= 1 && *place <= POSITION_LIMIT
         }
         Cmd::Offer { vac, person }
         | Cmd::Accept { vac, person }

@@ -1,5 +1,6 @@
 -- Replies taken apart into what they keep.
 use Rattle.std.proofs.Common.{◌≡◌, ℕ, ◌≤◌, List, ◌∷◌, ◌++◌, codes, decimal, drop, refl, ap, ◌∙◌, append_assoc}
+use Rattle.desk_model.specs.declared.limits.TheConstants.{POSITION_LIMIT}
 use Rattle.desk_base.specs.Number.{IsNumber}
 use Rattle.desk_base.specs.Code.{IsCode}
 use Rattle.duty_events.specs.declared.event_fault.EventFault.TheVariants as fault
@@ -19,7 +20,7 @@ pub record IsOffered (kept : List ℕ) (r : Reply) : Type 0 where
   pub person_in : IsNumber person
   pub board_in : IsCode board
   pub some : 1 ≤ position
-  pub most : position ≤ 9_999
+  pub most : position ≤ POSITION_LIMIT
   pub kept_is : kept ≡ decimal person ++ 32 ∷ (board ++ 32 ∷ decimal position)
 
 pub offered : (kept : List ℕ) (r : Reply) → TellsReply head.Offered kept r → IsOffered kept r

@@ -1,5 +1,6 @@
 //! What a reply or a bar keeps, read from its text: minutes, and values with a blank between them.
 ghost use Rattle.std.specs.Prelude.{◌≡◌, ◌<◌, ◌≤◌, ◌^◌, ◌∷◌, ◌++◌, ℕ, List, decimal, IfSome, IsSomeAnd};
+ghost use Rattle.desk_model.specs.declared.limits.TheConstants.{POSITION_LIMIT};
 ghost use Rattle.desk_base.specs.declared.minute.TheConstants.{YEARS_BEGIN};
 ghost use Rattle.desk_base.specs.Code.{IsCode};
 ghost use Rattle.desk_base.specs.Minute.{IsInYears, minute_text};
@@ -63,10 +64,10 @@ pub(crate) fn read_total(text: &[u8]) -> Option<(Month, u32)>
 
 /// A board, and a position on it, 1 to 9,999.
 pub(crate) fn read_board_position(text: &[u8]) -> Option<(Code, u16)>
-    ensures some { IfSome result (λ both. IsCode both.0 × (1 ≤ both.1) × (both.1 ≤ 9_999)
+    ensures some { IfSome result (λ both. IsCode both.0 × (1 ≤ both.1) × (both.1 ≤ POSITION_LIMIT)
         × (text.now ≡ both.0 ++ 32 ∷ decimal both.1)) }
     ensures only { (board : List ℕ) (position : ℕ) → IsCode board → 1 ≤ position
-        → position ≤ 9_999 → text.now ≡ board ++ 32 ∷ decimal position
+        → position ≤ POSITION_LIMIT → text.now ≡ board ++ 32 ∷ decimal position
         → result ≡ Some (board, position) }
 {
     let (board, position) = cut(text, b' ')?;

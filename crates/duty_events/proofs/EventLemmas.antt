@@ -1,5 +1,6 @@
 -- What one event more makes of the marks of a list and of what its minutes count as.
 use Rattle.std.proofs.Common.{◌≡◌, ℕ, ◌-◌, ◌<◌, ◌≤◌, Bool, true, false, nat_lt, if◌then◌else◌, Option, None, Some, Result, IsOk, List, [], ◌∷◌, ◌++◌, fold, refl, sym, subst, ap, ◌∙◌, arith, append_assoc}
+use Rattle.desk_base.specs.declared.minute.TheConstants.{YEARS_END}
 use Rattle.std.specs.Option.{option_map}
 use Rattle.std.proofs.lemmas.Bool.{false≢true, ltb-false}
 use Rattle.std.proofs.lemmas.List.{append-nil}
@@ -198,6 +199,6 @@ kind_of-behind es lawful t late = go (last_event es) (marks es) (shape_of es law
         ap (λ ns. kind_by ns t) shape.is ∙ kind_by-late shape.earlier (last_mark shape.from p) t (are_by-later (last_minute p) t late shape.earlier shape.by) late
 
 -- the latest minute lies before the year 2100
-pub reached-years : (es : List Event) → IsLawful es → reached (last_event es) < 68_374_080
+pub reached-years : (es : List Event) → IsLawful es → reached (last_event es) < YEARS_END
 reached-years es lawful =
-    lawful-induction (λ xs. reached (last_event xs) < 68_374_080) (omega arith) (λ old e before next was. omega (arith, ap reached (last_event-push old e), next.last_in)) es lawful
+    lawful-induction (λ xs. reached (last_event xs) < YEARS_END) (omega arith) (λ old e before next was. omega (arith, ap reached (last_event-push old e), next.last_in)) es lawful

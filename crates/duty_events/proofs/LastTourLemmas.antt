@@ -1,5 +1,6 @@
 -- A minute of the last tour that has ended belongs to it by the marks too.
 use Rattle.std.proofs.Common.{◌+◌, ◌-◌, ◌≡◌, ℕ, ◌<◌, ◌≤◌, Bool, true, false, cond, ◌&&◌, nat_le, if◌then◌else◌, Option, None, Some, IfSome, List, [], ◌∷◌, ◌++◌, reverse, refl, sym, subst, ap, ◌∙◌, arith}
+use Rattle.desk_base.specs.declared.minute.TheConstants.{YEARS_END}
 use Rattle.std.specs.Option.{option_or, option_map}
 use Rattle.std.specs.List.{find}
 use Rattle.std.proofs.lemmas.Bool.{le-leb}
@@ -141,7 +142,7 @@ pub last_tour-ends : (es : List Event) (o : Option Tour) → IsLawful es → o �
 last_tour-ends es None lawful is = tt
 last_tour-ends es (Some tour) lawful is = (owns-whole es tour lawful (sym is)).0
 
-pub last_tour-range : (es : List Event) (o : Option Tour) → IsLawful es → o ≡ last_tour es → IfSome o (λ tour. tour.end < 68_374_080)
+pub last_tour-range : (es : List Event) (o : Option Tour) → IsLawful es → o ≡ last_tour es → IfSome o (λ tour. tour.end < YEARS_END)
 last_tour-range es None lawful is = tt
 last_tour-range es (Some tour) lawful is = omega (arith, (owns-whole es tour lawful (sym is)).0, reached-years es lawful)
 

@@ -1,5 +1,6 @@
 -- Where tours begin and how many minutes they sum, one event more.
 use Rattle.std.proofs.Common.{◌≡◌, ℕ, ◌+◌, ◌-◌, ◌<◌, ◌≤◌, Bool, true, false, cond, ◌&&◌, nat_le, min, if◌then◌else◌, map, Option, None, Some, List, [], ◌∷◌, ◌++◌, reverse, refl, sym, subst, ap, ◌∙◌, arith, append_assoc}
+use Rattle.desk_base.specs.declared.minute.TheConstants.{YEARS_END}
 use Rattle.std.specs.List.{filter, find}
 use Rattle.std.proofs.lemmas.Bool.{le-leb, lt-leb}
 use Rattle.std.proofs.lemmas.List.{reverse-append, map-append}
@@ -89,7 +90,7 @@ unfolding sum_so_far
 sum_so_far-most es =
     omega (arith, minutes_where-most (λ u. is_in_tour (kind_of es u)) (begun_at (marks es)) (reached (last_event es) - begun_at (marks es)))
 
-pub sum_so_far-range : (es : List Event) → IsLawful es → sum_so_far es < 68_374_080
+pub sum_so_far-range : (es : List Event) → IsLawful es → sum_so_far es < YEARS_END
 sum_so_far-range es lawful = omega (arith, sum_so_far-most es, reached-years es lawful)
 
 -- none come behind the latest minute

@@ -1,4 +1,5 @@
 ghost use Rattle.std.specs.Prelude.{◌≡◌, ◌<◌, ◌≤◌, IfSome};
+ghost use Rattle.desk_base.specs.declared.minute.TheConstants.{YEARS_END};
 ghost use Rattle.duty_events.specs.Lists.{IsLawful, last_event, reached};
 ghost use Rattle.duty_events.specs.EndedTours.{begun, ended, last_tour};
 
@@ -13,7 +14,7 @@ pub fn last_tour(events: &[Event]) -> Option<Tour>
     ensures value { result ≡ last_tour events.now }
     ensures ends { IsLawful events.now
         → IfSome result (λ tour. tour.end ≤ reached (last_event events.now)) }
-    ensures range { IsLawful events.now → IfSome result (λ tour. tour.end < 68_374_080) }
+    ensures range { IsLawful events.now → IfSome result (λ tour. tour.end < YEARS_END) }
 {
     let mut last = None;
     let mut start = None;

@@ -1,4 +1,5 @@
 ghost use Rattle.std.specs.Prelude.{◌≡◌, ◌≢◌, ℕ, ◌+◌, ◌-◌, ◌<◌, ◌≤◌, if◌then◌else◌, true, false, Option, Some, List, [], ◌∷◌, ◌++◌, take};
+ghost use Rattle.desk_base.specs.declared.minute.TheConstants.{YEARS_END};
 ghost use Rattle.std.specs.Bool.{Decides};
 ghost use Rattle.std.specs.Option.{option_or};
 ghost use Rattle.duty_events.specs.declared.asked.Asked.{Asked};
@@ -123,7 +124,7 @@ pub fn tours_when_an_event_comes()
 pub fn sums_when_an_event_comes()
     ensures sum { (es : List Event) (e : Event) → IsLawful es → IsNext es e → sum_so_far (es ++ e ∷ [])
         ≡ (if begins (stage_of es) e then 0 else sum_so_far es + tour_minutes_between (last_event es) e) }
-    ensures range { (es : List Event) → IsLawful es → sum_so_far es < 68_374_080 }
+    ensures range { (es : List Event) → IsLawful es → sum_so_far es < YEARS_END }
     ensures ended { (es : List Event) (e : Event) → IsLawful es → IsNext es e
         → (tour : Tour) → ended (stage_of es) (last_begun es) e ≡ Some tour
         → asked_minutes asked.InTour (es ++ e ∷ []) tour.start (tour.end - tour.start)

@@ -1,5 +1,6 @@
 -- What is listed of all numbers is what is listed of those that something is kept under.
 use Rattle.std.proofs.Common.{◌≡◌, ℕ, zero, suc, ◌+◌, ◌≤◌, ◌<◌, false, nat_eq, nat_cmp, Less, Option, None, Some, is_some, map, filter, List, [], ◌∷◌, ◌++◌, ⊎_elim, refl, sym, ap, ◌∙◌, subst, arith}
+use Rattle.desk_base.specs.declared.limits.TheConstants.{NUMBER_LIMIT}
 use Rattle.std.specs.List.{All, IsDistinct, flat_map, range_with_len, list_any}
 use Rattle.std.specs.Prelude.{IsSome}
 use Rattle.indexmap.specs.IndexMap.{get, keys, IsUnique}
@@ -82,15 +83,15 @@ unkept : (book : TourBook) (h : History) (p : ℕ) (o : Option PersonTours) → 
 unkept book h p None none is = nothing h p is
 unkept book h p (Some k) none is = absurd (false≢true (sym none))
 
-numbered : (book : TourBook) (did : ℕ → List Deed) → AreTours book did → (p : ℕ) → (o : Option PersonTours) → get nat_eq book.people p ≡ o → IsSome o → LiesIn 1 9_999_999 p
+numbered : (book : TourBook) (did : ℕ → List Deed) → AreTours book did → (p : ℕ) → (o : Option PersonTours) → get nat_eq book.people p ≡ o → IsSome o → LiesIn 1 NUMBER_LIMIT p
 numbered book did are p None at some = absurd (false≢true some)
 numbered book did are p (Some k) at some = let is = are.numbered p k at in record { from = omega (arith, is.0); to = omega (arith, is.1) }
 
 pub excess-listed : (book : TourBook) (h : History) (all : List ℕ) → AreTours book (deeds h) → AreRising book all → excess_list h ≡ flat_map (excess_of h) all
 unfolding excess_list
 excess-listed book h all are rising =
-    listed-sorted (excess_of h) 1 9_999_999 all rising.rising
-    (All-from_any nat_eq_equiv (LiesIn 1 9_999_999) all (λ p is. numbered book (deeds h) are p (get nat_eq book.people p) refl (rising.each p ∙ is)))
+    listed-sorted (excess_of h) 1 NUMBER_LIMIT all rising.rising
+    (All-from_any nat_eq_equiv (LiesIn 1 NUMBER_LIMIT) all (λ p is. numbered book (deeds h) are p (get nat_eq book.people p) refl (rising.each p ∙ is)))
     (λ n from gone. unkept book h n (get nat_eq book.people n) (rising.each n ∙ gone) (are.each n))
 
 -- ---- those of whom something is kept

@@ -1,5 +1,6 @@
 -- The records of tours that have ended, 49 CFR 228.11, and those that were too long.
 use Rattle.std.specs.Prelude.{ℕ, ◌+◌, ◌-◌, Bool, false, ◌||◌, nat_lt, Option, unwrap_or, option_and_then, if◌then◌else◌, List, map, fold, filter, flat_map}
+use Rattle.desk_base.specs.declared.limits.TheConstants.{NUMBER_LIMIT}
 use Rattle.std.specs.List.{range_with_len}
 use Rattle.std.specs.Option.{option_map_or}
 use Rattle.duty_events.specs.declared.tour.Tour.{Tour}
@@ -61,4 +62,4 @@ excess_of h p = filter is_excess (tours h p)
 
 -- those of all persons, by rising number from 1 to 9,999,999, and each person's in order
 unfoldable pub excess_list : History → List TourRecord
-excess_list h = flat_map (excess_of h) (range_with_len 1 9_999_999)
+excess_list h = flat_map (excess_of h) (range_with_len 1 NUMBER_LIMIT)

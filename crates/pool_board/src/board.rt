@@ -1,4 +1,5 @@
 ghost use Rattle.std.specs.Prelude.{◌≡◌, ◌≢◌, ℕ, ◌+◌, ◌*◌, ◌<◌, ◌≤◌, IfOk, IfErr, IfSome, IsOk, is_some, true, false, Some, None, [], ◌∷◌, ◌++◌, length};
+ghost use Rattle.slot_tree.specs.declared.limits.TheConstants.{SLOT_LIMIT};
 ghost use Rattle.slot_tree.specs.Slots.{filled};
 ghost use Rattle.pool_board.specs.Members.{persons, is_listed, ready_of, without, are_distinct};
 ghost use Rattle.pool_board.specs.Positions.{at_position, FindsReadyPosition};
@@ -255,7 +256,7 @@ impl Board {
     /// Its slots, for a search: the filled ones are the members in order.
     pub fn slots(&self) -> &SlotTree
         ensures members { filled result.now ≡ self.now.members }
-        ensures length { length result.now ≡ 1_024 }
+        ensures length { length result.now ≡ SLOT_LIMIT }
         ensures most { length (filled result.now) ≤ MOST_MEMBERS }
         ensures distinct { are_distinct (persons (filled result.now)) ≡ true }
     {

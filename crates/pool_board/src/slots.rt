@@ -1,10 +1,11 @@
 //! A person among the slots of a board.
 ghost use Rattle.std.specs.Prelude.{◌≡◌, ℕ, ◌<◌, ◌≤◌, IfSome, None, Some, true, false, [], ◌∷◌, ◌++◌, is_some, length, slice_set};
+ghost use Rattle.slot_tree.specs.declared.limits.TheConstants.{SLOT_LIMIT};
 ghost use Rattle.slot_tree.specs.Slots.{slot_at, filled, filled_end};
 ghost use Rattle.pool_board.specs.Members.{holds, is_listed};
 
 use desk_base::{Minute, PersonNo, IndexHints};
-use slot_tree::SlotTree;
+use slot_tree::{SLOT_LIMIT, SlotTree};
 
 /// Where a person stands, and from when on they are ready.
 #[derive(Clone, Copy, Debug)]
@@ -36,7 +37,7 @@ fn look(tree: &SlotTree, slot: u32, person: PersonNo) -> Option<Standing>
 
 /// The slot of a person, who may be in that of the hint; `None` exactly where the person is in none.
 pub(crate) fn find(tree: &SlotTree, hint: u32, person: PersonNo) -> Option<Standing>
-    requires { length tree.now ≡ 1_024 }
+    requires { length tree.now ≡ SLOT_LIMIT }
     ensures found { IfSome result (λ at. slot_at tree.now at.slot
         ≡ Some (record { person = person; ready = at.ready })) }
     ensures only { result ≡ None → is_listed person (filled tree.now) ≡ false }
@@ -44,7 +45,7 @@ pub(crate) fn find(tree: &SlotTree, hint: u32, person: PersonNo) -> Option<Stand
     if let Some(at) = look(tree, hint, person) {
         return Some(at);
     }
-    for slot in 0..1_024 {
+    for slot in 0..SLOT_LIMIT {
         if let Some(at) = look(tree, slot, person) {
             return Some(at);
         }
@@ -59,7 +60,7 @@ pub(crate) fn hint_number(board: u8, person: PersonNo) -> u32 {
 
 // All persons were moved.
 fn renew(hints: &mut IndexHints, board: u8, tree: &SlotTree) {
-    for slot in 0..1_024 {
+    for slot in 0..SLOT_LIMIT {
         if let Some(held) = tree.at(slot) {
             hints.set(hint_number(board, held.person), slot as usize);
         }

@@ -1,4 +1,5 @@
 ghost use Rattle.std.specs.Prelude.{◌≡◌, ◌<◌, ◌≤◌};
+ghost use Rattle.desk_base.specs.declared.minute.TheConstants.{YEARS_END};
 ghost use Rattle.duty_events.specs.Lists.{IsLawful, last_event, reached};
 ghost use Rattle.rest_rules.specs.Excess.{tour_sum, excess};
 
@@ -11,7 +12,7 @@ pub fn excess(events: &[Event]) -> u32
     requires { IsLawful events.now }
     ensures value { result ≡ excess events.now }
     ensures most { result ≤ reached (last_event events.now) }
-    ensures range { result < 68_374_080 }
+    ensures range { result < YEARS_END }
 {
     match last_tour(events) {
         Some(tour) => tour_sum(events, &tour).saturating_sub(DUTY_LIMIT),

@@ -1,6 +1,7 @@
 -- How a slot tree is kept: nodes from the root, number 1, where node n has the two below it of numbers 2n and 2n + 1. The lowest are
 -- the slots, and each other node has the lesser number of its two.
 use Rattle.std.specs.Prelude.{◌≡◌, ℕ, ◌+◌, ◌*◌, ◌^◌, ◌<◌, ◌≤◌, min, Bool, nat_lt, Option, None, Some, is_some, List, length, take, slice_index}
+use Rattle.slot_tree.specs.declared.limits.TheConstants.{SLOT_LIMIT}
 use Rattle.std.specs.List.{count_by}
 use Rattle.slot_tree.specs.declared.slot.Slot.{Slot}
 use Rattle.slot_tree.specs.declared.nodes.TheConstants.{EMPTY}
@@ -51,7 +52,7 @@ FindsBelow nodes from m (Some at) = IsFirstBelow nodes from m at
 -- as many numbers as there are slots, at most 1,024, and each tells whether its slot is filled
 pub record AreKeys (slots : List (Option Slot)) (keys : List ℕ) : Type 0 where
   pub long : length keys ≡ length slots
-  pub few : length keys ≤ 1024
+  pub few : length keys ≤ SLOT_LIMIT
   pub mark : (s : ℕ) → s < length slots → marks_filled (slice_index keys s) ≡ is_some (slot_at slots s)
 
 -- of each 64 numbers none is below the one that stands for them

@@ -1,5 +1,6 @@
 //! The numbers of slots in order, counted: that of a filled slot is below `EMPTY`.
 ghost use Rattle.std.specs.Prelude.{◌≡◌, ℕ, ◌+◌, ◌≤◌, ◌<◌, None, IfSome, length, take, slice_index};
+ghost use Rattle.slot_tree.specs.declared.limits.TheConstants.{SLOT_LIMIT};
 ghost use Rattle.std.specs.List.{count_by};
 ghost use Rattle.slot_tree.specs.Nodes.{marks_filled, AreFloorsOf, FindsMarked};
 
@@ -10,7 +11,7 @@ pub(crate) const BLOCK: usize = 64;
 
 // How many of these are numbers of filled slots. No branch depends on them.
 fn count(keys: &[u32]) -> u32
-    requires { length keys.now ≤ 1_024 }
+    requires { length keys.now ≤ SLOT_LIMIT }
     ensures count { result ≡ count_by marks_filled keys.now }
     ensures few { result ≤ length keys.now }
 {
@@ -23,7 +24,7 @@ fn count(keys: &[u32]) -> u32
 
 // How many of a block are numbers of filled slots, where none of them is below this one, if one is given.
 fn count_from(block: &[u32], least: Option<&u32>) -> u32
-    requires few { length block.now ≤ 1_024 }
+    requires few { length block.now ≤ SLOT_LIMIT }
     requires least { IfSome least (λ n. (i : ℕ) → i < length block.now → n.now ≤ slice_index block.now i) }
     ensures count { result ≡ count_by marks_filled block.now }
     ensures few { result ≤ length block.now }
@@ -36,7 +37,7 @@ fn count_from(block: &[u32], least: Option<&u32>) -> u32
 
 /// How many of those before one are numbers of filled slots. `blocks` has for each 64 of them a number that none of these is below.
 pub(crate) fn filled_before(keys: &[u32], blocks: &[u32], slot: usize) -> u32
-    requires few { length keys.now ≤ 1_024 }
+    requires few { length keys.now ≤ SLOT_LIMIT }
     requires blocks { AreFloorsOf blocks.now keys.now }
     ensures { result ≡ count_by marks_filled (take slot keys.now) }
 {
@@ -53,7 +54,7 @@ pub(crate) fn filled_before(keys: &[u32], blocks: &[u32], slot: usize) -> u32
 
 // The number that is a filled slot's as this one from the front, from 1, read one by one.
 fn filled_in(keys: &[u32], position: u32) -> Option<usize>
-    requires { length keys.now ≤ 1_024 }
+    requires { length keys.now ≤ SLOT_LIMIT }
     ensures { FindsMarked keys.now position result }
 {
     let mut before = 0;
@@ -70,7 +71,7 @@ fn filled_in(keys: &[u32], position: u32) -> Option<usize>
 
 /// The number that is a filled slot's as this one from the front, from 1; `None` exactly where there is none. `blocks` is as above.
 pub(crate) fn filled_as(keys: &[u32], blocks: &[u32], position: u32) -> Option<usize>
-    requires few { length keys.now ≤ 1_024 }
+    requires few { length keys.now ≤ SLOT_LIMIT }
     requires blocks { AreFloorsOf blocks.now keys.now }
     ensures { FindsMarked keys.now position result }
 {

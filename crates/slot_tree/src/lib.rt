@@ -3,6 +3,7 @@
 
 mod counted_nodes;
 mod keys;
+mod limits;
 mod nodes;
 mod search;
 mod slot;
@@ -10,6 +11,7 @@ mod slot_tree;
 mod slots;
 mod steps;
 
+pub use limits::SLOT_LIMIT;
 pub use slot::Slot;
 pub use slot_tree::SlotTree;
 pub use steps::Steps;

@@ -1,5 +1,6 @@
 //! The first of one board whom nothing bars.
 ghost use Rattle.std.specs.Prelude.{◌≡◌, ℕ, ◌+◌, ◌*◌, ◌≤◌, true, Option, length};
+ghost use Rattle.slot_tree.specs.declared.limits.TheConstants.{SLOT_LIMIT};
 ghost use Rattle.denial_rules.specs.declared.bar.Bar.{Bar};
 ghost use Rattle.slot_tree.specs.Slots.{filled};
 ghost use Rattle.pool_board.specs.Members.{persons, are_distinct};
@@ -19,7 +20,7 @@ pub(crate) fn first_on<J: Judge, L: Ledger>(
     m: Minute,
     steps: &mut Steps<L>,
 ) -> Option<Found>
-    requires length { length slots.now ≡ 1_024 }
+    requires length { length slots.now ≡ SLOT_LIMIT }
     requires most { length (filled slots.now) ≤ 500 }
     requires distinct { are_distinct (persons (filled slots.now)) ≡ true }
     ensures first { (barred : ℕ → Option Bar) → J.judges judge.now barred → BarsUnready barred m (filled slots.now)

@@ -1,5 +1,6 @@
 -- The ranges of what is stated and of what is answered.
 use Rattle.std.specs.Prelude.{◌<◌, ◌≤◌, ◌^◌, ⊤}
+use Rattle.desk_model.specs.declared.limits.TheConstants.{POSITION_LIMIT}
 use Rattle.desk_base.specs.declared.minute.TheConstants.{YEARS_BEGIN}
 use Rattle.desk_base.specs.Number.{IsNumber}
 use Rattle.desk_base.specs.Code.{IsCode}
@@ -63,7 +64,7 @@ IsCommand (cmd.Withdraw vac person) = IsNumber vac × IsNumber person
 IsCommand (cmd.Annul vac) = IsNumber vac
 IsCommand (cmd.Drop person) = IsNumber person
 IsCommand (cmd.Hours person month) = IsNumber person × IsMonthInYears month
-IsCommand (cmd.At board place) = IsCode board × (1 ≤ place) × (place ≤ 9_999)
+IsCommand (cmd.At board place) = IsCode board × (1 ≤ place) × (place ≤ POSITION_LIMIT)
 IsCommand (cmd.Explain vac person) = IsNumber vac × IsNumber person
 IsCommand (cmd.Vac vac) = IsNumber vac
 
@@ -96,8 +97,8 @@ FitsFault (fault.OtherPlace place) = IsCode place
 -- each value of a reply is in its range: positions are 1 to 9,999, and the report of one that lapsed and a deadline, as the
 -- minute that a bar keeps, may lie behind the year 2099
 abbrev pub FitsReply : Reply → Type 0
-FitsReply (reply.Offered person board position) = IsNumber person × IsCode board × (1 ≤ position) × (position ≤ 9_999)
-FitsReply (reply.Clear board position) = IsCode board × (1 ≤ position) × (position ≤ 9_999)
+FitsReply (reply.Offered person board position) = IsNumber person × IsCode board × (1 ≤ position) × (position ≤ POSITION_LIMIT)
+FitsReply (reply.Clear board position) = IsCode board × (1 ≤ position) × (position ≤ POSITION_LIMIT)
 FitsReply (reply.Unfilled listed) = listed < 2 ^ 16
 FitsReply (reply.Seen person) = IsNumber person
 FitsReply (reply.NoOne count) = count < 2 ^ 16

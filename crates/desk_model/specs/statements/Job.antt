@@ -1,5 +1,6 @@
 -- Jobs that a crew is called for.
 use Rattle.std.specs.Prelude.{ℕ, ◌≤◌, Bool, List}
+use Rattle.desk_model.specs.declared.limits.TheConstants.{DUTY_PLAN_LIMIT, LIMBO_PLAN_LIMIT}
 use Rattle.desk_base.specs.Minute.{IsInYears}
 use Rattle.qualifications.specs.declared.craft.Craft.{Craft}
 
@@ -34,5 +35,5 @@ job_of vac craft quals place report duty limbo chain relief = record {
 pub record IsPlan (report duty limbo : ℕ) : Type 0 where
   pub report_in : IsInYears report
   pub some : 1 ≤ duty
-  pub most : duty ≤ 9_999
-  pub limbo_most : limbo ≤ 999
+  pub most : duty ≤ DUTY_PLAN_LIMIT
+  pub limbo_most : limbo ≤ LIMBO_PLAN_LIMIT
