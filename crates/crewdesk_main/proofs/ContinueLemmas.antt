@@ -1,14 +1,12 @@
 -- A journal that goes on.
 use Rattle.std.proofs.Common.{◌≡◌, ◌≢◌, ◌⊎◌, inl, inr, ◌≤◌, ℕ, Option, List, [], ◌∷◌, length, map, refl, sym, subst, ap, ◌∙◌, append-nil, arith}
 use Rattle.std.specs.List.{All}
-use Rattle.std.proofs.lemmas.List.{length-map}
 use Rattle.std.proofs.lemmas.List.Elements.{All-head, All-tail}
 use Rattle.desk_io.specs.declared.status.Status.{Status}
-use Rattle.desk_io.specs.declared.status.Status.TheVariants.{Fine, WriteFault, TooLong, NoMemory}
+use Rattle.desk_io.specs.declared.status.Status.TheVariants.{Fine, WriteFault, NoMemory}
 use Rattle.desk_io.specs.Giving.{AddsFront}
 use Rattle.desk_io.specs.Input.{TookAll}
 use Rattle.desk_model.specs.statements.Statement.{StatedValue}
-use Rattle.desk_model.specs.texts.StatedTexts.{stated_fields}
 use Rattle.desk_model.specs.statements.Fits.{IsStated}
 use Rattle.desk_model.specs.histories.History.{History, with_entry}
 use Rattle.desk_model.specs.texts.Journal.{journal}
@@ -22,7 +20,7 @@ use Rattle.audit_desk.specs.declared.verdict.Verdict.TheVariants as verdict
 use Rattle.audit_desk.specs.Found.{Finds}
 use Rattle.audit_desk.specs.Resumed.{Resumes}
 use Rattle.day_replay.specs.Ends.{WasRead, Tells}
-use Rattle.crewdesk_main.specs.Lines.{HasTooManyLines, HasFewLines}
+use Rattle.crewdesk_main.specs.Lines.{HasFewLines}
 use Rattle.crewdesk_main.specs.Audit.{IsAudited, ends_as}
 use Rattle.crewdesk_main.specs.Parts.{journal_of, more_of}
 use Rattle.day_replay.specs.Replay.{by_the_day_file, goes_on}

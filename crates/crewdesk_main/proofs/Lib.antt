@@ -1,4 +1,5 @@
 pub mod ContinueLemmas
+pub mod FormLemmas
 pub mod LineLemmas
 pub mod LinesEndLemmas
 pub mod NumberLemmas

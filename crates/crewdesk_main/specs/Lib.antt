@@ -6,5 +6,5 @@ pub mod Parts
 pub mod GoesOn
 pub mod Continue
 pub mod Records
-pub mod Forms
 pub mod Callers
+pub mod Forms

@@ -1,19 +1,20 @@
 -- The words that the program is given, and the forms of its command line.
-use Rattle.std.specs.Prelude.{ℕ, ◌^◌, ◌≤◌, ⊤, Bool, true, false, ◌&&◌, nat_eq, nat_le, nat_lt, Option, None, Some, if◌then◌else◌, List, [], ◌∷◌, codes, decimal, String, string_bytes}
+use Rattle.std.specs.Prelude.{ℕ, ◌^◌, ◌≤◌, ⊤, Bool, true, false, ◌&&◌, nat_eq, nat_le, nat_lt, Option, None, Some, if◌then◌else◌, List, [], ◌∷◌, length, codes, decimal, String, string_bytes}
 use Rattle.std.specs.Cmp.Lexicographic.{pointwise}
 use Rattle.std.specs.Str.Parse.{digits_value}
 use Rattle.std.specs.Global.{Global}
 use Rattle.desk_model.specs.declared.edition.Edition.{Edition}
 use Rattle.desk_model.specs.declared.edition.Edition.TheVariants as edition
+use Rattle.desk_model.specs.declared.limits.TheConstants.{LAST_CALLER}
 use Rattle.day_gen.specs.declared.numbers.TheConstants.{SET_UP}
 use Rattle.day_gen.specs.Generator.{most_commands}
 use Rattle.day_replay.specs.declared.day_form.DayForm.TheVariants as day
+use Rattle.serve_desk.specs.declared.sessions.Sessions.{Sessions}
+use Rattle.serve_desk.specs.declared.sessions.Sessions.TheVariants as sessions
 use Rattle.crewdesk_main.specs.declared.tour_form.TourForm.TheVariants as tour
 use Rattle.crewdesk_main.specs.declared.form.Form.{Form}
 use Rattle.crewdesk_main.specs.declared.form.Form.TheVariants as form
 use Rattle.crewdesk_main.specs.declared.limits.TheConstants.{MOST_SUPPOSED}
-use Rattle.crewdesk_main.specs.declared.sessions.Sessions.{Sessions}
-use Rattle.crewdesk_main.specs.declared.sessions.Sessions.TheVariants as sessions
 
 -- they are just this one
 abbrev pub is_alone : List ℕ → List (String Global) → Bool
@@ -21,9 +22,11 @@ is_alone form [] = false
 is_alone form (word ∷ []) = pointwise nat_eq (string_bytes word) form
 is_alone form (word ∷ other ∷ more) = false
 
--- the numbers of a form are what they may be: a day has no fewer commands than set its desk up, and no more than its edition has
+-- the numbers of a form are what they may be: a day has no fewer commands than set its desk up, and no more than its edition has; and
+-- someone is to be served, and no more than a desk may have
 abbrev pub HasNumbers : Form → Type 0
 HasNumbers (form.Gen commands number edition) = (SET_UP ≤ commands) × (commands ≤ most_commands edition)
+HasNumbers (form.Serve how callers) = (1 ≤ callers) × (callers ≤ LAST_CALLER)
 HasNumbers other = ⊤
 
 -- a word is this one
@@ -76,6 +79,18 @@ numbered_form (word ∷ commands ∷ number ∷ two ∷ []) =
     if is_word (codes "gen") word && is_word (codes "2") two then gen_form edition.Two (number_in (string_bytes commands)) (number_in (string_bytes number)) else None
 numbered_form other = None
 
+-- so many callers are served; none where nobody is named, or more than a desk may have
+abbrev pub serve_form : Sessions → ℕ → Option Form
+serve_form how callers = if nat_le 1 callers && nat_le callers LAST_CALLER then Some (form.Serve how callers) else None
+
+-- the form that words with callers' names are, `serve NAME ..` and `watch NAME ..`, or with numbers
+abbrev pub named_form : List (String Global) → Option Form
+named_form [] = None
+named_form (word ∷ names) =
+    if is_word (codes "serve") word then serve_form sessions.WithoutLooks (length names)
+    else if is_word (codes "watch") word then serve_form sessions.WithLooks (length names)
+    else numbered_form (word ∷ names)
+
 -- the form that they are; none where they are no form of the command line
 abbrev pub form_of : List (String Global) → Option Form
 form_of words =
@@ -86,13 +101,19 @@ form_of words =
     else if is_alone (codes "excess") words then Some (form.Tours tour.Excess)
     else if is_alone (codes "--help") words then Some form.Help
     else if is_alone (codes "--version") words then Some form.Version
-    else numbered_form words
+    else named_form words
 
--- the form runs the desk, and doesn't print what the program says of itself
+-- the form runs the desk for its source and its sink alone: it doesn't print what the program says of itself, and serves no callers
 abbrev pub runs : Form → Bool
 runs form.Help = false
 runs form.Version = false
+runs (form.Serve how callers) = false
 runs other = true
+
+-- the form serves callers
+abbrev pub serves : Form → Bool
+serves (form.Serve how callers) = true
+serves other = false
 
 -- the form reads a source
 abbrev pub reads : Form → Bool
@@ -100,18 +121,14 @@ reads (form.Day how) = true
 reads form.Audit = true
 reads form.Continue = true
 reads (form.Tours how) = true
+reads (form.Serve how callers) = true
 reads other = false
+
+-- and runs the desk for it and the sink alone
+abbrev pub asks : Form → Bool
+asks form = reads form && runs form
 
 -- so does the form that the words are, if they are one
 abbrev pub is_asked : (Form → Bool) → Option Form → Bool
 is_asked test None = false
 is_asked test (Some form) = test form
-
--- the callers that are to be served, by sessions without looks or with them, and by their names; none where the first word is
--- neither `serve` nor `watch`
-abbrev pub callers_of : List (String Global) → Option (Sessions × List (String Global))
-callers_of [] = None
-callers_of (word ∷ names) =
-    if is_word (codes "serve") word then Some (sessions.WithoutLooks, names)
-    else if is_word (codes "watch") word then Some (sessions.WithLooks, names)
-    else None

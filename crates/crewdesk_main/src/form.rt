@@ -1,5 +1,5 @@
 ghost use Rattle.std.specs.Prelude.{◌≡◌, IfSome};
-ghost use Rattle.crewdesk_main.specs.Words.{form_of, numbered_form, forecast_form, gen_form, record_form, when_form, number_in, HasNumbers};
+ghost use Rattle.crewdesk_main.specs.Words.{form_of, named_form, numbered_form, forecast_form, gen_form, record_form, serve_form, when_form, number_in, HasNumbers};
 
 use crate::limits::MOST_SUPPOSED;
 use crate::tour_form::TourForm;
@@ -7,7 +7,8 @@ use crate::words::{is_alone, read_number};
 use day_gen::{SET_UP, most_commands};
 use day_replay::DayForm;
 use desk_base::{PersonNo, VacNo};
-use desk_model::Edition;
+use desk_model::{Edition, LAST_CALLER};
+use serve_desk::Sessions;
 
 /// The forms of the command line.
 #[derive(Clone, Copy)]
@@ -33,6 +34,13 @@ pub enum Form {
         /// The edition of the rules.
         edition: Edition,
     },
+    /// Serves the callers of names behind a day file.
+    Serve {
+        /// By which sessions.
+        sessions: Sessions,
+        /// How many names there are, 1 to 63.
+        callers: u8,
+    },
 }
 
 impl Form {
@@ -56,8 +64,39 @@ impl Form {
         } else if is_alone(words, "--version") {
             Some(Form::Version)
         } else {
-            numbered(words)
+            named(words)
         }
+    }
+}
+
+// The form that words with callers' names are, or with numbers.
+fn named(words: &[String]) -> Option<Form>
+    ensures is { result ≡ named_form words.now }
+    ensures numbers { IfSome result HasNumbers }
+{
+    match words {
+        [word, names @ ..] if word.as_str() == "serve" => {
+            serve_form(Sessions::WithoutLooks, names.len())
+        }
+        [word, names @ ..] if word.as_str() == "watch" => {
+            serve_form(Sessions::WithLooks, names.len())
+        }
+        _ => numbered(words),
+    }
+}
+
+// The form that serves so many callers; `None` where none are named, or more than a desk may have.
+fn serve_form(sessions: Sessions, callers: usize) -> Option<Form>
+    ensures is { result ≡ serve_form sessions callers }
+    ensures numbers { IfSome result HasNumbers }
+{
+    if callers >= 1 && callers <= usize::from(LAST_CALLER) {
+        Some(Form::Serve {
+            sessions,
+            callers: callers as u8,
+        })
+    } else {
+        None
     }
 }
 

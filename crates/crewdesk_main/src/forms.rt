@@ -1,13 +1,10 @@
-//! The program's command line.
-ghost use Rattle.std.specs.Prelude.{◌≡◌, ◌≢◌, ◌≤◌, ◌↔◌, None, Some, false};
-ghost use Rattle.std.specs.Io.KnownBytes.{Keeps};
-ghost use Rattle.crewdesk_main.specs.declared.form.Form.{Form as FormValue};
-ghost use Rattle.day_replay.specs.Ends.{writes};
-ghost use Rattle.crewdesk_main.specs.Forms.{Ends};
-ghost use Rattle.crewdesk_main.specs.Words.{form_of, is_asked, reads};
+//! What the program does that serves no callers.
+ghost use Rattle.std.specs.Prelude.{◌≡◌, ◌↔◌, false, true};
+ghost use Rattle.crewdesk_main.specs.Forms.{Ends, KeepsCounts};
+ghost use Rattle.crewdesk_main.specs.Words.{HasNumbers, asks, serves};
 
 use crate::form::Form;
-use crate::run::run;
+use crate::run::run_form;
 use crate::write_text::write_text;
 use desk_io::{Sink, Source, Status};
 use std::alloc::Global;
@@ -32,32 +29,27 @@ crewdesk --version       prints the program's name and version
 
 const VERSION: &str = "crewdesk 0.1.0\n";
 
-/// Prints what is asked for of the program itself, or runs the desk.
+/// Prints what is asked for of the program itself, or runs the desk as the form says. It waits for nobody: of a form that serves callers
+/// `Usage` comes.
 pub fn perform<S: Source, K: Sink>(
     alloc: Global,
-    words: &[String],
+    form: Form,
     source: &mut S,
     sink: &mut K,
 ) -> Status
-    ensures usage { result ≡ Status.Usage ↔ (form_of words.now ≡ None) }
-    ensures ends { (form : FormValue) → form_of words.now ≡ Some form → Ends form result
+    requires numbers { HasNumbers form }
+    ensures usage { result ≡ Status.Usage ↔ (serves form ≡ true) }
+    ensures ends { serves form ≡ false → Ends form result
         (S.left source.old) (S.left source.new) (S.faults source.old) (S.faults source.new)
         (K.held sink.old) (K.held sink.new) (K.faults sink.old) (K.faults sink.new) }
-
-    ensures unasked { is_asked reads (form_of words.now) ≡ false
-        → S.left source.new ≡ S.left source.old }
-    ensures unasked_faults { is_asked reads (form_of words.now) ≡ false
-        → S.faults source.new ≡ S.faults source.old }
-    ensures silent { writes result ≡ false → Keeps (K.held sink.old) (K.held sink.new) }
-    ensures read_count { result ≢ Status.ReadFault → S.faults source.new ≡ S.faults source.old }
-    ensures write_count { result ≢ Status.WriteFault → result ≢ Status.AuditWrong
-        → result ≢ Status.Unreadable → K.faults sink.new ≡ K.faults sink.old }
-    ensures source_faults_grow { S.faults source.old ≤ S.faults source.new }
-    ensures sink_faults_grow { K.faults sink.old ≤ K.faults sink.new }
+    ensures unasked { asks form ≡ false → S.left source.new ≡ S.left source.old }
+    ensures unasked_faults { asks form ≡ false → S.faults source.new ≡ S.faults source.old }
+    ensures counts { KeepsCounts result (S.faults source.old) (S.faults source.new)
+        (K.held sink.old) (K.held sink.new) (K.faults sink.old) (K.faults sink.new) }
 {
-    match Form::read(words) {
-        Some(Form::Help) => write_text(sink, HELP.as_bytes()),
-        Some(Form::Version) => write_text(sink, VERSION.as_bytes()),
-        _ => run(alloc, words, source, sink),
+    match form {
+        Form::Help => write_text(sink, HELP.as_bytes()),
+        Form::Version => write_text(sink, VERSION.as_bytes()),
+        _ => run_form(alloc, form, source, sink),
     }
 }

@@ -14,13 +14,10 @@ ghost use Rattle.day_replay.specs.Replay.{goes_on};
 
 use crate::limits::JOURNAL_ENTRIES;
 use command_parser::{MoreFault, read_more};
-use day_replay::{tell_wrong, write_entries};
+use day_replay::{PIECE_BYTES, tell_wrong, write_entries};
 use desk_io::{Sink, Status, put_all};
 use desk_model::{DeskCore, Stated};
 use std::alloc::Global;
-
-// How many bytes of the journal are put into the sink at once, at most.
-const BUFFER_BYTES: usize = 65_536;
 
 /// Reads the commands behind a journal of so many entries, steps the desk that stands behind it through them as caller 0, and
 /// writes the journal that goes on with their entries; where a command is wrong it writes a line that says which field.
@@ -75,7 +72,7 @@ fn print_more<C: DeskCore, K: Sink>(
     ensures faults_grow { K.faults sink.old ≤ K.faults sink.new }
     ensures only { (result ≡ Status.Fine) ⊎ ((result ≡ Status.WriteFault) ⊎ (result ≡ Status.NoMemory)) }
 {
-    let Ok(mut buffer) = Vec::with_capacity(alloc, BUFFER_BYTES) else {
+    let Ok(mut buffer) = Vec::with_capacity(alloc, PIECE_BYTES) else {
         return Status::NoMemory;
     };
     if write_more(core, text, commands, &mut buffer, sink) {

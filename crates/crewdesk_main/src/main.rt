@@ -12,11 +12,10 @@ mod forms;
 mod generate;
 mod go_on;
 mod limits;
-mod named_callers;
 mod read_tours;
 mod run;
 mod serve_form;
-mod sessions;
+mod start;
 mod take_journal;
 mod tour_form;
 mod tours;
@@ -25,9 +24,7 @@ mod write_text;
 
 use desk_io::{ReaderSource, Status, WriterSink};
 use exit::exit;
-use forms::perform;
-use named_callers::named_callers;
-use serve_form::serve_callers;
+use start::start;
 use std::env;
 use std::io::ErrorKind;
 use std::process::ExitCode;
@@ -38,16 +35,7 @@ fn main(rt: HostRuntime) -> ExitCode {
     let mut source = ReaderSource::new(rt.stdin());
     let mut sink = WriterSink::new(rt.stdout());
     let status = match given_words(&rt) {
-        Ok(words) => match named_callers(&words) {
-            Some(callers) => serve_callers(
-                &rt,
-                callers.sessions,
-                callers.names,
-                &mut source,
-                &mut sink,
-            ),
-            None => perform(rt.alloc(), &words, &mut source, &mut sink),
-        },
+        Ok(words) => start(&rt, &words, &mut source, &mut sink),
         Err(status) => status,
     };
     exit(&rt, status)

@@ -1,10 +1,8 @@
 //! The desk, run as its words say.
-ghost use Rattle.std.specs.Prelude.{◌≡◌, ◌≢◌, ◌≤◌, ◌↔◌, Some, false, true};
-ghost use Rattle.std.specs.Io.KnownBytes.{Keeps};
+ghost use Rattle.std.specs.Prelude.{◌≡◌, ◌↔◌, Some, false, true};
 ghost use Rattle.crewdesk_main.specs.declared.form.Form.{Form as FormValue};
-ghost use Rattle.day_replay.specs.Ends.{writes};
-ghost use Rattle.crewdesk_main.specs.Forms.{Ends};
-ghost use Rattle.crewdesk_main.specs.Words.{form_of, is_asked, reads, runs};
+ghost use Rattle.crewdesk_main.specs.Forms.{Ends, KeepsCounts};
+ghost use Rattle.crewdesk_main.specs.Words.{HasNumbers, asks, form_of, is_asked, runs};
 
 use crate::audit_form::audit_journal;
 use crate::continue_form::continue_journal;
@@ -32,30 +30,46 @@ pub fn run<S: Source, K: Sink>(
         → Ends form result
         (S.left source.old) (S.left source.new) (S.faults source.old) (S.faults source.new)
         (K.held sink.old) (K.held sink.new) (K.faults sink.old) (K.faults sink.new) }
-
-    ensures unasked { is_asked reads (form_of words.now) ≡ false
+    ensures unasked { is_asked asks (form_of words.now) ≡ false
         → S.left source.new ≡ S.left source.old }
-    ensures unasked_faults { is_asked reads (form_of words.now) ≡ false
+    ensures unasked_faults { is_asked asks (form_of words.now) ≡ false
         → S.faults source.new ≡ S.faults source.old }
-    ensures silent { writes result ≡ false → Keeps (K.held sink.old) (K.held sink.new) }
-    ensures read_count { result ≢ Status.ReadFault → S.faults source.new ≡ S.faults source.old }
-    ensures write_count { result ≢ Status.WriteFault → result ≢ Status.AuditWrong
-        → result ≢ Status.Unreadable → K.faults sink.new ≡ K.faults sink.old }
-    ensures source_faults_grow { S.faults source.old ≤ S.faults source.new }
-    ensures sink_faults_grow { K.faults sink.old ≤ K.faults sink.new }
+    ensures counts { KeepsCounts result (S.faults source.old) (S.faults source.new)
+        (K.held sink.old) (K.held sink.new) (K.faults sink.old) (K.faults sink.new) }
 {
     match Form::read(words) {
-        Some(Form::Day(form)) => replay_day(alloc, form, source, sink),
-        Some(Form::Audit) => audit_journal(alloc, source, sink),
-        Some(Form::Continue) => continue_journal(alloc, source, sink),
-        Some(Form::Tours(form)) => tell_tours(alloc, form, source, sink),
-        Some(
-            Form::Gen {
-                commands,
-                number,
-                edition,
-            },
-        ) => tally_generated(alloc, commands, number, edition, sink),
-        Some(Form::Help) | Some(Form::Version) | None => Status::Usage,
+        Some(form) => run_form(alloc, form, source, sink),
+        None => Status::Usage,
+    }
+}
+
+/// Runs the desk as the form says, where it takes a source and a sink alone: for any other form `Usage` comes.
+pub fn run_form<S: Source, K: Sink>(
+    alloc: Global,
+    form: Form,
+    source: &mut S,
+    sink: &mut K,
+) -> Status
+    requires numbers { HasNumbers form }
+    ensures usage { result ≡ Status.Usage ↔ (runs form ≡ false) }
+    ensures ends { runs form ≡ true → Ends form result
+        (S.left source.old) (S.left source.new) (S.faults source.old) (S.faults source.new)
+        (K.held sink.old) (K.held sink.new) (K.faults sink.old) (K.faults sink.new) }
+    ensures unasked { asks form ≡ false → S.left source.new ≡ S.left source.old }
+    ensures unasked_faults { asks form ≡ false → S.faults source.new ≡ S.faults source.old }
+    ensures counts { KeepsCounts result (S.faults source.old) (S.faults source.new)
+        (K.held sink.old) (K.held sink.new) (K.faults sink.old) (K.faults sink.new) }
+{
+    match form {
+        Form::Day(form) => replay_day(alloc, form, source, sink),
+        Form::Audit => audit_journal(alloc, source, sink),
+        Form::Continue => continue_journal(alloc, source, sink),
+        Form::Tours(form) => tell_tours(alloc, form, source, sink),
+        Form::Gen {
+            commands,
+            number,
+            edition,
+        } => tally_generated(alloc, commands, number, edition, sink),
+        Form::Help | Form::Version | Form::Serve { .. } => Status::Usage,
     }
 }

@@ -1,22 +1,14 @@
 //! The form that serves callers.
-ghost use Rattle.std.specs.Prelude.{◌≡◌, ◌≢◌, ◌≤◌, ◌↔◌, ◌⊎◌, length, false};
-ghost use Rattle.std.specs.Io.KnownBytes.{Appends, Keeps};
-ghost use Rattle.desk_io.specs.Faults.{Rose};
-ghost use Rattle.desk_io.specs.Giving.{AddsFront};
-ghost use Rattle.desk_io.specs.Input.{TookMore, TookFront};
-ghost use Rattle.command_parser.specs.DayFile.{HasTooMany, HasNoOpening};
-ghost use Rattle.day_replay.specs.Ends.{WasRead, WritesOrFails, writes};
-ghost use Rattle.day_replay.specs.Replay.{FindsWrong, EndsByTheDay};
-ghost use Rattle.day_replay.specs.declared.day_input.TheConstants.{DAY_BYTES};
+ghost use Rattle.std.specs.Prelude.{◌≡◌, ◌↔◌, length};
+ghost use Rattle.day_replay.specs.Replay.{EndsDay};
 ghost use Rattle.serve_desk.specs.Serve.{IsNoNumberOfLines};
 ghost use Rattle.crewdesk_main.specs.Callers.{ServesNames};
 
-use crate::sessions::Sessions;
 use caller_lines::{CallerLine, FileLine};
 use desk_base::NoMemory;
 use desk_io::{Sink, Source, Status};
 use desk_model::LAST_CALLER;
-use serve_desk::{serve, watch};
+use serve_desk::{Sessions, serve_by};
 use std::fs::{File, Files};
 use std::sync::Wait;
 use std::thread::Threads;
@@ -35,39 +27,11 @@ pub fn serve_callers<R, S: Source, K: Sink>(
 where
     R: Files<File = File> + Threads + Wait + Sync + AllocGlobal,
     ensures usage { result ≡ Status.Usage ↔ IsNoNumberOfLines (length names.now) }
-    ensures fine { result ≡ Status.Fine
-        → ServesNames sessions (length names.now) (S.left source.old) (S.left source.new)
-        (Appends (K.held sink.old) (K.held sink.new)) }
-    ensures write_fault { result ≡ Status.WriteFault
-        → ServesNames sessions (length names.now) (S.left source.old) (S.left source.new)
-        (AddsFront (K.held sink.old) (K.held sink.new)) }
+    ensures ends { EndsDay result
+        (ServesNames sessions (length names.now) (S.left source.old) (S.left source.new))
+        (S.left source.old) (S.left source.new) (S.faults source.old) (S.faults source.new)
+        (K.held sink.old) (K.held sink.new) (K.faults sink.old) (K.faults sink.new) }
     ensures unread { result ≡ Status.Usage → S.left source.new ≡ S.left source.old }
-    ensures silent { writes result ≡ false → Keeps (K.held sink.old) (K.held sink.new) }
-
-    ensures read_count { result ≢ Status.ReadFault → S.faults source.new ≡ S.faults source.old }
-    ensures write_count { result ≢ Status.WriteFault → result ≢ Status.Unreadable
-        → K.faults sink.new ≡ K.faults sink.old }
-    ensures source_faults_grow { S.faults source.old ≤ S.faults source.new }
-    ensures sink_faults_grow { K.faults sink.old ≤ K.faults sink.new }
-    ensures write_cause { result ≡ Status.WriteFault
-        → Rose (K.faults sink.old) (K.faults sink.new) }
-    ensures read_cause { result ≡ Status.ReadFault
-        → Rose (S.faults source.old) (S.faults source.new) }
-    ensures too_long { result ≡ Status.TooLong
-        → TookMore (S.left source.old) (S.left source.new) DAY_BYTES
-        ⊎ WasRead DAY_BYTES (S.left source.old) (S.left source.new) HasTooMany }
-    ensures not_too_long { result ≢ Status.TooLong
-        → TookFront (S.left source.old) (S.left source.new) DAY_BYTES }
-    ensures no_opening { result ≡ Status.NoOpening
-        → WasRead DAY_BYTES (S.left source.old) (S.left source.new) HasNoOpening }
-    ensures unreadable { result ≡ Status.Unreadable
-        → FindsWrong (S.left source.old) (S.left source.new)
-        (WritesOrFails (K.held sink.old) (K.held sink.new)
-        (K.faults sink.old) (K.faults sink.new)) }
-    ensures audit_wrong { result ≢ Status.AuditWrong }
-
-    // And each of these comes where its cause is, unless memory or a fault is in the way.
-    ensures by_the_day { result ≢ Status.Usage → EndsByTheDay result (S.left source.old) }
 {
     if names.is_empty() || names.len() > usize::from(LAST_CALLER) {
         return Status::Usage;
@@ -81,10 +45,7 @@ where
             return Status::NoMemory;
         }
     }
-    match sessions {
-        Sessions::WithoutLooks => serve(rt, rt.alloc(), source, &mut lines, sink),
-        Sessions::WithLooks => watch(rt, rt.alloc(), source, &mut lines, sink),
-    }
+    serve_by(rt, rt.alloc(), sessions, source, &mut lines, sink)
 }
 
 // The line of a caller over the files of this name.

@@ -21,6 +21,16 @@ pub fn behind_the_name(alloc: Global, given: Args) -> Result<Vec<String>, NoMemo
     Ok(words)
 }
 
+/// The words behind the first, which says what they are.
+pub fn behind_the_first(words: &[String]) -> &[String]
+    ensures { result.now ≡ drop 1 words.now }
+{
+    match words {
+        [_, others @ ..] => others,
+        [] => words,
+    }
+}
+
 /// Whether the words are just this one.
 pub fn is_alone(words: &[String], form: &str) -> bool
     ensures { result ≡ is_alone form.now words.now }

@@ -1,3 +1,4 @@
+pub mod EndsLemmas
 pub mod ForecastLemmas
 pub mod HistoryLemmas
 pub mod InputLemmas

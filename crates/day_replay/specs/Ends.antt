@@ -2,7 +2,7 @@
 use Rattle.std.specs.Prelude.{◌≡◌, ◌≢◌, ◌⊎◌, ℕ, ◌<◌, ◌≤◌, Bool, true, false, Option, None, Some, List, [], length, ⊤}
 use Rattle.desk_io.specs.declared.status.Status.{Status}
 use Rattle.desk_io.specs.declared.status.Status.TheVariants.{Fine, ReadFault, WriteFault, NoMemory, AuditWrong, Unreadable}
-use Rattle.std.specs.Io.KnownBytes.{Appends}
+use Rattle.std.specs.Io.KnownBytes.{Appends, Keeps}
 use Rattle.desk_io.specs.Faults.{Rose}
 use Rattle.desk_io.specs.Giving.{AddsFront}
 
@@ -39,3 +39,14 @@ writes WriteFault = true
 writes AuditWrong = true
 writes Unreadable = true
 writes _ = false
+
+-- how a run ends that has read its input and did this with what it wrote, for which it took all memory before: what its sink told before
+-- and after, and how many faults it counted
+pub record EndsWriting (result : Status) (Done : (List ℕ → Type 0) → Type 0) (held held' : Option (List ℕ)) (given given' : ℕ) : Type 0 where
+  pub fine : result ≡ Fine → Done (Appends held held')
+  pub write_fault : result ≡ WriteFault → Done (AddsFront held held')
+  pub write_cause : result ≡ WriteFault → Rose given given'
+  pub silent : result ≡ NoMemory → Keeps held held'
+  pub write_count : result ≢ WriteFault → given' ≡ given
+  pub faults_grow : given ≤ given'
+  pub only : (result ≡ Fine) ⊎ ((result ≡ WriteFault) ⊎ (result ≡ NoMemory))

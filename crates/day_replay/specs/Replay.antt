@@ -1,8 +1,8 @@
 -- What a replay reads and writes.
-use Rattle.std.specs.Prelude.{◌≡◌, ◌≢◌, ◌⊎◌, ℕ, Option, Result, Ok, Err, List, map}
+use Rattle.std.specs.Prelude.{◌≡◌, ◌≢◌, ◌⊎◌, ℕ, ◌≤◌, false, Option, Result, Ok, Err, List, map}
 use Rattle.desk_io.specs.declared.status.Status.{Status}
-use Rattle.desk_io.specs.declared.status.Status.TheVariants.{Fine, ReadFault, WriteFault, TooLong, NoMemory, AuditWrong, NoOpening, Unreadable}
-use Rattle.std.specs.Io.KnownBytes.{Appends}
+use Rattle.desk_io.specs.declared.status.Status.TheVariants.{Fine, Usage, ReadFault, WriteFault, TooLong, NoMemory, AuditWrong, NoOpening, Unreadable}
+use Rattle.std.specs.Io.KnownBytes.{Appends, Keeps}
 use Rattle.desk_io.specs.Faults.{Rose}
 use Rattle.desk_io.specs.Giving.{AddsFront}
 use Rattle.desk_io.specs.Input.{TookMore, TookFront}
@@ -18,7 +18,7 @@ use Rattle.day_replay.specs.declared.day_form.DayForm.{DayForm}
 use Rattle.day_replay.specs.declared.day_form.DayForm.TheVariants as form
 use Rattle.day_replay.specs.declared.day_input.TheConstants.{DAY_BYTES}
 use Rattle.day_replay.specs.Forecast.{forecast_text, when_text}
-use Rattle.day_replay.specs.Ends.{WasRead, WritesOrFails, Tells, TellsMore, EndsAs}
+use Rattle.day_replay.specs.Ends.{WasRead, WritesOrFails, Tells, TellsMore, EndsAs, writes}
 
 -- stated by caller 0, as a day file's commands are
 abbrev pub by_the_day_file : StatedValue → ℕ × StatedValue
@@ -80,11 +80,11 @@ abbrev pub taking_status : {A : Type 0} → Result A Status → Status
 taking_status (Ok day) = Fine
 taking_status (Err status) = status
 
--- a run that ended so did what a replay that ends so does, of whose history this text is written: what its source and sink
--- told before and after, and how many faults they counted
-pub record EndsReplay (result : Status) (text : History → List ℕ) (left left' : Option (List ℕ)) (asked asked' : ℕ) (held held' : Option (List ℕ)) (given given' : ℕ) : Type 0 where
-  pub fine : result ≡ Fine → Replays left left' text (Appends held held')
-  pub write_fault : result ≡ WriteFault → Replays left left' text (AddsFront held held')
+-- how a run ends that reads a day file, and did this with what it wrote: what its source and sink told before and after, and how many
+-- faults they counted. The line that says which field is wrong may be written where there is no day
+pub record EndsDay (result : Status) (Done : (List ℕ → Type 0) → Type 0) (left left' : Option (List ℕ)) (asked asked' : ℕ) (held held' : Option (List ℕ)) (given given' : ℕ) : Type 0 where
+  pub fine : result ≡ Fine → Done (Appends held held')
+  pub write_fault : result ≡ WriteFault → Done (AddsFront held held')
   pub write_cause : result ≡ WriteFault → Rose given given'
   pub read_cause : result ≡ ReadFault → Rose asked asked'
   pub too_long : result ≡ TooLong → TookMore left left' DAY_BYTES ⊎ WasRead DAY_BYTES left left' HasTooMany
@@ -92,4 +92,10 @@ pub record EndsReplay (result : Status) (text : History → List ℕ) (left left
   pub no_opening : result ≡ NoOpening → WasRead DAY_BYTES left left' HasNoOpening
   pub unreadable : result ≡ Unreadable → FindsWrong left left' (WritesOrFails held held' given given')
   pub not_wrong : result ≢ AuditWrong
-  pub by_the_day : EndsByTheDay result left
+  -- each of these comes where its cause is, unless memory or a fault is in the way
+  pub by_the_day : result ≢ Usage → EndsByTheDay result left
+  pub silent : writes result ≡ false → Keeps held held'
+  pub read_count : result ≢ ReadFault → asked' ≡ asked
+  pub write_count : result ≢ WriteFault → result ≢ Unreadable → given' ≡ given
+  pub source_faults_grow : asked ≤ asked'
+  pub sink_faults_grow : given ≤ given'

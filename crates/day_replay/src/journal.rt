@@ -16,6 +16,9 @@ use desk_model::{DeskCore, Entry, Opening, Stated};
 use line_writer::{LineText, fill_with_entry, write_opening};
 use record_rows::LastMinute;
 
+/// How many bytes of a journal are put into a sink at once, at most.
+pub const PIECE_BYTES: usize = 65_536;
+
 /// Steps a desk that was opened so and has answered nothing yet through the commands as caller 0, and writes its journal, as
 /// many lines at once as the buffer holds. It says whether the sink took all lines, and stops at the first fault.
 pub fn write_journal<C: DeskCore, K: Sink>(

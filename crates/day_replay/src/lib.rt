@@ -13,6 +13,6 @@ mod replay;
 
 pub use day_form::DayForm;
 pub use day_input::{DAY_BYTES, take_day, tell_wrong, the_most_bytes_of_a_day_file};
-pub use journal::{write_entries, write_history, write_journal};
+pub use journal::{PIECE_BYTES, write_entries, write_history, write_journal};
 pub use lines::gather;
 pub use replay::replay_day;

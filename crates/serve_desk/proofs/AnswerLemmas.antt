@@ -1,5 +1,5 @@
 -- What follows an answer, from what was said by it and what was put.
-use Rattle.std.proofs.Common.{◌≡◌, ◌≢◌, ℕ, ◌<◌, true, List, [], ◌∷◌, None, Some, map, refl, sym, ap, ◌∙◌, subst}
+use Rattle.std.proofs.Common.{◌≡◌, ◌≢◌, ℕ, ◌<◌, true, List, [], ◌∷◌, None, Some, refl, sym, ap, ◌∙◌, subst}
 use Rattle.std.specs.declared.option.Option.{Option}
 use Rattle.desk_model.specs.statements.Entry.{EntryValue}
 use Rattle.desk_model.specs.histories.History.{History, history_of}
@@ -20,10 +20,10 @@ use Rattle.serve_desk.specs.declared.limits.TheConstants.{LINES_PER_CALLER}
 use Rattle.serve_desk.specs.declared.why.Why.{Why}
 use Rattle.serve_desk.specs.declared.why.Why.TheVariants as why
 use Rattle.serve_desk.specs.Texts.{too_many, too_long, no_memory, malformed, spent}
-use Rattle.serve_desk.specs.Told.{with_all, LineValue}
+use Rattle.serve_desk.specs.Told.{LineValue}
 use Rattle.serve_desk.specs.Follows.{is_line, Puts, Follows, it_is_put, it_is_not_put, the_end, a_fault, one_line_too_many, a_line_too_long, no_memory_for_a_line, no_command, no_call_left, a_call}
 use Rattle.serve_desk.specs.Answers.{PutsOn, Replies, Answers}
-use Rattle.serve_desk.proofs.ToldLemmas.{with_all-none, with_all-one, with_last-then}
+use Rattle.serve_desk.proofs.ToldLemmas.{with_all-none, with_all-one}
 use Rattle.serve_desk.proofs.SeatLemmas.{Made-none, Made-one}
 
 -- a text was put, or wasn't

@@ -1,5 +1,5 @@
 -- What follows an answer where looks are heard, from what was said by it and what was put.
-use Rattle.std.proofs.Common.{◌≡◌, ◌≢◌, ℕ, zero, suc, ◌<◌, ◌≤◌, true, false, List, [], ◌∷◌, ◌++◌, length, None, Some, is_some, map, refl, sym, ap, ◌∙◌, subst, arith}
+use Rattle.std.proofs.Common.{◌≡◌, ◌≢◌, ℕ, zero, suc, ◌<◌, ◌≤◌, true, false, List, [], ◌∷◌, ◌++◌, length, None, Some, map, refl, sym, ap, ◌∙◌, subst, arith}
 use Rattle.std.specs.declared.option.Option.{Option}
 use Rattle.std.specs.Prelude.{⊤}
 use Rattle.std.proofs.lemmas.List.{append_cancel_right}
@@ -43,7 +43,7 @@ use Rattle.serve_desk.specs.WatchFollows.{Looked, Called, AsksNoRequest, PutsAll
 use Rattle.serve_desk.proofs.AnswerLemmas.{line-said, follows-too_long, follows-malformed, follows-spent, follows-call}
 use Rattle.serve_desk.proofs.SeatLemmas.{Made-none, Made-one, Made-crew}
 use Rattle.serve_desk.proofs.SightLemmas.{prefix-self}
-use Rattle.serve_desk.proofs.ToldLemmas.{with_all-none, with_all-more, with_last-then}
+use Rattle.serve_desk.proofs.ToldLemmas.{with_all-none, with_last-then}
 
 -- ---- what was said
 

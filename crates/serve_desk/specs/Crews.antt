@@ -1,5 +1,5 @@
 -- The texts that answer crew calls, behind the lines of their entries.
-use Rattle.std.specs.Prelude.{ℕ, zero, suc, List, [], ◌∷◌, ◌++◌, map, codes, decimal}
+use Rattle.std.specs.Prelude.{ℕ, List, [], ◌∷◌, ◌++◌, map, codes, decimal}
 use Rattle.crew_call.specs.declared.crew_outcome.CrewOutcome.{CrewOutcome}
 use Rattle.crew_call.specs.declared.crew_outcome.CrewOutcome.TheVariants as outcome
 use Rattle.desk_model.specs.statements.Entry.{EntryValue}

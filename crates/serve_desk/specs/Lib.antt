@@ -16,3 +16,4 @@ pub mod Sees
 pub mod Watches
 pub mod WatchAnswers
 pub mod WatchLines
+pub mod ServeBy

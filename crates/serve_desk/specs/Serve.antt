@@ -61,11 +61,5 @@ pub record ServesAllOfDay (One : OpeningValue → ℕ → OneOfAll) (before afte
 abbrev pub served : OpeningValue → ℕ → OneOfAll
 served o begun entries number mine line later = IsServed CALLS_PER_LINE mine line later
 
-abbrev pub ServesBehind : History → List LineValue → List LineValue → (List ℕ → Type 0) → Type 0
-ServesBehind before lines later Writes = ServesAllBehind (served before.opening (length before.entries)) before lines later Writes
-
-abbrev pub ServesHistory : OpeningValue → List StatedValue → List LineValue → List LineValue → (List ℕ → Type 0) → Type 0
-ServesHistory o commands lines later Writes = ServesAllOf (served o (length commands)) o commands lines later Writes
-
 abbrev pub ServesDay : Option (List ℕ) → Option (List ℕ) → List LineValue → List LineValue → (List ℕ → Type 0) → Type 0
 ServesDay before after lines later Writes = ServesAllOfDay served before after lines later Writes

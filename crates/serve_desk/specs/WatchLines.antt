@@ -5,16 +5,14 @@ use Rattle.board_window.specs.Walls.{FrontValue}
 use Rattle.caller_lines.specs.LineCalls.{LineCall}
 use Rattle.desk_io.specs.Faults.{Rose}
 use Rattle.desk_model.specs.statements.Entry.{EntryValue}
-use Rattle.desk_model.specs.histories.History.{History}
 use Rattle.desk_model.specs.statements.Opening.{OpeningValue}
-use Rattle.desk_model.specs.statements.Statement.{StatedValue}
 use Rattle.turn_gate.specs.Seats.{GateValue, SeatValue}
 use Rattle.turn_gate.specs.Told.{own}
 use Rattle.serve_desk.specs.declared.limits.TheConstants.{CALLS_PER_LINE}
 use Rattle.serve_desk.specs.declared.why.Why.{Why}
 use Rattle.serve_desk.specs.declared.why.Why.TheVariants.{LineFault}
 use Rattle.serve_desk.specs.Sees.{Sees}
-use Rattle.serve_desk.specs.Serve.{OneOfAll, ServesAllBehind, ServesAllOf, ServesAllOfDay}
+use Rattle.serve_desk.specs.Serve.{OneOfAll, ServesAllOfDay}
 use Rattle.serve_desk.specs.Told.{with_all, LineValue}
 use Rattle.serve_desk.specs.WatchAnswers.{IsCallerOf}
 use Rattle.serve_desk.specs.WatchFollows.{Act}
@@ -40,13 +38,7 @@ pub record IsWatched (left : ℕ) (o : OpeningValue) (made_with : ℕ) (all : Li
 abbrev pub watched : OpeningValue → ℕ → OneOfAll
 watched o made_with all number entries line later = IsWatched CALLS_PER_LINE o made_with all number entries line later
 
--- lines were served with looks behind a history, behind an opening's commands, and behind a day file, as `serve` serves them without
-abbrev pub WatchesBehind : History → List LineValue → List LineValue → (List ℕ → Type 0) → Type 0
-WatchesBehind before lines later Writes = ServesAllBehind (watched before.opening (length before.entries)) before lines later Writes
-
-abbrev pub WatchesHistory : OpeningValue → List StatedValue → List LineValue → List LineValue → (List ℕ → Type 0) → Type 0
-WatchesHistory o commands lines later Writes = ServesAllOf (watched o (length commands)) o commands lines later Writes
-
+-- lines were served with looks behind a day file, as `serve` serves them without
 abbrev pub WatchesDay : Option (List ℕ) → Option (List ℕ) → List LineValue → List LineValue → (List ℕ → Type 0) → Type 0
 WatchesDay before after lines later Writes = ServesAllOfDay watched before after lines later Writes
 

@@ -1,9 +1,9 @@
 //! All lines served at one desk.
-ghost use Rattle.std.specs.Prelude.{◌≡◌, ◌+◌, ◌*◌, ◌<◌, ◌≤◌, ℕ, length, map, vec_len, IfOk, IsErr, IsSomeAnd, slice_index_or};
+ghost use Rattle.std.specs.Prelude.{◌≡◌, ◌+◌, ◌*◌, ◌<◌, ◌≤◌, ℕ, length, vec_len, IfOk, IsErr, IsSomeAnd, slice_index_or};
 ghost use Rattle.std.specs.List.{All};
 ghost use Rattle.turn_gate.specs.Seats.{IsSeatOf};
 ghost use Rattle.desk_model.specs.histories.Legal.{IsLegal};
-ghost use Rattle.serve_desk.specs.Told.{line_of};
+ghost use Rattle.serve_desk.specs.Told.{line_of, lines_of};
 ghost use Rattle.serve_desk.specs.AllLines.{AreServed};
 ghost use Rattle.serve_desk.specs.Attends.{Attends};
 
@@ -38,8 +38,8 @@ pub fn serve_lines<C: DeskCore + Send, R: Threads + Wait + Sync>(
     ensures legal { IfOk result (λ after. IsLegal (⟦<Book<C> as Booked>⟧.history after)) }
     ensures served { IfOk result (λ after. AreServed CALLS_PER_LINE
         (⟦<Book<C> as Booked>⟧.history book).entries (⟦<Book<C> as Booked>⟧.history after).entries
-        (map (λ line. line_of (faults line) (calls line)) lines.old.items)
-        (map (λ line. line_of (faults line) (calls line)) lines.new.items)) }
+        (lines_of ⟦<(dyn CallerLine + Send) as CallerLine>⟧ lines.old.items)
+        (lines_of ⟦<(dyn CallerLine + Send) as CallerLine>⟧ lines.new.items)) }
     ensures unasked { IsErr result → lines.new ≡ lines.old }
 {
     let mut posts = Vec::with_capacity(alloc, lines.len())?;

@@ -1,35 +1,30 @@
 //! Callers served behind a day file.
-ghost use Rattle.std.specs.Prelude.{◌≡◌, ◌≢◌, ◌<◌, ◌≤◌, ◌↔◌, ◌⊎◌, ◌+◌, ◌*◌, IfOk, length, map, [], vec_len, vec_capacity, false};
+ghost use Rattle.std.specs.Prelude.{◌≡◌, ◌≢◌, ◌<◌, ◌≤◌, ◌↔◌, ◌+◌, ◌*◌, IfOk, IsErr, length, [], vec_len, vec_capacity};
 ghost use Rattle.std.specs.List.{All};
-ghost use Rattle.std.specs.Io.KnownBytes.{Appends, Keeps};
-ghost use Rattle.desk_io.specs.Faults.{Rose};
-ghost use Rattle.desk_io.specs.Giving.{AddsFront};
-ghost use Rattle.desk_io.specs.Input.{TookMore, TookFront};
+ghost use Rattle.desk_model.specs.histories.Legal.{IsLegal};
 ghost use Rattle.desk_model.specs.statements.Fits.{IsStated};
 ghost use Rattle.desk_model.specs.statements.Opening.{IsOpening};
 ghost use Rattle.command_parser.specs.declared.limits.TheConstants.{RECORD_LIMIT};
-ghost use Rattle.command_parser.specs.DayFile.{HasTooMany, HasNoOpening};
-ghost use Rattle.day_replay.specs.Ends.{WasRead, WritesOrFails, writes};
-ghost use Rattle.day_replay.specs.Replay.{FindsWrong, EndsByTheDay, day_history};
-ghost use Rattle.day_replay.specs.declared.day_input.TheConstants.{DAY_BYTES};
-ghost use Rattle.serve_desk.specs.Told.{line_of};
-ghost use Rattle.serve_desk.specs.Serve.{IsNoNumberOfLines, ServesBehind, ServesDay, ServesHistory};
+ghost use Rattle.day_replay.specs.Ends.{EndsWriting};
+ghost use Rattle.day_replay.specs.Replay.{EndsDay};
+ghost use Rattle.serve_desk.specs.AllLines.{AreAllServed};
+ghost use Rattle.serve_desk.specs.Serve.{IsNoNumberOfLines, ServesDay};
+ghost use Rattle.serve_desk.specs.ServeBy.{ServesBehindBy, ServesDayBy, ServesHistoryBy, served_by};
+ghost use Rattle.serve_desk.specs.Told.{lines_of};
+ghost use Rattle.serve_desk.specs.WatchLines.{WatchesDay};
 
-use crate::{CALLS_PER_LINE, serve_lines};
+use crate::day_book::book_of_day;
+use crate::{CALLS_PER_LINE, Sessions, serve_lines, watch_lines};
 use call_history::Book;
 use caller_lines::CallerLine;
 use command_parser::DayFile;
-use day_replay::{take_day, write_history};
+use day_replay::{PIECE_BYTES, take_day, write_history};
 use desk_base::NoMemory;
 use desk_io::{Sink, Source, Status};
 use desk_model::{Booked, DeskCore, LAST_CALLER, Opening, one_history_is_legal};
-use fast_core::FastCore;
 use std::alloc::Global;
 use std::sync::Wait;
 use std::thread::Threads;
-
-/// How many bytes of the journal are put into the sink at once, at most.
-pub(crate) const BUFFER_BYTES: usize = 65_536;
 
 /// Reads a day file from the source and answers its commands as caller 0; then serves 1 to 63 lines at the same time, line i as
 /// caller i, from 1, with 5,000 calls of each; and when all have ended, writes the journal of the whole to the sink. It takes all
@@ -43,54 +38,61 @@ pub fn serve<R: Threads + Wait + Sync, S: Source, K: Sink>(
     sink: &mut K,
 ) -> Status
     ensures usage { result ≡ Status.Usage ↔ IsNoNumberOfLines (vec_len lines.old) }
-    ensures fine { result ≡ Status.Fine
-        → ServesDay (S.left source.old) (S.left source.new)
-        (map (λ line. line_of ((⟦<(dyn CallerLine + Send) as CallerLine>⟧ line.vtable).faults line.value)
-        (calls line)) lines.old.items)
-        (map (λ line. line_of ((⟦<(dyn CallerLine + Send) as CallerLine>⟧ line.vtable).faults line.value)
-        (calls line)) lines.new.items)
-        (Appends (K.held sink.old) (K.held sink.new)) }
-    ensures write_fault { result ≡ Status.WriteFault
-        → ServesDay (S.left source.old) (S.left source.new)
-        (map (λ line. line_of ((⟦<(dyn CallerLine + Send) as CallerLine>⟧ line.vtable).faults line.value)
-        (calls line)) lines.old.items)
-        (map (λ line. line_of ((⟦<(dyn CallerLine + Send) as CallerLine>⟧ line.vtable).faults line.value)
-        (calls line)) lines.new.items)
-        (AddsFront (K.held sink.old) (K.held sink.new)) }
+    ensures ends { EndsDay result (ServesDay (S.left source.old) (S.left source.new)
+        (lines_of ⟦<(dyn CallerLine + Send) as CallerLine>⟧ lines.old.items)
+        (lines_of ⟦<(dyn CallerLine + Send) as CallerLine>⟧ lines.new.items))
+        (S.left source.old) (S.left source.new) (S.faults source.old) (S.faults source.new)
+        (K.held sink.old) (K.held sink.new) (K.faults sink.old) (K.faults sink.new) }
     ensures unasked { result ≢ Status.Fine → result ≢ Status.WriteFault → lines.new ≡ lines.old }
     ensures unread { result ≡ Status.Usage → S.left source.new ≡ S.left source.old }
-    ensures silent { writes result ≡ false → Keeps (K.held sink.old) (K.held sink.new) }
+{
+    serve_by(rt, alloc, Sessions::WithoutLooks, source, lines, sink)
+}
 
-    ensures read_count { result ≢ Status.ReadFault → S.faults source.new ≡ S.faults source.old }
-    ensures write_count { result ≢ Status.WriteFault → result ≢ Status.Unreadable
-        → K.faults sink.new ≡ K.faults sink.old }
-    ensures source_faults_grow { S.faults source.old ≤ S.faults source.new }
-    ensures sink_faults_grow { K.faults sink.old ≤ K.faults sink.new }
-    ensures write_cause { result ≡ Status.WriteFault
-        → Rose (K.faults sink.old) (K.faults sink.new) }
-    ensures read_cause { result ≡ Status.ReadFault
-        → Rose (S.faults source.old) (S.faults source.new) }
-    ensures too_long { result ≡ Status.TooLong
-        → TookMore (S.left source.old) (S.left source.new) DAY_BYTES
-        ⊎ WasRead DAY_BYTES (S.left source.old) (S.left source.new) HasTooMany }
-    ensures not_too_long { result ≢ Status.TooLong
-        → TookFront (S.left source.old) (S.left source.new) DAY_BYTES }
-    ensures no_opening { result ≡ Status.NoOpening
-        → WasRead DAY_BYTES (S.left source.old) (S.left source.new) HasNoOpening }
-    ensures unreadable { result ≡ Status.Unreadable
-        → FindsWrong (S.left source.old) (S.left source.new)
-        (WritesOrFails (K.held sink.old) (K.held sink.new)
-        (K.faults sink.old) (K.faults sink.new)) }
-    ensures audit_wrong { result ≢ Status.AuditWrong }
+/// As `serve`, and answers the looks of the lines beside, by sessions with looks: each line has a view of the desk's boards, for which
+/// all memory is taken before the first line is asked.
+pub fn watch<R: Threads + Wait + Sync, S: Source, K: Sink>(
+    rt: &R,
+    alloc: Global,
+    source: &mut S,
+    lines: &mut Vec<Box<dyn CallerLine + Send>>,
+    sink: &mut K,
+) -> Status
+    ensures usage { result ≡ Status.Usage ↔ IsNoNumberOfLines (vec_len lines.old) }
+    ensures ends { EndsDay result (WatchesDay (S.left source.old) (S.left source.new)
+        (lines_of ⟦<(dyn CallerLine + Send) as CallerLine>⟧ lines.old.items)
+        (lines_of ⟦<(dyn CallerLine + Send) as CallerLine>⟧ lines.new.items))
+        (S.left source.old) (S.left source.new) (S.faults source.old) (S.faults source.new)
+        (K.held sink.old) (K.held sink.new) (K.faults sink.old) (K.faults sink.new) }
+    ensures unasked { result ≢ Status.Fine → result ≢ Status.WriteFault → lines.new ≡ lines.old }
+    ensures unread { result ≡ Status.Usage → S.left source.new ≡ S.left source.old }
+{
+    serve_by(rt, alloc, Sessions::WithLooks, source, lines, sink)
+}
 
-    // And each of these comes where its cause is, unless memory or a fault is in the way.
-    ensures by_the_day { result ≢ Status.Usage → EndsByTheDay result (S.left source.old) }
+/// As `serve`, or as `watch`: by sessions of this kind.
+pub fn serve_by<R: Threads + Wait + Sync, S: Source, K: Sink>(
+    rt: &R,
+    alloc: Global,
+    sessions: Sessions,
+    source: &mut S,
+    lines: &mut Vec<Box<dyn CallerLine + Send>>,
+    sink: &mut K,
+) -> Status
+    ensures usage { result ≡ Status.Usage ↔ IsNoNumberOfLines (vec_len lines.old) }
+    ensures ends { EndsDay result (ServesDayBy sessions (S.left source.old) (S.left source.new)
+        (lines_of ⟦<(dyn CallerLine + Send) as CallerLine>⟧ lines.old.items)
+        (lines_of ⟦<(dyn CallerLine + Send) as CallerLine>⟧ lines.new.items))
+        (S.left source.old) (S.left source.new) (S.faults source.old) (S.faults source.new)
+        (K.held sink.old) (K.held sink.new) (K.faults sink.old) (K.faults sink.new) }
+    ensures unasked { result ≢ Status.Fine → result ≢ Status.WriteFault → lines.new ≡ lines.old }
+    ensures unread { result ≡ Status.Usage → S.left source.new ≡ S.left source.old }
 {
     if lines.is_empty() || lines.len() > usize::from(LAST_CALLER) {
         return Status::Usage;
     }
     match take_day(alloc, source, sink) {
-        Ok(day) => serve_day(rt, alloc, day, lines, sink),
+        Ok(day) => serve_day(rt, alloc, sessions, day, lines, sink),
         Err(status) => status,
     }
 }
@@ -100,6 +102,7 @@ pub fn serve<R: Threads + Wait + Sync, S: Source, K: Sink>(
 fn serve_day<R: Threads + Wait + Sync, K: Sink>(
     rt: &R,
     alloc: Global,
+    sessions: Sessions,
     day: DayFile,
     lines: &mut Vec<Box<dyn CallerLine + Send>>,
     sink: &mut K,
@@ -109,39 +112,32 @@ fn serve_day<R: Threads + Wait + Sync, K: Sink>(
     requires few { vec_len day.commands < RECORD_LIMIT }
     requires opening { IsOpening day.opening }
     requires stated { All IsStated day.commands.items }
-    ensures fine { result ≡ Status.Fine
-        → ServesHistory day.opening day.commands.items
-        (map (λ line. line_of ((⟦<(dyn CallerLine + Send) as CallerLine>⟧ line.vtable).faults line.value)
-        (calls line)) lines.old.items)
-        (map (λ line. line_of ((⟦<(dyn CallerLine + Send) as CallerLine>⟧ line.vtable).faults line.value)
-        (calls line)) lines.new.items)
-        (Appends (K.held sink.old) (K.held sink.new)) }
-    ensures write_fault { result ≡ Status.WriteFault
-        → ServesHistory day.opening day.commands.items
-        (map (λ line. line_of ((⟦<(dyn CallerLine + Send) as CallerLine>⟧ line.vtable).faults line.value)
-        (calls line)) lines.old.items)
-        (map (λ line. line_of ((⟦<(dyn CallerLine + Send) as CallerLine>⟧ line.vtable).faults line.value)
-        (calls line)) lines.new.items)
-        (AddsFront (K.held sink.old) (K.held sink.new)) }
+    ensures ends { EndsWriting result
+        (ServesHistoryBy sessions day.opening day.commands.items
+        (lines_of ⟦<(dyn CallerLine + Send) as CallerLine>⟧ lines.old.items)
+        (lines_of ⟦<(dyn CallerLine + Send) as CallerLine>⟧ lines.new.items))
+        (K.held sink.old) (K.held sink.new) (K.faults sink.old) (K.faults sink.new) }
     ensures unasked { result ≡ Status.NoMemory → lines.new ≡ lines.old }
-    ensures silent { result ≡ Status.NoMemory → Keeps (K.held sink.old) (K.held sink.new) }
-    ensures write_cause { result ≡ Status.WriteFault
-        → Rose (K.faults sink.old) (K.faults sink.new) }
-    ensures write_count { result ≢ Status.WriteFault → K.faults sink.new ≡ K.faults sink.old }
-    ensures faults_grow { K.faults sink.old ≤ K.faults sink.new }
-    ensures only { (result ≡ Status.Fine)
-        ⊎ ((result ≡ Status.WriteFault) ⊎ (result ≡ Status.NoMemory)) }
 {
     // What the desk answers is a legal history.
     one_history_is_legal();
-    let Ok(mut buffer) = Vec::with_capacity(alloc, BUFFER_BYTES) else {
+    let Ok(mut buffer) = Vec::with_capacity(alloc, PIECE_BYTES) else {
         return Status::NoMemory;
     };
-    match set_up(alloc, &day, lines.len()) {
+    match book_of_day(alloc, &day, lines.len()) {
         Ok(book) => {
             let opening = day.opening;
             drop(day);
-            serve_book(rt, alloc, &opening, book, lines, &mut buffer, sink)
+            serve_book(
+                rt,
+                alloc,
+                sessions,
+                &opening,
+                book,
+                lines,
+                &mut buffer,
+                sink,
+            )
         }
         Err(_) => Status::NoMemory,
     }
@@ -151,6 +147,7 @@ fn serve_day<R: Threads + Wait + Sync, K: Sink>(
 fn serve_book<C: DeskCore + Send, R: Threads + Wait + Sync, K: Sink>(
     rt: &R,
     alloc: Global,
+    sessions: Sessions,
     opening: &Opening,
     book: Book<C>,
     lines: &mut Vec<Box<dyn CallerLine + Send>>,
@@ -164,30 +161,14 @@ fn serve_book<C: DeskCore + Send, R: Threads + Wait + Sync, K: Sink>(
         ≤ ⟦<Book<C> as Booked>⟧.room book }
     requires empty { buffer.old.items ≡ [] }
     requires buffer_room { 512 ≤ vec_capacity buffer.old }
-    ensures fine { result ≡ Status.Fine
-        → ServesBehind (⟦<Book<C> as Booked>⟧.history book)
-        (map (λ line. line_of ((⟦<(dyn CallerLine + Send) as CallerLine>⟧ line.vtable).faults line.value)
-        (calls line)) lines.old.items)
-        (map (λ line. line_of ((⟦<(dyn CallerLine + Send) as CallerLine>⟧ line.vtable).faults line.value)
-        (calls line)) lines.new.items)
-        (Appends (K.held sink.old) (K.held sink.new)) }
-    ensures write_fault { result ≡ Status.WriteFault
-        → ServesBehind (⟦<Book<C> as Booked>⟧.history book)
-        (map (λ line. line_of ((⟦<(dyn CallerLine + Send) as CallerLine>⟧ line.vtable).faults line.value)
-        (calls line)) lines.old.items)
-        (map (λ line. line_of ((⟦<(dyn CallerLine + Send) as CallerLine>⟧ line.vtable).faults line.value)
-        (calls line)) lines.new.items)
-        (AddsFront (K.held sink.old) (K.held sink.new)) }
+    ensures ends { EndsWriting result
+        (ServesBehindBy sessions (⟦<Book<C> as Booked>⟧.history book)
+        (lines_of ⟦<(dyn CallerLine + Send) as CallerLine>⟧ lines.old.items)
+        (lines_of ⟦<(dyn CallerLine + Send) as CallerLine>⟧ lines.new.items))
+        (K.held sink.old) (K.held sink.new) (K.faults sink.old) (K.faults sink.new) }
     ensures unasked { result ≡ Status.NoMemory → lines.new ≡ lines.old }
-    ensures silent { result ≡ Status.NoMemory → Keeps (K.held sink.old) (K.held sink.new) }
-    ensures write_cause { result ≡ Status.WriteFault
-        → Rose (K.faults sink.old) (K.faults sink.new) }
-    ensures write_count { result ≢ Status.WriteFault → K.faults sink.new ≡ K.faults sink.old }
-    ensures faults_grow { K.faults sink.old ≤ K.faults sink.new }
-    ensures only { (result ≡ Status.Fine)
-        ⊎ ((result ≡ Status.WriteFault) ⊎ (result ≡ Status.NoMemory)) }
 {
-    let Ok(book) = serve_lines(rt, alloc, book, lines) else {
+    let Ok(book) = serve_all(rt, alloc, sessions, opening, book, lines) else {
         return Status::NoMemory;
     };
     if write_history(opening, book.entries(), buffer, sink) {
@@ -197,18 +178,33 @@ fn serve_book<C: DeskCore + Send, R: Threads + Wait + Sync, K: Sink>(
     }
 }
 
-/// The book of a desk that has answered the day file's commands as caller 0, with room for all calls of so many lines.
-pub(crate) fn set_up(alloc: Global, day: &DayFile, lines: usize) -> Result<Book<FastCore>, NoMemory>
-    requires most { lines ≤ LAST_CALLER }
-    requires few { vec_len day.now.commands < RECORD_LIMIT }
-    ensures history { IfOk result (λ book.
-        ⟦<Book<FastCore> as Booked>⟧.history book ≡ day_history day.now.opening day.now.commands.items) }
-    ensures room { IfOk result (λ book.
-        ⟦<Book<FastCore> as Booked>⟧.room book ≡ vec_len day.now.commands + lines * CALLS_PER_LINE) }
+// Serves the lines at one desk over a book that was opened so, by sessions of this kind.
+fn serve_all<C: DeskCore + Send, R: Threads + Wait + Sync>(
+    rt: &R,
+    alloc: Global,
+    sessions: Sessions,
+    opening: &Opening,
+    book: Book<C>,
+    lines: &mut Vec<Box<dyn CallerLine + Send>>,
+) -> Result<Book<C>, NoMemory>
+    requires opening { opening.now ≡ (⟦<Book<C> as Booked>⟧.history book).opening }
+    requires some { 1 ≤ vec_len lines.old }
+    requires most { vec_len lines.old ≤ LAST_CALLER }
+    requires room { length (⟦<Book<C> as Booked>⟧.history book).entries + vec_len lines.old * CALLS_PER_LINE
+        ≤ ⟦<Book<C> as Booked>⟧.room book }
+    ensures opening { IfOk result (λ after. (⟦<Book<C> as Booked>⟧.history after).opening
+        ≡ (⟦<Book<C> as Booked>⟧.history book).opening) }
+    ensures legal { IfOk result (λ after. IsLegal (⟦<Book<C> as Booked>⟧.history after)) }
+    ensures served { IfOk result (λ after. AreAllServed
+        (served_by sessions (⟦<Book<C> as Booked>⟧.history book).opening
+        (length (⟦<Book<C> as Booked>⟧.history book).entries) (⟦<Book<C> as Booked>⟧.history after).entries)
+        (⟦<Book<C> as Booked>⟧.history book).entries (⟦<Book<C> as Booked>⟧.history after).entries
+        (lines_of ⟦<(dyn CallerLine + Send) as CallerLine>⟧ lines.old.items)
+        (lines_of ⟦<(dyn CallerLine + Send) as CallerLine>⟧ lines.new.items)) }
+    ensures unasked { IsErr result → lines.new ≡ lines.old }
 {
-    let calls = lines as u64 * u64::from(CALLS_PER_LINE);
-    let core = FastCore::new(alloc, day.opening, day.commands.len() as u64 + calls)?;
-    let mut book = Book::new(alloc, core)?;
-    book.step_as(0, &day.commands);
-    Ok(book)
+    match sessions {
+        Sessions::WithoutLooks => serve_lines(rt, alloc, book, lines),
+        Sessions::WithLooks => watch_lines(rt, alloc, opening, book, lines),
+    }
 }

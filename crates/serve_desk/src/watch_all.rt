@@ -1,9 +1,9 @@
 //! All lines served at one desk with looks.
-ghost use Rattle.std.specs.Prelude.{◌≡◌, ◌+◌, ◌*◌, ◌<◌, ◌≤◌, ℕ, length, map, vec_len, None, Some, IfOk, IsErr, IsSome, slice_index_or};
+ghost use Rattle.std.specs.Prelude.{◌≡◌, ◌+◌, ◌*◌, ◌<◌, ◌≤◌, ℕ, length, vec_len, None, Some, IfOk, IsErr, IsSome, slice_index_or};
 ghost use Rattle.std.specs.List.{All};
 ghost use Rattle.desk_model.specs.histories.Legal.{IsLegal};
 ghost use Rattle.serve_desk.specs.AllLines.{AreAllServed};
-ghost use Rattle.serve_desk.specs.Told.{line_of};
+ghost use Rattle.serve_desk.specs.Told.{line_of, lines_of};
 ghost use Rattle.serve_desk.specs.WatchLines.{IsManned, AttendsWatched, watched};
 
 use crate::CALLS_PER_LINE;
@@ -44,8 +44,8 @@ pub fn watch_lines<C: DeskCore + Send, R: Threads + Wait + Sync>(
         (watched (⟦<Book<C> as Booked>⟧.history book).opening (length (⟦<Book<C> as Booked>⟧.history book).entries)
         (⟦<Book<C> as Booked>⟧.history after).entries)
         (⟦<Book<C> as Booked>⟧.history book).entries (⟦<Book<C> as Booked>⟧.history after).entries
-        (map (λ line. line_of (faults line) (calls line)) lines.old.items)
-        (map (λ line. line_of (faults line) (calls line)) lines.new.items)) }
+        (lines_of ⟦<(dyn CallerLine + Send) as CallerLine>⟧ lines.old.items)
+        (lines_of ⟦<(dyn CallerLine + Send) as CallerLine>⟧ lines.new.items)) }
     ensures unasked { IsErr result → lines.new ≡ lines.old }
 {
     let mut viewed = Vec::with_capacity(alloc, lines.len())?;

@@ -1,24 +1,20 @@
-use Rattle.std.proofs.Common.{rules}
-use Rattle.std.specs.Io.KnownBytes.{Appends}
-use Rattle.desk_io.specs.Giving.{AddsFront}
+use Rattle.day_replay.specs.Replay.{Replays, text_of}
 use Rattle.day_replay.proofs.HistoryLemmas.{IsReplay-day}
-use Rattle.day_replay.proofs.JournalLemmas.{Appends-kept, AddsFront-kept}
-use Rattle.day_replay.proofs.ReplayLemmas.{Replays-day, EndsByTheDay-day}
+use Rattle.day_replay.proofs.EndsLemmas.{EndsDay-taken, EndsDay-untaken}
+use Rattle.day_replay.proofs.ReplayLemmas.{Replays-day}
 use Rattle.day_replay.proofs.replay.replay_day.Goals as goal
 
-pub returns-in-Ok-clause-fine : goal.returns-in-Ok-clause-fine
-returns-in-Ok-clause-fine g c = λ fine.
+pub returns-in-Ok-clause-ends : goal.returns-in-Ok-clause-ends
+returns-in-Ok-clause-ends g c =
     let law = c.one_history_is_legal.ensures in
     let took = c.in-Ok.ensures in
-    Replays-day _ _ _ _ _ (Appends (g.K.Sink.held c.args.sink.now) _) took.opening took.day (IsReplay-day law.opening law.legal law.given _ _ took.opening took.stated)
-    (Appends-kept _ _ _ _ (took.silent (search rules)) (c.print_day.ensures.fine fine))
+    EndsDay-taken _ c.in-Ok.day _ _ (Replays _ _ (text_of c.args.form)) _ _ _ _ _ _ _ _ _ _ took.no_fault took.not_too_long took.silent took.silent_count took.by_the_day
+    (λ Writes WritesAll as_well written.
+    Replays-day _ _ _ _ _ WritesAll took.opening took.day (IsReplay-day law.opening law.legal law.given _ _ took.opening took.stated) (as_well _ written))
+    c.print_day.ensures
 
-pub returns-in-Ok-clause-write_fault : goal.returns-in-Ok-clause-write_fault
-returns-in-Ok-clause-write_fault g c = λ fault.
-    let law = c.one_history_is_legal.ensures in
-    let took = c.in-Ok.ensures in
-    Replays-day _ _ _ _ _ (AddsFront (g.K.Sink.held c.args.sink.now) _) took.opening took.day (IsReplay-day law.opening law.legal law.given _ _ took.opening took.stated)
-    (AddsFront-kept _ _ _ _ (took.silent (search rules)) (c.print_day.ensures.write_fault fault))
-
-pub returns-in-Ok-clause-by_the_day : goal.returns-in-Ok-clause-by_the_day
-returns-in-Ok-clause-by_the_day g c = EndsByTheDay-day _ _ c.print_day.ensures.only c.in-Ok.ensures.by_the_day
+pub returns-in-Err-clause-ends : goal.returns-in-Err-clause-ends
+returns-in-Err-clause-ends g c =
+    let failed = c.in-Err.ensures in
+    EndsDay-untaken _ c.in-Err.status _ _ _ _ _ _ _ _ _ failed.only failed.read_fault failed.no_fault failed.too_long failed.not_too_long failed.no_opening failed.unreadable failed.silent failed.silent_count
+    failed.source_faults_grow failed.sink_faults_grow failed.by_the_day

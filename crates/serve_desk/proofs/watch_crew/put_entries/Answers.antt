@@ -1,4 +1,4 @@
-use Rattle.std.proofs.Common.{None, refl, ◌∙◌, sym, subst, arith}
+use Rattle.std.proofs.Common.{refl, ◌∙◌, sym, subst, arith}
 use Rattle.serve_desk.specs.WatchAnswers.{PutsAllOn}
 use Rattle.serve_desk.proofs.PutLemmas.{PutsAllOn-none, entries-next, entries-stop, none-of, no-fault-of}
 use Rattle.serve_desk.proofs.watch_crew.put_entries.Goals as goal

@@ -1,4 +1,4 @@
-use Rattle.std.proofs.Common.{is_some, ap, sym}
+use Rattle.std.proofs.Common.{is_some, ap}
 use Rattle.serve_desk.proofs.PutLemmas.{PutsAllOn-one, PutsAllOn-stops, PutsAllOn-then}
 use Rattle.serve_desk.proofs.watch_crew.put_outcome.Goals as goal
 

@@ -3,6 +3,6 @@
 pub enum Sessions {
     /// Each line is a command.
     WithoutLooks,
-    /// A line may ask for a look at a board.
+    /// A line may also ask for a look at a board, or make a crew call.
     WithLooks,
 }
