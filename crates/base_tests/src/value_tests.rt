@@ -1,5 +1,5 @@
 //! The clauses say that texts are those of civil dates; these are dates that another calendar computed.
-use desk_base::{Code, Day, Minute, Month, NoMemory, PersonNo, IndexHints, VacNo, Window};
+use desk_base::{Code, Day, IndexHints, Minute, Month, NoMemory, PersonNo, VacNo, Window};
 use std::alloc::AllocError;
 use std::test::Fail;
 

@@ -2,7 +2,7 @@
 ghost use Rattle.std.specs.Prelude.{◌≡◌, ◌<◌, ◌≤◌, IfSome, length, vec_len};
 
 use crate::given::{Draws, minute, person};
-use desk_base::{Code, Minute, IndexHints};
+use desk_base::{Code, IndexHints, Minute};
 use pool_board::{Board, MOST_MEMBERS};
 use slot_tree::Steps;
 use std::alloc::Global;

@@ -4,7 +4,7 @@ ghost use Rattle.std.specs.List.{All};
 
 use crate::given::{minute, person};
 use denial_rules::Bar;
-use desk_base::{Code, Minute, PersonNo, IndexHints};
+use desk_base::{Code, IndexHints, Minute, PersonNo};
 use pool_board::Board;
 use slot_tree::Steps;
 use std::alloc::Global;

@@ -1,5 +1,6 @@
 -- The words that the program is given, and the forms of its command line.
 use Rattle.std.specs.Prelude.{ℕ, ◌^◌, ◌≤◌, ⊤, Bool, true, false, ◌&&◌, nat_eq, nat_le, nat_lt, Option, None, Some, if◌then◌else◌, List, [], ◌∷◌, length, codes, decimal, String, string_bytes}
+use Rattle.desk_base.specs.declared.limits.TheConstants.{NUMBER_LIMIT}
 use Rattle.std.specs.Cmp.Lexicographic.{pointwise}
 use Rattle.std.specs.Str.Parse.{digits_value}
 use Rattle.std.specs.Global.{Global}
@@ -47,7 +48,7 @@ gen_form edition (Some commands) (Some number) =
 
 -- persons and vacancies may have the number
 abbrev pub is_number : ℕ → Bool
-is_number number = nat_le 1 number && nat_le number 9_999_999
+is_number number = nat_le 1 number && nat_le number NUMBER_LIMIT
 
 -- the records of a person's tours are told; none where nobody may have the number
 abbrev pub record_form : Option ℕ → Option Form

@@ -6,7 +6,7 @@ use crate::tour_form::TourForm;
 use crate::words::{is_alone, read_number};
 use day_gen::{SET_UP, most_commands};
 use day_replay::DayForm;
-use desk_base::{PersonNo, VacNo};
+use desk_base::{NUMBER_LIMIT, PersonNo, VacNo};
 use desk_model::{Edition, LAST_CALLER};
 use serve_desk::Sessions;
 
@@ -127,7 +127,7 @@ fn record_form(person: &str) -> Option<Form>
     ensures numbers { IfSome result HasNumbers }
 {
     let number = read_number(person)?;
-    if number <= 9_999_999 {
+    if number <= u64::from(NUMBER_LIMIT) {
         Some(Form::Tours(TourForm::Record(PersonNo::new(number as u32)?)))
     } else {
         None
@@ -156,7 +156,8 @@ fn when_form(vac: &str, person: &str) -> Option<Form>
 {
     let vac = read_number(vac)?;
     let person = read_number(person)?;
-    if vac <= 9_999_999 && person <= 9_999_999 {
+    let most = u64::from(NUMBER_LIMIT);
+    if vac <= most && person <= most {
         Some(Form::Day(DayForm::When {
             vac: VacNo::new(vac as u32)?,
             person: PersonNo::new(person as u32)?,

@@ -6,8 +6,8 @@ ghost use Rattle.desk_model.specs.histories.Register.{vacancy_of};
 ghost use Rattle.desk_answers.specs.Searched.{steps_of};
 
 use crate::Reads;
-use crate::question_answers::judge;
 use crate::next_answer::closed;
+use crate::question_answers::judge;
 use desk_base::{Minute, PersonNo, VacNo};
 use desk_model::{Link, Reply};
 

@@ -15,7 +15,12 @@ use desk_base::{Code, Minute, Month, PersonNo, VacNo, Window};
 use desk_model::{Job, Link, Person, Reply};
 
 /// The answer to `at`.
-pub(crate) fn at_answer<R: Reads>(reads: &R, work: &mut R::Work, board: &Code, position: u16) -> Reply
+pub(crate) fn at_answer<R: Reads>(
+    reads: &R,
+    work: &mut R::Work,
+    board: &Code,
+    position: u16,
+) -> Reply
     requires { R.suits reads.now work.old }
     ensures answer { (h : History) → R.tells reads.now h → result ≡ at_answer h board.now position }
     ensures suits { R.suits reads.now work.new }

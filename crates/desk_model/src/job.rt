@@ -62,7 +62,11 @@ impl Job {
         ensures { SomeIff result (IsPlan report duty limbo)
             (job_of vac craft quals place report duty limbo chain relief) }
     {
-        if report.is_in_years() && duty >= 1 && duty <= DUTY_PLAN_LIMIT && limbo <= LIMBO_PLAN_LIMIT {
+        if report.is_in_years()
+            && duty >= 1
+            && duty <= DUTY_PLAN_LIMIT
+            && limbo <= LIMBO_PLAN_LIMIT
+        {
             Some(Job {
                 vac,
                 craft,

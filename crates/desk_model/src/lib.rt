@@ -53,8 +53,9 @@ pub use laws::legal::{
 };
 pub use laws::offers::{an_open_offer_may_be_settled, what_was_never_made_is_not_on_offer};
 pub use limits::{
-    BOARD_LIMIT, CHAIN_LIMIT, DUTY_PLAN_LIMIT, HOLD, LAST_CALLER, LIMBO_PLAN_LIMIT, LIST_LIMIT, MEMBER_LIMIT, PERSON_LIMIT, POSITION_LIMIT,
-    PLAN_LIMIT, RELIEF_LIMIT, VACANCY_LIMIT, the_numbers_of_the_desk, the_numbers_of_the_law,
+    BOARD_LIMIT, CHAIN_LIMIT, DUTY_PLAN_LIMIT, HOLD, LAST_CALLER, LIMBO_PLAN_LIMIT, LIST_LIMIT,
+    MEMBER_LIMIT, PERSON_LIMIT, PLAN_LIMIT, POSITION_LIMIT, RELIEF_LIMIT, VACANCY_LIMIT,
+    the_numbers_of_the_desk, the_numbers_of_the_law,
 };
 pub use link::Link;
 pub use moment::last_moment;

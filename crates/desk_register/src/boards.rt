@@ -15,7 +15,7 @@ use crate::add_last::add_last;
 use crate::board_index::BoardIndex;
 use crate::copy_of::copy_of;
 use crate::find_in::{HINT_BITS, Indexed, find_in};
-use desk_base::{Code, NoMemory, IndexHints};
+use desk_base::{Code, IndexHints, NoMemory};
 use desk_model::{BOARD_LIMIT, BoardSetup, Cmd, what_an_entry_makes_of_the_desk};
 use indexmap::IndexMap;
 use std::alloc::Global;

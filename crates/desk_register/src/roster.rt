@@ -17,7 +17,7 @@ use crate::enrolled::Enrolled;
 use crate::find_in::{HINT_BITS, Indexed, find_in};
 use crate::kept_person::{KeptPerson, subject};
 use crate::person_index::PersonIndex;
-use desk_base::{NoMemory, PersonNo, IndexHints, VacNo};
+use desk_base::{IndexHints, NoMemory, PersonNo, VacNo};
 use desk_model::{
     Cmd, PERSON_LIMIT, a_vacancy_is_in_one_state, one_offer_to_a_person,
     what_an_entry_makes_of_the_desk, what_is_done_rests_on,

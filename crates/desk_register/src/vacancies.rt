@@ -16,7 +16,7 @@ use crate::find_in::{HINT_BITS, Indexed, find_in};
 use crate::kept_vacancy::{KeptVacancy, target};
 use crate::row_hasher::RowHasher;
 use crate::vacancy_index::VacancyIndex;
-use desk_base::{NoMemory, PersonNo, IndexHints, VacNo};
+use desk_base::{IndexHints, NoMemory, PersonNo, VacNo};
 use desk_model::{
     Cmd, Job, VACANCY_LIMIT, VacState, a_vacancy_is_in_one_state, what_an_entry_makes_of_the_desk,
 };

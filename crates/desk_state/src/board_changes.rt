@@ -9,7 +9,7 @@ ghost use Rattle.desk_state.specs.declared.named_indexes.NamedIndexes.{NamedInde
 
 use crate::listings::with_board;
 use crate::named_indexes::NamedIndexes;
-use desk_base::{Code, Minute, PersonNo, IndexHints};
+use desk_base::{Code, IndexHints, Minute, PersonNo};
 use desk_model::Cmd;
 use desk_register::BoardIndex;
 use duty_events::Event;

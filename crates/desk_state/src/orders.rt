@@ -6,7 +6,7 @@ ghost use Rattle.desk_state.specs.Changes.{BecomesBy, EachBecomes};
 use crate::board_changes::{change_board, changes_boards, touched};
 use crate::listings::{first_board, with_board};
 use crate::named_indexes::NamedIndexes;
-use desk_base::{Code, NoMemory, IndexHints};
+use desk_base::{Code, IndexHints, NoMemory};
 use desk_model::{BOARD_LIMIT, Cmd};
 use pool_board::Board;
 use std::alloc::Global;

@@ -7,7 +7,7 @@ ghost use Rattle.desk_text.specs.SpelledReply.{SpellsReply, TellsReply, HasNoRep
 use crate::cut::cut;
 use crate::reply_head::ReplyHead;
 use crate::spelled_bar::read_bar;
-use crate::spelled_part::{read_late, read_numbers, read_board_position};
+use crate::spelled_part::{read_board_position, read_late, read_numbers};
 use crate::spelled_stage::{read_fault, read_state};
 use command_parser::{read_count, read_person, read_vac};
 use desk_base::{Code, Minute};

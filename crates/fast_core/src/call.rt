@@ -4,8 +4,8 @@ ghost use Rattle.fast_core.specs.KeptDesk.{Tells};
 ghost use Rattle.fast_core.specs.Candidates.{IsJobAsked};
 ghost use Rattle.fast_core.specs.Search.{HasSearched};
 
-use crate::kept_desk::KeptDesk;
 use crate::job_asked::JobAsked;
+use crate::kept_desk::KeptDesk;
 use denial_rules::Bar;
 use desk_base::{Code, PersonNo};
 use desk_model::{Link, order_is_by_rank, who_is_not_ready_is_barred, who_is_on_a_board_is_listed};

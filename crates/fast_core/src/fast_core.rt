@@ -8,8 +8,8 @@ ghost use Rattle.fast_core.specs.Search.{search_steps};
 ghost use Rattle.earliest_minute.specs.When.{IsWhen};
 ghost use Rattle.fast_core.specs.Question.{IsQuestion};
 
-use crate::kept_desk::KeptDesk;
 use crate::desk_reads::DeskReads;
+use crate::kept_desk::KeptDesk;
 use desk_answers::next_entry;
 use desk_base::{NoMemory, PersonNo, VacNo};
 use desk_model::{DeskCore, Entry, Opening, Stated, one_history_is_legal};

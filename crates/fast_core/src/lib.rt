@@ -3,10 +3,10 @@
 
 mod call;
 mod candidate;
-mod people;
-mod kept_desk;
+mod desk_reads;
 mod fast_core;
 mod job_asked;
-mod desk_reads;
+mod kept_desk;
+mod people;
 
 pub use fast_core::FastCore;

@@ -7,7 +7,7 @@ ghost use Rattle.pool_board.specs.Board.{board_of, IsSameSort};
 
 use crate::MembersFull;
 use crate::slots::{find, hint_number, make_room, move_last};
-use desk_base::{Code, Minute, NoMemory, PersonNo, IndexHints};
+use desk_base::{Code, IndexHints, Minute, NoMemory, PersonNo};
 use slot_tree::{SlotTree, Steps};
 use std::alloc::Global;
 use std::marker::Model;
@@ -239,7 +239,12 @@ impl Board {
 
     /// The first position, from one on, whose person is ready at the minute; `None` exactly where there is none. The steps are
     /// nodes that a search reads.
-    pub fn ready_from<L: Ledger>(&self, position: u16, m: Minute, steps: &mut Steps<L>) -> Option<u16>
+    pub fn ready_from<L: Ledger>(
+        &self,
+        position: u16,
+        m: Minute,
+        steps: &mut Steps<L>,
+    ) -> Option<u16>
         requires { 1 ≤ position }
         ensures found { FindsReadyPosition self.now.members position m result }
         ensures cost { steps.new ≤ steps.old + 4 * (10 + 1) }

@@ -4,7 +4,7 @@ ghost use Rattle.slot_tree.specs.declared.limits.TheConstants.{SLOT_LIMIT};
 ghost use Rattle.slot_tree.specs.Slots.{slot_at, filled, filled_end};
 ghost use Rattle.pool_board.specs.Members.{holds, is_listed};
 
-use desk_base::{Minute, PersonNo, IndexHints};
+use desk_base::{IndexHints, Minute, PersonNo};
 use slot_tree::{SLOT_LIMIT, SlotTree};
 
 /// Where a person stands, and from when on they are ready.

@@ -3,10 +3,10 @@
 
 mod deal;
 mod gate;
-mod rejoin;
 mod laws;
 mod note;
 mod phase;
+mod rejoin;
 mod seat;
 mod short;
 mod spent;

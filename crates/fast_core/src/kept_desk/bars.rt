@@ -13,8 +13,8 @@ ghost use Rattle.desk_model.specs.offers.Held.{hold_end, held};
 ghost use Rattle.desk_register.specs.Among.{index_among};
 
 use crate::candidate::Candidate;
-use crate::kept_desk::KeptDesk;
 use crate::job_asked::JobAsked;
+use crate::kept_desk::KeptDesk;
 use denial_rules::{Bar, first_bar, the_law_comes_last};
 use desk_base::{Code, Minute, PersonNo};
 use desk_model::{Chain, Edition, Job, a_hold_is_by_boards};

@@ -9,8 +9,8 @@ ghost use Rattle.fast_core.specs.Candidates.{IsJobAsked};
 ghost use Rattle.fast_core.specs.Search.{search_steps};
 
 use crate::call::Call;
-use crate::kept_desk::KeptDesk;
 use crate::job_asked::JobAsked;
+use crate::kept_desk::KeptDesk;
 use desk_base::{Code, PersonNo};
 use desk_model::{
     Chain, Link, boards_and_chains_are_bounded, order_is_by_rank, who_is_on_a_board_is_listed,
