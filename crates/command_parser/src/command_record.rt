@@ -15,7 +15,7 @@ use crate::word::Word;
 use desk_model::{Cmd, Stated};
 use record_rows::LastMinute;
 
-/// The command that a record's fields state, and the minute at which it was stated. Where they state none it is the place,
+/// The command that a record's fields state, and the minute at which it was stated. Where they state none it is the number,
 /// from 1, of the first field that is missing, one too many, or none that may stand there behind the fields before it.
 ///
 /// The first field is the minute, the second the command's word, and behind it stands what the command is about:
@@ -32,7 +32,7 @@ use record_rows::LastMinute;
 /// | `next`, `annul`, `vac` | vacancy |
 /// | `offer`, `accept`, `decline`, `noanswer`, `withdraw`, `explain` | vacancy, person |
 /// | `hours` | person, month |
-/// | `at` | board, place |
+/// | `at` | board, position |
 pub fn read_record(last: &mut LastMinute, fields: &[&[u8]]) -> Result<Stated, u8>
     ensures some { IfOk result (StatesCommand (map (λ field. field.now) fields.now)) }
     ensures only { (s : StatedValue) → StatesCommand (map (λ field. field.now) fields.now) s

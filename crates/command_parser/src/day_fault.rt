@@ -18,7 +18,7 @@ pub enum DayFault {
     Unreadable {
         /// The first such record's number, from 1; the opening is record 1.
         record_no: u32,
-        /// The place of its first wrong field, from 1.
+        /// The number of its first wrong field, from 1.
         field: u8,
     },
     /// Memory was wanting.

@@ -4,7 +4,7 @@ ghost use Rattle.command_parser.specs.RecordForms.{HasForms, IsWrongAt};
 use crate::field_form::FieldForm;
 use crate::record_forms::record_rows;
 
-/// The place, from 1, of a wrong record's first field that is missing, one too many or none that may stand there.
+/// The number, from 1, of a wrong record's first field that is missing, one too many or none that may stand there.
 pub(crate) fn wrong_field(fields: &[&[u8]]) -> u8
     ensures { IsWrongAt (map (λ field. field.now) fields.now) result }
 {

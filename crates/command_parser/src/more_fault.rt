@@ -15,7 +15,7 @@ pub enum MoreFault {
     Unreadable {
         /// The first such record's number, from 1.
         record_no: u32,
-        /// The place of its first wrong field, from 1.
+        /// The number of its first wrong field, from 1.
         field: u8,
     },
     /// Memory was wanting.

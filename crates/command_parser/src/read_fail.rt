@@ -7,7 +7,7 @@ use thiserror::Error;
 /// Why a caller's line is no command.
 #[derive(Clone, Copy, Debug, PartialEq, Eq, Error)]
 pub enum ReadFail {
-    /// The place of its first wrong field, from 1; 0 where it isn't just one record.
+    /// The number of its first wrong field, from 1; 0 where it isn't just one record.
     #[error("malformed {0}")]
     Malformed(u8),
     /// Memory was wanting.

@@ -12,7 +12,7 @@ use crate::opening_record::opening_of;
 use desk_model::{Opening, Stated};
 use record_rows::{Fields, LastMinute, Row};
 
-/// The command that a record states, and the minute at which it was stated. Where it states none it is the place, from 1,
+/// The command that a record states, and the minute at which it was stated. Where it states none it is the number, from 1,
 /// of its first wrong field.
 pub(crate) fn read_row(last: &mut LastMinute, row: &Row) -> Result<Stated, u8>
     ensures some { IfOk result (StatesCommand (row_fields row.now)) }

@@ -70,7 +70,7 @@ pub(crate) fn read_about_vac(word: Word, about: &[&[u8]]) -> Option<Cmd>
     }
 }
 
-/// Board and place.
+/// Board and position.
 pub(crate) fn read_at(about: &[&[u8]]) -> Option<Cmd>
     ensures some { IfSome result (Spells Word.At (map (λ field. field.now) about.now)) }
     ensures only { (cmd : CmdValue) → Spells Word.At (map (λ field. field.now) about.now) cmd

@@ -12,9 +12,9 @@ pub fn the_table_has_just_the_records_of_commands()
     ensures states { (fields : List (List ℕ)) → HasRow fields → StatesSome fields }
 {}
 
-/// A record is wrong at one place at most. Where it breaks off in a command's record that is the place of the first field
+/// A record is wrong at one field at most. Where it breaks off in a command's record that is the number of the first field
 /// that is missing, and where fields stand behind a command's record that of the first of these; so of a command's record
-/// itself it is the place behind its last field. No command's record begins with the fields up to a wrong one. It does
+/// itself it is the number behind its last field. No command's record begins with the fields up to a wrong one. It does
 /// nothing: its clauses are the law.
 pub fn a_record_is_wrong_at_one_field()
     ensures one { (fields : List (List ℕ)) (p q : ℕ) → IsWrongAt fields p → IsWrongAt fields q

@@ -3,6 +3,6 @@
 pub(crate) struct WrongField {
     /// The number of its record, from 1; a day file's opening is record 1.
     pub record_no: u32,
-    /// Its place in the record, from 1.
+    /// Its number in the record, from 1.
     pub field: u8,
 }

@@ -197,7 +197,7 @@ impl Course {
         }
     }
 
-    // It is asked who stands at a place.
+    // It is asked who stands at a position.
     fn place(&mut self, codes: &Codes) -> Cmd
         ensures course { self.new ≡ (place_turn self.old).course }
         ensures cmd { result ≡ (place_turn self.old).cmd }

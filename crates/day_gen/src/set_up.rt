@@ -110,7 +110,7 @@ fn join(person: PersonNo, first: bool) -> Cmd
     if first { enrol(person) } else { list(person) }
 }
 
-/// The command at this place, from 0, of those that set the desk up.
+/// The command at this index, from 0, of those that set the desk up.
 pub(crate) fn set_up_command(place: u32) -> Cmd
     requires { place < SET_UP }
     ensures { slice_get set_up place ≡ Some result }

@@ -96,7 +96,7 @@ pub enum Cmd {
         person: PersonNo,
         month: Month,
     },
-    /// Who stands at a place of a board, from 1, is asked.
+    /// Who stands at a position of a board, from 1, is asked.
     At {
         board: Code,
         place: u16,

@@ -14,7 +14,7 @@ pub enum Reply {
         board: Code,
         position: u16,
     },
-    /// Everybody in the chain is barred: so many places, where who stands there twice counts twice.
+    /// Everybody in the chain is barred: so many positions, where who stands there twice counts twice.
     Unfilled {
         listed: u16,
     },

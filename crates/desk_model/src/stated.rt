@@ -31,7 +31,7 @@ impl Model for Stated {
 
 impl Stated {
     /// A command stated at a minute; `None` where that minute, or one that the command tells of an event, or the
-    /// month that it asks about, lies outside the years 2000 to 2099, or the place of a board that it asks about
+    /// month that it asks about, lies outside the years 2000 to 2099, or the position on a board that it asks about
     /// isn't 1 to 9,999.
     #[inline]
     pub fn new(minute: Minute, cmd: Cmd) -> Option<Stated>

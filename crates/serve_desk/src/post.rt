@@ -12,7 +12,7 @@ pub(crate) struct Post<S, L> {
     pub line: L,
 }
 
-/// Gives each line the seat of its place. The posts have room for all.
+/// Gives each line the seat of its number. The posts have room for all.
 pub(crate) fn seat_lines<S, L>(lines: &mut Vec<L>, seats: &mut Vec<S>, posts: &mut Vec<Post<S, L>>)
     requires as_many { vec_len seats.old ≡ vec_len lines.old }
     requires empty { posts.old.items ≡ [] }

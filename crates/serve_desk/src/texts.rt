@@ -17,7 +17,7 @@ pub const NO_MEMORY: &[u8] = b"no memory\n";
 /// The line gave a command, and its seat has no call left.
 pub const SPENT: &[u8] = b"spent\n";
 
-/// The text for a line that states no command, with the place of its first wrong field, from 1, or 0 where it isn't one record.
+/// The text for a line that states no command, with the number of its first wrong field, from 1, or 0 where it isn't one record.
 pub(crate) fn write_malformed(field: u8) -> LineText
     ensures { result.items ≡ malformed field }
 {

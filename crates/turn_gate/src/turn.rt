@@ -36,7 +36,7 @@ impl<B> Model for Turn<B> {
 }
 
 impl<B> Turn<B> {
-    /// The turn's place: the number of entries before its own.
+    /// The number of the turn's entry: how many entries are before it.
     pub fn place(&self) -> u32
         ensures { result ≡ self.now.place }
     {

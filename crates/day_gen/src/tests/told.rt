@@ -69,7 +69,7 @@ impl Told {
         day
     }
 
-    /// The place of the first turn, from 0, which is another; `None` where none is.
+    /// The index of the first turn, from 0, which is another; `None` where none is.
     pub(crate) fn first_wrong(&mut self, turns: &[Turn]) -> Result<Option<usize>, Fail> {
         for (i, (minute, cmd, reply)) in turns.iter().enumerate() {
             let reply = (*reply).ok_or("no reply")?;

@@ -63,7 +63,7 @@ abbrev pub keep_last : List ℕ → List ℕ
 keep_last [] = []
 keep_last (p ∷ ps) = if list_any (nat_eq p) ps then keep_last ps else p ∷ keep_last ps
 
--- the order of the board: all who are on it, by the place of the last entry that sent each to its bottom
+-- the order of the board: all who are on it, by the number of the last entry that sent each to its bottom
 abbrev pub order : History → List ℕ → List ℕ
 order h b = filter (λ p. is_on h p b) (keep_last (sent_to h b))
 

@@ -1,4 +1,4 @@
--- Ranks: the order of a board as places of entries.
+-- Ranks: the order of a board as numbers of entries.
 use Rattle.std.specs.Prelude.{◌≡◌, ℕ, ◌<◌, Bool, true, false, nat_eq, Option, None, Some, if◌then◌else◌, List, [], ◌∷◌, ⊤}
 use Rattle.std.specs.List.{list_any}
 use Rattle.desk_model.specs.histories.History.{History, Step, steps, entry_no, last_of}
@@ -9,11 +9,11 @@ abbrev pub is_number : ℕ → Option ℕ → Bool
 is_number n None = false
 is_number n (Some other) = nat_eq n other
 
--- the place of a step that sends the person to the bottom of the board
+-- the number of a step that sends the person to the bottom of the board
 abbrev pub sends_at : List ℕ → ℕ → Step → Option ℕ
 sends_at b p s = if is_number p (sent b s) then Some (entry_no s) else None
 
--- the rank of a person on a board: the place of the last entry that sent them to its bottom
+-- the rank of a person on a board: the number of the last entry that sent them to its bottom
 abbrev pub rank : History → List ℕ → ℕ → Option ℕ
 rank h b p = last_of (sends_at b p) (steps h)
 

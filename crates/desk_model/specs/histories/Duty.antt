@@ -17,7 +17,7 @@ tells p (cmd.Past person event) = if nat_eq person p then Some event else None
 tells p (cmd.Happened person event) = if nat_eq person p then Some event else None
 tells p other = None
 
--- an event, and the place of the entry that told it
+-- an event, and the number of the entry that told it
 pub record Told : Type 0 where
   pub place : ℕ
   pub event : Event
@@ -29,7 +29,7 @@ told_at place event = record { place = place; event = event }
 abbrev pub told_by : ℕ → Step → Option Told
 told_by p s = option_map (told_at (entry_no s)) (said (tells p) s.entry)
 
--- the events without their places
+-- the events without these numbers
 abbrev pub events_in : List Told → List Event
 events_in xs = map (λ x. x.event) xs
 

@@ -1,4 +1,4 @@
--- Histories: how a desk was opened, and its entries since. The place of an entry is the number of entries before it.
+-- Histories: how a desk was opened, and its entries since. The number of an entry is how many entries are before it.
 use Rattle.std.specs.Prelude.{ℕ, Bool, true, false, Option, None, if◌then◌else◌, List, [], ◌∷◌, ◌++◌, length}
 use Rattle.std.specs.Option.{option_or}
 use Rattle.desk_model.specs.declared.command.Cmd.{Cmd}
@@ -39,7 +39,7 @@ steps_from h (e ∷ later) = step_of h e ∷ steps_from (with_entry h e) later
 unfoldable pub steps : History → List Step
 steps h = steps_from (opened h.opening) h.entries
 
--- the place of a step's entry
+-- the number of a step's entry
 abbrev pub entry_no : Step → ℕ
 entry_no s = length s.before.entries
 

@@ -87,7 +87,7 @@ pub fn what_is_told_may_follow()
         → said (tells p) e ≡ Some t → Holds h.opening.window (last_minute t) }
 {}
 
-/// The order of a board is the one list of just those who are on it by rising rank: the place of the last entry that
+/// The order of a board is the one list of just those who are on it by rising rank: the number of the last entry that
 /// sent each to its bottom. It does nothing: its clauses are the law.
 pub fn order_is_by_rank()
     ensures by_rank { (h : History) (b : List ℕ) → IsByRank h b (order h b) }

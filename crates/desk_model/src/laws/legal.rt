@@ -70,7 +70,7 @@ pub fn a_legal_history_fits()
     what_a_bar_of_the_law_keeps();
 }
 
-/// In a legal history at most 500 persons are on a board, and so a chain of at most 4 boards has at most 2,000 places. It
+/// In a legal history at most 500 persons are on a board, and so a chain of at most 4 boards has at most 2,000 positions. It
 /// does nothing: its clauses are the laws.
 pub fn boards_and_chains_are_bounded()
     ensures boards { (h : History) (b : List ℕ) → IsLegal h → length (order h b) ≤ MEMBER_LIMIT }

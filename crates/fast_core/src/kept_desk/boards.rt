@@ -83,7 +83,7 @@ impl KeptDesk {
         }
     }
 
-    /// Who stands at this index of the board, from 1; `None` where nobody does.
+    /// Who stands at this position of the board, from 1; `None` where nobody does.
     pub(crate) fn member_at(&self, board: &Code, position: u16) -> Option<PersonNo>
         ensures { (h : History) → Tells self.now h → result ≡ member_at h board.now position }
     {

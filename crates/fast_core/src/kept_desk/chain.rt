@@ -1,4 +1,4 @@
-//! Indexes in the chain of a vacancy, and the first whom nothing bars.
+//! Positions in the chain of a vacancy, and the first whom nothing bars.
 ghost use Rattle.std.specs.Prelude.{◌≡◌, length, ◌≤◌, ◌+◌};
 ghost use Rattle.desk_model.specs.histories.History.{History};
 ghost use Rattle.desk_model.specs.boards.Boards.{chain};
