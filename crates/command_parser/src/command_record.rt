@@ -63,14 +63,14 @@ pub fn stated_by(last: &mut LastMinute, minute: &[u8], command: &[&[u8]]) -> Opt
         → result ≡ Some s }
 {
     let minute = last.read(minute)?;
-    match read_cmd(command) {
+    match read_cmd(last, command) {
         Some(cmd) => Stated::new(minute, cmd),
         None => None,
     }
 }
 
 // The command of its word and the fields behind it.
-fn read_cmd(fields: &[&[u8]]) -> Option<Cmd>
+fn read_cmd(last: &LastMinute, fields: &[&[u8]]) -> Option<Cmd>
     ensures some { IfSome result (SpellsCommand (map (λ field. field.now) fields.now)) }
     ensures only { (cmd : CmdValue) → SpellsCommand (map (λ field. field.now) fields.now) cmd
         → result ≡ Some cmd }
@@ -85,9 +85,9 @@ fn read_cmd(fields: &[&[u8]]) -> Option<Cmd>
         Word::List | Word::Unlist => read_listing(word, about),
         Word::Off | Word::On | Word::Drop => read_about_person(word, about),
         Word::Qualify => read_qualify(about),
-        Word::Past | Word::Event => read_about_event(word, about),
-        Word::Vacancy => read_vacancy(about, false),
-        Word::Relief => read_vacancy(about, true),
+        Word::Past | Word::Event => read_about_event(last, word, about),
+        Word::Vacancy => read_vacancy(last, about, false),
+        Word::Relief => read_vacancy(last, about, true),
         Word::Next | Word::Annul | Word::Vac => read_about_vac(word, about),
         Word::Offer
         | Word::Accept

@@ -6,9 +6,10 @@ ghost use Rattle.command_parser.specs.Spelled.{Spells, SpellsCommand};
 
 use crate::field::{read_count, read_extra, read_position, read_vac};
 use crate::word::Word;
-use desk_base::{Code, Minute};
+use desk_base::Code;
 use desk_model::{Chain, Cmd, Job};
 use qualifications::{Craft, Quals};
+use record_rows::LastMinute;
 
 /// Board, sort and place.
 pub(crate) fn read_board(about: &[&[u8]]) -> Option<Cmd>
@@ -26,8 +27,9 @@ pub(crate) fn read_board(about: &[&[u8]]) -> Option<Cmd>
     })
 }
 
-/// Vacancy, craft, qualifications, place, report, duty, limbo and chain, of a relief vacancy or of another.
-pub(crate) fn read_vacancy(about: &[&[u8]], relief: bool) -> Option<Cmd>
+/// Vacancy, craft, qualifications, place, report, duty, limbo and chain, of a relief vacancy or of another. `last` is the minute that was
+/// read last: it only spares work.
+pub(crate) fn read_vacancy(last: &LastMinute, about: &[&[u8]], relief: bool) -> Option<Cmd>
     ensures some { IfSome result (SpellsCommand
         (job_word relief ∷ map (λ field. field.now) about.now)) }
     ensures only { (cmd : CmdValue)
@@ -42,7 +44,7 @@ pub(crate) fn read_vacancy(about: &[&[u8]], relief: bool) -> Option<Cmd>
         Craft::read(craft)?,
         Quals::read(quals)?,
         Code::read(place)?,
-        Minute::read(report)?,
+        last.read_beside(report)?,
         read_count(duty)?,
         read_count(limbo)?,
         Chain::read(chain)?,

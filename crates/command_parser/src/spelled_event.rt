@@ -5,24 +5,26 @@ ghost use Rattle.duty_events.specs.declared.kind.Kind.{Kind as KindValue};
 ghost use Rattle.desk_model.specs.texts.StatedTexts.{kind_text};
 ghost use Rattle.command_parser.specs.Spelled.{SpellsEvent};
 
-use desk_base::{Code, Minute, Span};
+use desk_base::{Code, Span};
 use duty_events::{Event, Kind};
+use record_rows::LastMinute;
 
 /// The event that fields spell; `None` where they spell none: its word, its minute, the kind and the place of an interim,
-/// the place of a final release, or the end and the place of other service.
-pub(crate) fn read_event(fields: &[&[u8]]) -> Option<Event>
+/// the place of a final release, or the end and the place of other service. `last` is the minute that was read last: it only spares
+/// work.
+pub(crate) fn read_event(last: &LastMinute, fields: &[&[u8]]) -> Option<Event>
     ensures some { IfSome result (SpellsEvent (map (λ field. field.now) fields.now)) }
     ensures only { (event : EventValue) → SpellsEvent (map (λ field. field.now) fields.now) event
         → result ≡ Some event }
 {
     match fields {
-        [word, at] => read_moment(word, at),
-        [word, at, place] => read_final(word, at, place),
+        [word, at] => read_moment(last, word, at),
+        [word, at, place] => read_final(last, word, at, place),
         [word, at, kind_or_end, place] => {
             if *word == b"interim".as_slice() {
-                read_interim(at, kind_or_end, place)
+                read_interim(last, at, kind_or_end, place)
             } else {
-                read_other(word, at, kind_or_end, place)
+                read_other(last, word, at, kind_or_end, place)
             }
         }
         _ => None,
@@ -30,12 +32,12 @@ pub(crate) fn read_event(fields: &[&[u8]]) -> Option<Event>
 }
 
 // An event that is its word and its minute alone.
-fn read_moment(word: &[u8], at: &[u8]) -> Option<Event>
+fn read_moment(last: &LastMinute, word: &[u8], at: &[u8]) -> Option<Event>
     ensures some { IfSome result (SpellsEvent (word.now ∷ at.now ∷ [])) }
     ensures only { (event : EventValue) → SpellsEvent (word.now ∷ at.now ∷ []) event
         → result ≡ Some event }
 {
-    let at = Minute::read(at)?;
+    let at = last.read_beside(at)?;
     if word == b"ride".as_slice() {
         Some(Event::Ride(at))
     } else if word == b"duty".as_slice() {
@@ -52,12 +54,12 @@ fn read_moment(word: &[u8], at: &[u8]) -> Option<Event>
 }
 
 // A final release.
-fn read_final(word: &[u8], at: &[u8], place: &[u8]) -> Option<Event>
+fn read_final(last: &LastMinute, word: &[u8], at: &[u8], place: &[u8]) -> Option<Event>
     ensures some { IfSome result (SpellsEvent (word.now ∷ at.now ∷ place.now ∷ [])) }
     ensures only { (event : EventValue) → SpellsEvent (word.now ∷ at.now ∷ place.now ∷ []) event
         → result ≡ Some event }
 {
-    let at = Minute::read(at)?;
+    let at = last.read_beside(at)?;
     let place = Code::read(place)?;
     if word == b"final".as_slice() {
         Some(Event::Final(at, place))
@@ -67,13 +69,13 @@ fn read_final(word: &[u8], at: &[u8], place: &[u8]) -> Option<Event>
 }
 
 // A release for an interim, behind its word.
-fn read_interim(at: &[u8], kind: &[u8], place: &[u8]) -> Option<Event>
+fn read_interim(last: &LastMinute, at: &[u8], kind: &[u8], place: &[u8]) -> Option<Event>
     ensures some { IfSome result (SpellsEvent (codes "interim" ∷ at.now ∷ kind.now ∷ place.now ∷ [])) }
     ensures only { (event : EventValue)
         → SpellsEvent (codes "interim" ∷ at.now ∷ kind.now ∷ place.now ∷ []) event
         → result ≡ Some event }
 {
-    let at = Minute::read(at)?;
+    let at = last.read_beside(at)?;
     let kind = read_kind(kind)?;
     let place = Code::read(place)?;
     Some(Event::Interim(at, kind, place))
@@ -96,14 +98,14 @@ pub fn read_kind(text: &[u8]) -> Option<Kind>
 }
 
 // Other service. An interim's word is no word of it.
-fn read_other(word: &[u8], from: &[u8], to: &[u8], place: &[u8]) -> Option<Event>
+fn read_other(last: &LastMinute, word: &[u8], from: &[u8], to: &[u8], place: &[u8]) -> Option<Event>
     ensures some { IfSome result (SpellsEvent (word.now ∷ from.now ∷ to.now ∷ place.now ∷ [])) }
     ensures only { word.now ≢ codes "interim" → (event : EventValue)
         → SpellsEvent (word.now ∷ from.now ∷ to.now ∷ place.now ∷ []) event
         → result ≡ Some event }
 {
-    let from = Minute::read(from)?;
-    let to = Minute::read(to)?;
+    let from = last.read_beside(from)?;
+    let to = last.read_beside(to)?;
     let place = Code::read(place)?;
     let span = Span::new(from, to)?;
     if word == b"other".as_slice() {

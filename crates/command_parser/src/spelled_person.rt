@@ -9,6 +9,7 @@ use crate::word::Word;
 use desk_base::{Code, Month};
 use desk_model::Cmd;
 use qualifications::{Craft, Quals};
+use record_rows::LastMinute;
 
 /// Person, craft, home and qualifications.
 pub(crate) fn read_enrol(about: &[&[u8]]) -> Option<Cmd>
@@ -80,8 +81,8 @@ pub(crate) fn read_qualify(about: &[&[u8]]) -> Option<Cmd>
     })
 }
 
-/// The command of `past` or `event`: a person, and an event.
-pub(crate) fn read_about_event(word: Word, about: &[&[u8]]) -> Option<Cmd>
+/// The command of `past` or `event`: a person, and an event. `last` is the minute that was read last: it only spares work.
+pub(crate) fn read_about_event(last: &LastMinute, word: Word, about: &[&[u8]]) -> Option<Cmd>
     requires { (word ≡ Word.Past) ⊎ (word ≡ Word.Event) }
     ensures some { IfSome result (Spells word (map (λ field. field.now) about.now)) }
     ensures only { (cmd : CmdValue) → Spells word (map (λ field. field.now) about.now) cmd
@@ -91,7 +92,7 @@ pub(crate) fn read_about_event(word: Word, about: &[&[u8]]) -> Option<Cmd>
         return None;
     };
     let person = read_person(person)?;
-    let event = read_event(event)?;
+    let event = read_event(last, event)?;
     match word {
         Word::Past => Some(Cmd::Past { person, event }),
         Word::Event => Some(Cmd::Happened { person, event }),
