@@ -45,7 +45,8 @@ pub(crate) fn find(tree: &SlotTree, hint: u32, person: PersonNo) -> Option<Stand
     if let Some(at) = look(tree, hint, person) {
         return Some(at);
     }
-    for slot in 0..SLOT_LIMIT {
+    // Behind the last filled slot nobody stands.
+    for slot in 0..SLOT_LIMIT - tree.free() {
         if let Some(at) = look(tree, slot, person) {
             return Some(at);
         }
