@@ -49,20 +49,20 @@ or-turned false false = refl
 -- ---- bits of persons and vacancies
 
 -- the bit of one of each is that of another of each just where both are the same
-same-bit : (person vacancy i j : ℕ) → vacancy < 20000 → j < 20000 → nat_eq (bit_of person vacancy) (bit_of i j) ≡ (nat_eq person i && nat_eq vacancy j)
+same-bit : (person vacancy i j : ℕ) → person < 1024 → i < 1024 → nat_eq (bit_of person vacancy) (bit_of i j) ≡ (nat_eq person i && nat_eq vacancy j)
 same-bit person vacancy i j low within = go (nat_eq person i) (nat_eq vacancy j) refl refl
   where
     go : (a b : Bool) → nat_eq person i ≡ a → nat_eq vacancy j ≡ b → nat_eq (bit_of person vacancy) (bit_of i j) ≡ (a && b)
-    go true true x y = grind (arith, nat_tests, x, y)
-    go true false x y = grind (arith, nat_tests, x, y)
-    go false b x y = grind (arith, nat_tests, x, low, within)
+    go true b x y = grind (arith, nat_tests, x, y)
+    go false true x y = grind (arith, nat_tests, x, y)
+    go false false x y = grind (arith, nat_tests, x, y, low, within)
 
 -- where a bit is set, that is kept of the two, and of all others what was
-pub turned-inserted : (words old : List ℕ) (person vacancy : ℕ) → vacancy < 20000 → bit_of person vacancy / 64 < length words
+pub turned-inserted : (words old : List ℕ) (person vacancy : ℕ) → person < 1024 → bit_of person vacancy / 64 < length words
     → ((i : ℕ) → slice_index_or words i 0 ≡ slice_index_or old i 0) → (i j : ℕ)
     → turned_in (slice_set words (bit_of person vacancy / 64) (with_bit (slice_index_or words (bit_of person vacancy / 64) 0) (bit_of person vacancy % 64))) i j
     ≡ (turned_in old i j || (nat_eq person i && nat_eq vacancy j))
-turned-inserted words old person vacancy low within same i j = go (nat_lt j 20000) refl
+turned-inserted words old person vacancy low within same i j = go (nat_lt i 1024) refl
   where
     bit : ℕ
     bit = bit_of person vacancy
@@ -70,13 +70,13 @@ turned-inserted words old person vacancy low within same i j = go (nat_lt j 2000
     set : List ℕ
     set = slice_set words (bit / 64) (with_bit (slice_index_or words (bit / 64) 0) (bit % 64))
 
-    go : (here : Bool) → nat_lt j 20000 ≡ here → (here && has_index set (bit_of i j)) ≡ ((here && has_index old (bit_of i j)) || (nat_eq person i && nat_eq vacancy j))
+    go : (here : Bool) → nat_lt i 1024 ≡ here → (here && has_index set (bit_of i j)) ≡ ((here && has_index old (bit_of i j)) || (nat_eq person i && nat_eq vacancy j))
     go true here =
-        let short : j < 20000 = grind (arith, nat_tests, here) in
+        let short : i < 1024 = grind (arith, nat_tests, here) in
         inserted words bit (bit_of i j) within
         ∙ ap (λ x. x || has_index words (bit_of i j)) (same-bit person vacancy i j low short)
         ∙ or-turned (nat_eq person i && nat_eq vacancy j) (has_index words (bit_of i j))
         ∙ ap (λ w. (bit_at w (bit_of i j % 64) == 1) || (nat_eq person i && nat_eq vacancy j)) (same (bit_of i j / 64))
     go false here =
-        let other : nat_eq vacancy j ≡ false = grind (arith, nat_tests, here, low) in
-        rw other (sym (and-false (nat_eq person i)))
+        let other : nat_eq person i ≡ false = grind (arith, nat_tests, here, low) in
+        rw other refl

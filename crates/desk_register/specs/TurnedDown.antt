@@ -1,7 +1,6 @@
 -- Who is kept as having turned which vacancy down, beside what a history says of it.
-use Rattle.std.specs.Prelude.{◌≡◌, ℕ, ◌+◌, ◌*◌, ◌/◌, ◌%◌, ◌≤◌, Bool, false, ◌&&◌, ◌||◌, nat_lt, Option, Some, List, length}
+use Rattle.std.specs.Prelude.{◌≡◌, ℕ, ◌+◌, ◌*◌, ◌≤◌, Bool, false, ◌&&◌, ◌||◌, nat_lt, Option, Some, List, length}
 use Rattle.std.specs.Option.{option_and_then}
-use Rattle.desk_model.specs.declared.limits.TheConstants.{VACANCY_LIMIT}
 use Rattle.desk_model.specs.declared.command.Cmd.{Cmd}
 use Rattle.desk_model.specs.histories.History.{History}
 use Rattle.desk_model.specs.histories.Register.{persons, vacancies}
@@ -11,15 +10,16 @@ use Rattle.desk_register.specs.Words.{has_index}
 use Rattle.desk_register.specs.Among.{index_among}
 use Rattle.desk_register.specs.Vacancies.{target, turner, had_by}
 use Rattle.desk_register.specs.declared.turned_down.TurnedDown.{TurnedDown}
+use Rattle.desk_register.specs.declared.turned_down.TheConstants.{PERSON_BITS}
 
--- the bit of the person at an index and the vacancy at an index: 64 persons have a word of each of 20,000 vacancies, and their words
--- stand behind those of the 64 persons before them
+-- the bit of the person at an index and the vacancy at an index: each vacancy has one of each of 1,024 persons, behind those of the
+-- vacancy before it
 abbrev pub bit_of : ℕ → ℕ → ℕ
-bit_of person vacancy = (person / 64 * VACANCY_LIMIT + vacancy) * 64 + person % 64
+bit_of person vacancy = vacancy * PERSON_BITS + person
 
--- the one has turned down the other; nobody has turned down what has no such index
+-- the one has turned down the other; who has no such index has turned nothing down
 abbrev pub turned_in : List ℕ → ℕ → ℕ → Bool
-turned_in words person vacancy = nat_lt vacancy VACANCY_LIMIT && has_index words (bit_of person vacancy)
+turned_in words person vacancy = nat_lt person PERSON_BITS && has_index words (bit_of person vacancy)
 
 abbrev pub turned_at : TurnedDown → ℕ → ℕ → Bool
 turned_at x person vacancy = turned_in x.words.items person vacancy

@@ -1,18 +1,19 @@
 ghost use Rattle.std.specs.Prelude.{◌≤◌, length, vec_capacity, ◌≡◌, ◌<◌, ◌/◌, ℕ, false, Some, IfOk, IfSome, slice_index_or};
-ghost use Rattle.desk_register.specs.declared.turned_down.TheConstants.{WORDS};
-ghost use Rattle.desk_model.specs.declared.limits.TheConstants.{PERSON_LIMIT, VACANCY_LIMIT};
+ghost use Rattle.desk_register.specs.declared.turned_down.TheConstants.{PERSON_BITS, WORDS};
 
 use crate::person_index::PersonIndex;
 use crate::vacancy_index::VacancyIndex;
 use desk_base::NoMemory;
-use desk_model::VACANCY_LIMIT;
 use std::alloc::Global;
 
-// How many words there are: for each 64 of 1,000 persons, 16 times, one of each of 20,000 vacancies.
+// How many bits a vacancy has: one for each of 1,000 persons, in whole words of 64.
+const PERSON_BITS: usize = 1_024;
+
+// How many words there are: 16 of each of 20,000 vacancies.
 const WORDS: usize = 320_000;
 
-/// Who has turned which vacancy down, by the indexes of both among all: for each 64 persons a word of each vacancy, up to the last word
-/// with a bit that is set. So the words of vacancies that were made one after the other lie side by side. There is memory for all.
+/// Who has turned which vacancy down, by the indexes of both among all: for each vacancy a bit of each person, up to the last word
+/// with a bit that is set. So the words grow as vacancies are made. There is memory for all.
 #[derive(Drop)]
 pub struct TurnedDown {
     pub(crate) words: Vec<u64>,
@@ -26,11 +27,10 @@ impl TurnedDown {
     // The bit of the person at one index and the vacancy at another.
     fn bit_of(person: PersonIndex, vacancy: VacancyIndex) -> usize
         ensures value { result ≡ bit_of person vacancy }
-        ensures few { vacancy < VACANCY_LIMIT }
+        ensures few { person < PERSON_BITS }
         ensures range { result / 64 < WORDS }
     {
-        let person = person.number();
-        (person / 64 * VACANCY_LIMIT + vacancy.number()) * 64 + person % 64
+        vacancy.number() * PERSON_BITS + person.number()
     }
 
     /// Nobody has turned anything down; `NoMemory` where there is none for 1,000 persons and 20,000 vacancies.
