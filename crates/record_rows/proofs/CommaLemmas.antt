@@ -1,10 +1,10 @@
 -- A text that is cut at its commas from the front on: the parts so far, and what stands behind the last comma.
 use Rattle.std.proofs.Common.{◌≡◌, ◌∙◌, ℕ, ◌+◌, ◌-◌, ◌<◌, ◌≤◌, ◌==◌, false, List, [], ◌∷◌, ◌++◌, length, get_or, take, drop, refl, sym, ap, arith, append_assoc, length-append}
 use Rattle.std.specs.List.{All}
-use Rattle.std.proofs.lemmas.List.{drop-drop, drop_more, get_or-drop, take_all, take-append-drop, length-drop}
-use Rattle.std.proofs.lemmas.List.Elements.{All-more}
+use Rattle.std.proofs.lemmas.List.{drop-drop, drop_more, get_or-take, get_or-drop, get_or_default, take_all, take-append-drop, length-take}
 use Rattle.std.proofs.lemmas.List.Splits.{slice_split_at, slice_split_none}
 use Rattle.std.proofs.lemmas.Bool.{false_from_ne_true, eqb-true}
+use Rattle.byte_marks.specs.Marks.{IsNowhere}
 use Rattle.desk_base.specs.Parts.{parts_by}
 
 -- no byte from one index up to another is a comma
@@ -30,17 +30,14 @@ parts-comma front text start at parts from within here uncut so_far =
     ∙ slice_split_at (λ b. b == 44) (take (at - start) (drop start text)) 44 (drop (at + 1) text) uncut refl))
     ∙ so_far
 
--- any other byte belongs to the part at hand
-pub AreUncut-more : (text : List ℕ) (start at : ℕ) → start ≤ at → at < length text → (get_or text at 0 ≡ 44 → ⊥) → AreUncut text start at → AreUncut text start (at + 1)
-AreUncut-more text start at from within other uncut =
-    let next : at + 1 - start ≡ at - start + 1 = omega arith in
-    let there : start + (at - start) ≡ at = omega arith in
-    let is : get_or (drop start text) (at - start) 0 ≡ get_or text at 0 = get_or-drop start text (at - start) 0 ∙ ap (λ n. get_or text n 0) there in
-    rw next (All-more (λ b. (b == 44) ≡ false) (drop start text) (at - start) 0 (omega (arith, length-drop start text)) uncut
-    (ap (λ b. b == 44) is ∙ false_from_ne_true (get_or text at 0 == 44) (λ e. other (eqb-true _ 44 e))))
-
-pub AreUncut-none : (text : List ℕ) (at : ℕ) → AreUncut text at at
-AreUncut-none text at = let none : at - at ≡ 0 = omega arith in rw none (λ k d within. absurd (omega (arith, within)))
+-- a text has none where it stands nowhere
+pub uncut-between : (text : List ℕ) (start at : ℕ) → at ≤ length text → IsNowhere text 44 start at → AreUncut text start at
+uncut-between text start at within none k d low =
+    let behind : k < at - start = omega (arith, low, length-take (at - start) (drop start text)) in
+    let inside : start + k < length text = omega (arith, behind, within) in
+    let is : get_or (take (at - start) (drop start text)) k d ≡ get_or text (start + k) 0 =
+    get_or-take (at - start) (drop start text) k d behind ∙ get_or-drop start text k d ∙ get_or_default text (start + k) d 0 inside in
+    ap (λ b. b == 44) is ∙ false_from_ne_true (get_or text (start + k) 0 == 44) (λ e. none (start + k) (omega arith) (omega (arith, behind)) (eqb-true _ 44 e))
 
 -- what stands behind the last comma is the last part
 pub parts-last : (front : List (List ℕ)) (last : List ℕ) (parts : List (List ℕ)) → All (λ b. (b == 44) ≡ false) last → length front < 12

@@ -4,6 +4,7 @@ ghost use Rattle.csv.specs.Records.{fields_of};
 ghost use Rattle.desk_base.specs.Parts.{parts_by};
 
 use arrayvec::ArrayVec;
+use byte_marks::Marks;
 use csv::ByteRecord;
 
 /// How many fields of a record are given, at most. No command has as many.
@@ -35,17 +36,14 @@ pub fn fill_with_line<'a>(fields: &mut Fields<'a>, text: &'a [u8])
     ensures { map (λ field. field.now) fields.new.items ≡ take FIELD_LIMIT (parts_by 44 text.now) }
 {
     fields.clear();
+    let mut commas = Marks::of(text, b',');
     let mut start = 0;
-    for (at, byte) in text.iter().enumerate() {
-        if *byte == b',' {
-            if fields.is_full() {
-                return;
-            }
-            fields.push(&text[start..at]);
-            start = at + 1;
-        }
-    }
-    if !fields.is_full() {
-        fields.push(&text[start..]);
+    for filled in 0..FIELD_LIMIT {
+        let Some(at) = commas.next() else {
+            fields.push(&text[start..]);
+            return;
+        };
+        fields.push(&text[start..at]);
+        start = at + 1;
     }
 }

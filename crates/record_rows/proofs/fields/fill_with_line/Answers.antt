@@ -1,52 +1,41 @@
-use Rattle.std.proofs.Common.{◌≡◌, ◌==◌, ◌+◌, ◌-◌, ◌∙◌, false, length, take, drop, map, sym, subst, arith}
+use Rattle.std.proofs.Common.{◌≡◌, ◌-◌, ◌==◌, ◌∙◌, false, length, take, drop, map, subst, arith}
 use Rattle.std.specs.List.{All}
 use Rattle.std.proofs.lemmas.List.{length-map, map-append, take_all, length-drop}
-use Rattle.std.proofs.lemmas.Bool.{eqb-true, eqb-false}
+use Rattle.byte_marks.specs.Marks.{IsFirstFrom, IsNowhere}
 use Rattle.desk_base.specs.Parts.{parts_by}
 use Rattle.record_rows.proofs.FieldLemmas.{take-front}
-use Rattle.record_rows.proofs.CommaLemmas.{parts-comma, parts-last, AreUncut-more, AreUncut-none}
+use Rattle.record_rows.proofs.CommaLemmas.{parts-comma, parts-last, uncut-between}
 use Rattle.record_rows.proofs.fields.fill_with_line.Goals as goal
-use Rattle.record_rows.proofs.fields.fill_with_line.Goals.{then-byte-eq44+else-is_full, else-byte-eq44}
 
-pub returns-then-is_full : goal.returns-then-is_full
-returns-then-is_full c = take-front _ (parts_by 44 (drop c.loop-at.start c.args.text.now)) _ c.loop-at.invariant.parts
-    (length-map c.loop-at.fields.items (λ field. field.now) ∙ eqb-true _ _ (sym c.is_full.ensures.value ∙ c.if-is_full.true))
-
-pub loop-at-preserved : goal.loop-at-preserved
-loop-at-preserved c =
+pub loop-filled-preserved : goal.loop-filled-preserved
+loop-filled-preserved c =
     let text = c.args.text.now in
-    let start = c.loop-at.start in
-    let at = c.loop-at.at in
-    elim c.if-byte-eq44.branch [
-      | then-byte-eq44+else-is_full w ↦ record {
-        parts = rw (w.fields-is, w.start-is, w.push.ensures.items, map-append (λ field. field.now) c.loop-at.fields.items _)
-            (parts-comma (map (λ field. field.now) c.loop-at.fields.items) text start at _ c.loop-at.invariant.within c.loop-at-test.true w.if-byte-eq44.true
-            c.loop-at.invariant.unmarked c.loop-at.invariant.parts);
-        few = rw w.fields-is (omega (arith, w.push.ensures.len, c.loop-at.invariant.few, eqb-false (length c.loop-at.fields.items) 12 (sym w.is_full.ensures.value ∙ w.if-is_full.false)));
-        within = rw w.start-is (omega arith);
-        unmarked = rw w.start-is (AreUncut-none text (at + 1));
-      }
-      | else-byte-eq44 w ↦ record {
-        parts = rw (w.fields-is, w.start-is) c.loop-at.invariant.parts;
-        few = rw w.fields-is c.loop-at.invariant.few;
-        within = rw w.start-is (omega (arith, c.loop-at.invariant.within));
-        unmarked = rw w.start-is (AreUncut-more text start at c.loop-at.invariant.within c.loop-at-test.true w.if-byte-eq44.false c.loop-at.invariant.unmarked);
-      }
-    ]
+    let start = c.loop-filled.start in
+    let at = c.in-Some.at in
+    let so_far = c.loop-filled.invariant in
+    let found : IsFirstFrom text 44 start at = rw so_far.commas at c.in-Some.ensures.found.0 in
+    record {
+      parts = rw (c.push-in-loop-filled.ensures.items, map-append (λ field. field.now) c.loop-filled.fields.items _)
+          (parts-comma (map (λ field. field.now) c.loop-filled.fields.items) text start at _ found.behind found.stands.0 found.stands.1
+          (uncut-between text start at (omega (arith, found.stands.0)) found.first) so_far.parts);
+      count = omega (arith, c.push-in-loop-filled.ensures.len, so_far.count);
+      within = omega (arith, found.stands.0);
+      commas = rw so_far.commas at c.in-Some.ensures.found.1;
+    }
 
-pub returns-else-not-is_full : goal.returns-else-not-is_full
-returns-else-not-is_full c = take-front _ (parts_by 44 (drop c.loop-at.start c.args.text.now)) _ c.loop-at.invariant.parts
-    (length-map c.loop-at.fields.items (λ field. field.now) ∙ eqb-true _ _ (sym c.is_full-2.ensures.value ∙ c.if-not-is_full.false))
+pub returns : goal.returns
+returns c = take-front _ (parts_by 44 (drop c.loop-filled.start c.args.text.now)) _ c.loop-filled.invariant.parts
+    (length-map c.loop-filled.fields.items (λ field. field.now) ∙ omega (arith, c.loop-filled.invariant.count, c.loop-filled-test.false))
 
-pub returns-then-not-is_full : goal.returns-then-not-is_full
-returns-then-not-is_full c =
+pub returns-in_default : goal.returns-in_default
+returns-in_default c =
     let text = c.args.text.now in
-    let start = c.loop-at.start in
-    let fields = c.loop-at.fields.items in
+    let start = c.loop-filled.start in
+    let fields = c.loop-filled.fields.items in
+    let none : IsNowhere text 44 start (length text) = rw c.loop-filled.invariant.commas at c.in_default.ensures.none.0 in
     let whole : take (length text - start) (drop start text) ≡ drop start text = take_all (length text - start) (drop start text) (omega (arith, length-drop start text)) in
-    let to_end : take (c.loop-at.at - start) (drop start text) ≡ drop start text = take_all (c.loop-at.at - start) (drop start text) (omega (arith, length-drop start text, c.loop-at-test.false)) in
-    let uncut : All (λ b. (b == 44) ≡ false) (drop start text) = subst (λ bytes. All (λ b. (b == 44) ≡ false) bytes) to_end c.loop-at.invariant.unmarked in
-    rw (c.push-then-not-is_full.ensures.items, map-append (λ field. field.now) fields _, whole)
+    let uncut : All (λ b. (b == 44) ≡ false) (drop start text) = subst (λ bytes. All (λ b. (b == 44) ≡ false) bytes) whole (uncut-between text start (length text) (omega arith) none) in
+    rw (c.push.ensures.items, map-append (λ field. field.now) fields _, whole)
     (parts-last (map (λ field. field.now) fields) (drop start text) (parts_by 44 text) uncut
-    (omega (arith, length-map fields (λ field. field.now), c.loop-at.invariant.few, eqb-false (length fields) 12 (sym c.is_full-2.ensures.value ∙ c.if-not-is_full.true)))
-    c.loop-at.invariant.parts)
+    (omega (arith, length-map fields (λ field. field.now), c.loop-filled.invariant.count, c.loop-filled-test.true))
+    c.loop-filled.invariant.parts)

@@ -1,12 +1,12 @@
-use Rattle.std.proofs.Common.{◌≡◌, ◌++◌, ◌-◌, ◌≤◌, ◌==◌, false, length, map, take, drop}
-use Rattle.std.specs.List.{All}
+use Rattle.std.proofs.Common.{◌≡◌, ◌++◌, ◌≤◌, length, map, drop}
+use Rattle.byte_marks.specs.Marks.{marks_from}
 use Rattle.desk_base.specs.Parts.{parts_by}
 use Rattle.record_rows.proofs.fields.fill_with_line.Given as goal
 
-abbrev pub invariant-loop-at : goal.invariant-loop-at
-invariant-loop-at l = record {
+abbrev pub invariant-loop-filled : goal.invariant-loop-filled
+invariant-loop-filled l = record {
   parts : map (λ field. field.now) l.fields.items ++ parts_by 44 (drop l.start l.text) ≡ parts_by 44 l.fn.text;
-  few : length l.fields.items ≤ 12;
-  within : l.start ≤ l.at;
-  unmarked : All (λ b. (b == 44) ≡ false) (take (l.at - l.start) (drop l.start l.text));
+  count : length l.fields.items ≡ l.filled;
+  within : l.start ≤ length l.text;
+  commas : l.commas ≡ marks_from l.text 44 l.start;
 }
