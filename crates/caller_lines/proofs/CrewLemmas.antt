@@ -9,7 +9,7 @@ use Rattle.desk_model.specs.declared.command.Cmd.TheVariants as cmd
 use Rattle.desk_model.specs.statements.Statement.{StatedValue}
 use Rattle.desk_model.specs.texts.StatedTexts.{job_word, job_fields, command_fields}
 use Rattle.command_parser.specs.CommandLine.{IsCommandLine}
-use Rattle.caller_lines.specs.CrewLines.{IsCrewLine, IsCrewRecord, IsNoCrew}
+use Rattle.caller_lines.specs.CrewLines.{IsCrewRecord, IsNoCrew}
 
 -- four fields are a crew call's, where each is
 pub crew-record : (fields : List (Bor (List ℕ))) (d : Bor (List ℕ)) (minute first second : ℕ) → 4 ≤ length fields → length fields < 5 → (get_or fields 1 d).now ≡ codes "crew"

@@ -1,4 +1,5 @@
 mod PutLemmas
+mod WaitLemmas
 mod LineLemmas
 mod TakeLemmas
 mod CrewLemmas

@@ -1,14 +1,16 @@
 -- What is taken of a reader's bytes, part by part.
 use Rattle.std.proofs.Common.{◌≡◌, ◌≢◌, ◌⊎◌, ℕ, ◌+◌, ◌<◌, ◌≤◌, List, [], ◌∷◌, ◌++◌, length, Option, None, Some, inl, inr, sym, ap, subst, ◌∙◌, refl, arith, append_assoc, length-append}
 use Rattle.std.proofs.lemmas.List.{append-nil}
-use Rattle.std.proofs.lemmas.List.Elements.{All-append, All-nil, All-head, All-tail}
+use Rattle.std.proofs.lemmas.List.Elements.{All-append, All-head, All-tail}
 use Rattle.std.specs.Fmt.{option_append}
 use Rattle.std.specs.Io.KnownBytes.{Consumes, IsAtEnd}
 use Rattle.std.proofs.KnownBytes.{Consumes-trans}
 use Rattle.caller_lines.specs.declared.heard.Heard.{Heard}
 use Rattle.caller_lines.specs.declared.heard.Heard.TheVariants as heard
 use Rattle.caller_lines.specs.Given.{answer_of}
-use Rattle.caller_lines.specs.Takes.{IsUnfed, TookLine, TookLonger, TookUnfed, EndsLine, HasLonger, TookSome, Takes, CutPart, GotPart, Gathering}
+use Rattle.caller_lines.specs.Takes.{IsUnfed, TookLine, TookLonger, TookUnfed, EndsLine, HasLonger, TookSome, Takes, CutPart, Cuts, GotPart, Gathers, Gathering}
+use Rattle.caller_lines.specs.declared.file_line.Gathered.{Gathered}
+use Rattle.caller_lines.specs.declared.file_line.Gathered.TheVariants.{Fed, Part, End, Failed}
 
 -- a part more
 pub Gathering-more : (a b c : Option (List ℕ)) (before after : List ℕ) (len count : ℕ)
@@ -149,3 +151,27 @@ HasLonger-told Error NoFile left new into heard.Failed has takes fails = elim (f
     | inr unfed ↦ absurd (TookUnfed-none left new has unfed)
   ]
 ]
+
+-- ---- a part cut from what is held
+
+cut-consumes : (behind : Option (List ℕ)) (held rest bytes : List ℕ) → held ≡ bytes ++ rest → Consumes (option_append (Some held) behind) (option_append (Some rest) behind) bytes
+cut-consumes None held rest bytes cut = tt
+cut-consumes (Some more) held rest bytes cut = ap (λ h. h ++ more) cut ∙ append_assoc bytes rest more
+
+GotPart-cut : (left behind : Option (List ℕ)) (held rest before after feed : List ℕ) (count : ℕ) → Consumes left (option_append (Some held) behind) []
+    → CutPart held rest before after feed count → GotPart left (option_append (Some rest) behind) before after feed count
+GotPart-cut left behind held rest before after feed count none cut = record {
+  part = cut.part;
+  taken = Consumes-trans left (option_append (Some held) behind) (option_append (Some rest) behind) [] (cut.part ++ feed) none
+      (cut-consumes behind held rest (cut.part ++ feed) (cut.cut ∙ sym (append_assoc cut.part feed rest)));
+  counted = cut.counted;
+  unfed = cut.unfed;
+  kept = cut.kept;
+}
+
+pub Gathers-cut : (left behind : Option (List ℕ)) (held rest before after : List ℕ) (got : Gathered) → Consumes left (option_append (Some held) behind) []
+    → Cuts held rest before after got → Gathers left (option_append (Some rest) behind) before after got
+Gathers-cut left behind held rest before after (Fed count) none cuts = GotPart-cut left behind held rest before after (10 ∷ []) count none cuts
+Gathers-cut left behind held rest before after (Part count) none cuts = GotPart-cut left behind held rest before after [] count none cuts
+Gathers-cut left behind held rest before after End none cuts = absurd cuts
+Gathers-cut left behind held rest before after Failed none cuts = absurd cuts

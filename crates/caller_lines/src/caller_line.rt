@@ -17,17 +17,30 @@ pub trait CallerLine: Drop {
     /// Its calls in their order, where the line tells them: what `next` answered, and the texts that were put.
     ghost calls: { Self → Option (List LineCall) };
 
+    /// All that was put on it is written.
+    ghost settled: { Self → Type 0 };
+
     /// Gives the caller's next line, without its line feed, if it has 512 bytes at most.
     fn next(&mut self, into: &mut LineBuf) -> Heard
         ensures asked { calls self.new ≡ with_last (calls self.old) (Asked (answer_of result into.new.items)) }
         ensures faults_grow { faults self.old ≤ faults self.new }
         ensures cause { result ≡ Heard.Failed → Rose (faults self.old) (faults self.new) }
-        ensures no_fault { result ≢ Heard.Failed → faults self.new ≡ faults self.old };
+        ensures no_fault { result ≢ Heard.Failed → faults self.new ≡ faults self.old }
+        ensures settled { result ≡ Heard.End → settled self.new };
 
-    /// Puts a text on the line, and says whether it was taken.
+    /// Puts a text on the line, and says whether it was taken. Whoever puts the last one calls `finish` behind it.
     fn put(&mut self, text: &[u8]) -> bool
         ensures puts { OnTrue result (calls self.new ≡ with_last (calls self.old) (PutText text.now)) }
         ensures no_put { OnFalse result (calls self.new ≡ calls self.old) }
+        ensures faults_grow { faults self.old ≤ faults self.new }
+        ensures cause { OnFalse result (Rose (faults self.old) (faults self.new)) }
+        ensures no_fault { OnTrue result (faults self.new ≡ faults self.old) };
+
+    /// Writes what was put and still waits to be written, and says whether all of it was. A line may let texts wait while it holds more
+    /// lines of its caller, but none while it waits for its caller.
+    fn finish(&mut self) -> bool
+        ensures settled { OnTrue result (settled self.new) }
+        ensures told { calls self.new ≡ calls self.old }
         ensures faults_grow { faults self.old ≤ faults self.new }
         ensures cause { OnFalse result (Rose (faults self.old) (faults self.new)) }
         ensures no_fault { OnTrue result (faults self.new ≡ faults self.old) };

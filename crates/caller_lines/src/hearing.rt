@@ -24,6 +24,7 @@ pub fn hear(alloc: Global, line: &mut Box<dyn CallerLine + Send>) -> Said
     ensures faults_grow { faults line.old ≤ faults line.new }
     ensures cause { result ≡ Said.LineFault → Rose (faults line.old) (faults line.new) }
     ensures no_fault { result ≢ Said.LineFault → faults line.new ≡ faults line.old }
+    ensures settled { result ≡ Said.End → settled line.new }
 {
     let mut bytes = LineBuf::new();
     let heard = ask(line, &mut bytes);
@@ -37,6 +38,7 @@ pub fn hear_request(alloc: Global, line: &mut Box<dyn CallerLine + Send>) -> Req
     ensures faults_grow { faults line.old ≤ faults line.new }
     ensures cause { result ≡ Request.Said Said.LineFault → Rose (faults line.old) (faults line.new) }
     ensures no_fault { result ≢ Request.Said Said.LineFault → faults line.new ≡ faults line.old }
+    ensures settled { result ≡ Request.Said Said.End → settled line.new }
 {
     let mut bytes = LineBuf::new();
     let heard = ask(line, &mut bytes);
@@ -49,6 +51,7 @@ fn ask(line: &mut Box<dyn CallerLine + Send>, into: &mut LineBuf) -> Heard
     ensures faults_grow { faults line.old ≤ faults line.new }
     ensures cause { result ≡ Heard.Failed → Rose (faults line.old) (faults line.new) }
     ensures no_fault { result ≢ Heard.Failed → faults line.new ≡ faults line.old }
+    ensures settled { result ≡ Heard.End → settled line.new }
 {
     line.next(into)
 }
@@ -58,6 +61,7 @@ fn read_heard(alloc: Global, heard: Heard, bytes: &LineBuf) -> Said
     ensures reads { ReadsAs (answer_of heard bytes.now.items) result }
     ensures fault { result ≡ Said.LineFault → heard ≡ Heard.Failed }
     ensures no_fault { heard ≡ Heard.Failed → result ≡ Said.LineFault }
+    ensures end { result ≡ Said.End → heard ≡ Heard.End }
 {
     match heard {
         Heard::Line => read_line(alloc, bytes.as_slice()),
@@ -72,6 +76,7 @@ fn read_heard_request(alloc: Global, heard: Heard, bytes: &LineBuf) -> Request
     ensures reads { ReadsRequest (answer_of heard bytes.now.items) result }
     ensures fault { result ≡ Request.Said Said.LineFault → heard ≡ Heard.Failed }
     ensures no_fault { heard ≡ Heard.Failed → result ≡ Request.Said Said.LineFault }
+    ensures end { result ≡ Request.Said Said.End → heard ≡ Heard.End }
 {
     match heard {
         Heard::Line => read_line_or_request(alloc, bytes.as_slice()),

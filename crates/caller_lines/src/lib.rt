@@ -13,6 +13,7 @@ mod memory_line;
 mod only_record;
 mod request;
 mod said;
+mod texts_out;
 
 pub use caller_line::CallerLine;
 pub use file_line::FileLine;

@@ -1,4 +1,4 @@
-ghost use Rattle.std.specs.Prelude.{◌≡◌, ◌≢◌, ◌<◌, ◌≤◌, ◌+◌, ◌==◌, ◌↔◌, ◌^◌, length, map, drop, IsTrue, IfOk};
+ghost use Rattle.std.specs.Prelude.{◌≡◌, ◌≢◌, ◌<◌, ◌≤◌, ◌+◌, ◌==◌, ◌↔◌, ◌^◌, length, map, drop, true, IsTrue, IfOk};
 ghost use Rattle.std.specs.Bool.{OnTrue, OnFalse};
 ghost use Rattle.std.specs.List.{list_any};
 ghost use Rattle.desk_io.specs.Faults.{Rose};
@@ -84,12 +84,14 @@ impl MemoryLine {
 }
 
 impl CallerLine for MemoryLine {
-    ghost use Rattle.std.specs.Prelude.{Some};
+    ghost use Rattle.std.specs.Prelude.{Some, ⊤};
     ghost use Rattle.caller_lines.specs.MemoryLine.{next_given, after_next, takes_put, after_put};
 
     ghost faults = { λ s. s.faults };
 
     ghost calls = { λ s. Some s.told };
+
+    ghost settled = { λ _. ⊤ };
 
     fn next(&mut self, into: &mut LineBuf) -> Heard
         ensures asked { Some self.new.told ≡ with_last (Some self.old.told) (Asked (answer_of result into.new.items)) }
@@ -124,6 +126,13 @@ impl CallerLine for MemoryLine {
             return false;
         }
         self.keep(text);
+        true
+    }
+
+    fn finish(&mut self) -> bool
+        ensures done { result ≡ true }
+        ensures same { self.new ≡ self.old }
+    {
         true
     }
 

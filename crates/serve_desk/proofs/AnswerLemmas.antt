@@ -21,7 +21,7 @@ use Rattle.serve_desk.specs.declared.why.Why.{Why}
 use Rattle.serve_desk.specs.declared.why.Why.TheVariants as why
 use Rattle.serve_desk.specs.Texts.{too_many, too_long, no_memory, malformed, spent}
 use Rattle.serve_desk.specs.Told.{LineValue}
-use Rattle.serve_desk.specs.Follows.{is_line, Puts, Follows, it_is_put, it_is_not_put, the_end, a_fault, one_line_too_many, a_line_too_long, no_memory_for_a_line, no_command, no_call_left, a_call}
+use Rattle.serve_desk.specs.Follows.{is_line, Puts, Follows, it_is_put, it_is_not_put, it_is_not_written, the_end, a_fault, one_line_too_many, a_line_too_long, no_memory_for_a_line, no_command, no_call_left, a_call}
 use Rattle.serve_desk.specs.Answers.{PutsOn, Replies, Answers}
 use Rattle.serve_desk.proofs.ToldLemmas.{with_all-none, with_all-one}
 use Rattle.serve_desk.proofs.SeatLemmas.{Made-none, Made-one}
@@ -32,6 +32,10 @@ PutsOn-put text then before now told = record { texts = text ∷ []; puts = it_i
 
 pub PutsOn-not_put : (text : List ℕ) (then : Option Why) (before now : Option (List LineCall)) → now ≡ before → PutsOn text then before now (Some why.LineFault)
 PutsOn-not_put text then before now same = record { texts = []; puts = it_is_not_put; told = same ∙ sym (with_all-none before) }
+
+pub PutsOn-not_written : (text : List ℕ) (then : Option Why) (before now : Option (List LineCall)) → then ≢ None → now ≡ with_last before (PutText text)
+    → PutsOn text then before now (Some why.LineFault)
+PutsOn-not_written text then before now ends told = record { texts = text ∷ []; puts = it_is_not_written ends; told = told ∙ sym (with_all-one before (PutText text)) }
 
 -- what was said of a line
 pub line-said : (gave : Given) (s : Said) → ReadsAs gave s → s ≢ said.End → s ≢ said.LineFault → is_line gave ≡ true

@@ -10,7 +10,7 @@ use Rattle.desk_model.specs.texts.Journal.{entry_line}
 use Rattle.serve_desk.specs.declared.why.Why.{Why}
 use Rattle.serve_desk.specs.declared.why.Why.TheVariants as why
 use Rattle.serve_desk.specs.Answers.{PutsOn}
-use Rattle.serve_desk.specs.Follows.{Puts, it_is_put, it_is_not_put}
+use Rattle.serve_desk.specs.Follows.{Puts, it_is_put, it_is_not_put, it_is_not_written}
 use Rattle.serve_desk.specs.Told.{with_all}
 use Rattle.serve_desk.specs.WatchAnswers.{PutsAllOn}
 use Rattle.serve_desk.specs.WatchFollows.{PutsAll, all_are_put, one_is_not_put}
@@ -42,6 +42,7 @@ PutsAllOn-one text before now ends one = record { texts = one.texts; puts = go o
     go : (texts : List (List ℕ)) (e : Option Why) → Puts text None texts e → PutsAll (text ∷ []) texts e
     go _ _ it_is_put = all_are_put (text ∷ [])
     go _ _ it_is_not_put = one_is_not_put [] text []
+    go _ _ (it_is_not_written ends) = absurd (ends refl)
 
 pub PutsAllOn-then : (all more : List (List ℕ)) (before between now : Option (List LineCall)) (took ends : Option Why) → took ≡ None → PutsAllOn all before between took
     → PutsAllOn more between now ends → PutsAllOn (all ++ more) before now ends

@@ -10,7 +10,7 @@ use Rattle.serve_desk.specs.declared.limits.TheConstants.{LINES_PER_CALLER}
 use Rattle.serve_desk.specs.declared.why.Why.{Why}
 use Rattle.serve_desk.specs.Texts.{too_many}
 use Rattle.serve_desk.specs.Told.{with_all, LineValue}
-use Rattle.serve_desk.specs.Follows.{is_line, Puts, Follows, it_is_put, it_is_not_put, the_end, a_fault, one_line_too_many, a_line_too_long, no_memory_for_a_line, no_command, no_call_left, a_call}
+use Rattle.serve_desk.specs.Follows.{is_line, Puts, Follows, it_is_put, it_is_not_put, it_is_not_written, the_end, a_fault, one_line_too_many, a_line_too_long, no_memory_for_a_line, no_command, no_call_left, a_call}
 use Rattle.serve_desk.specs.Session.{lines_in, asked_then_put, GoesOn, it_begins, it_goes_on, it_ends}
 use Rattle.serve_desk.specs.Seats.{Made}
 use Rattle.serve_desk.specs.Answers.{Answers}
@@ -41,6 +41,7 @@ SoFar-begins o left line seat = record {
 puts-on : (text : List ℕ) (then : Option Why) (texts : List (List ℕ)) (ends : Option Why) → Puts text then texts ends → ends ≡ None → then ≡ None
 puts-on text then _ _ it_is_put on = on
 puts-on text then _ _ it_is_not_put on = absurd (cc)
+puts-on text then _ _ (it_is_not_written ends) on = absurd (cc)
 
 -- where it goes on, the line gave a line of its caller, and not too many
 pub record IsLineMore (heard : ℕ) (gave : Given) : Type 0 where

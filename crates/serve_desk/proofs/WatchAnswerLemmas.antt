@@ -34,7 +34,7 @@ use Rattle.serve_desk.specs.declared.why.Why.{Why}
 use Rattle.serve_desk.specs.declared.why.Why.TheVariants as why
 use Rattle.serve_desk.specs.Answers.{PutsOn}
 use Rattle.serve_desk.specs.Crews.{crew_texts, too_few}
-use Rattle.serve_desk.specs.Follows.{Puts, Follows, it_is_put, it_is_not_put, the_end, a_fault, one_line_too_many}
+use Rattle.serve_desk.specs.Follows.{Puts, Follows, it_is_put, it_is_not_put, it_is_not_written, the_end, a_fault, one_line_too_many}
 use Rattle.serve_desk.specs.Looks.{look_text, behind}
 use Rattle.serve_desk.specs.Texts.{too_many, too_long, no_memory, malformed, spent}
 use Rattle.serve_desk.specs.Told.{with_all, LineValue}
@@ -234,6 +234,7 @@ RepliesWatched-look heard left before now board position seen what seat view lat
     made = Made-none view.wall.opening seat;
     sight = by_a_look board position seen what more refl all saw;
   }
+  go _ _ (it_is_not_written ends) told = absurd (ends refl)
   go _ _ it_is_not_put told = record {
     entries = [];
     texts = [];

@@ -1,5 +1,5 @@
 -- What follows each answer of a line.
-use Rattle.std.specs.Prelude.{◌≡◌, ℕ, ◌<◌, Bool, true, false, List, [], ◌∷◌, None, Some}
+use Rattle.std.specs.Prelude.{◌≡◌, ◌≢◌, ℕ, ◌<◌, Bool, true, false, List, [], ◌∷◌, None, Some}
 use Rattle.std.specs.declared.option.Option.{Option}
 use Rattle.desk_model.specs.statements.Entry.{EntryValue}
 use Rattle.desk_model.specs.texts.Journal.{entry_line}
@@ -18,10 +18,12 @@ is_line GaveTooLong = true
 is_line GaveEnd = false
 is_line GaveFailed = false
 
--- a text is put, behind which the session ends or goes on as told; or it isn't taken, which is a fault and ends the session
+-- a text is put, behind which the session ends or goes on as told; or it isn't taken, which is a fault and ends the session; or the
+-- session would end behind it, and what was put and waits to be written isn't written, which is a fault too
 pub data Puts (text : List ℕ) (then : Option Why) : List (List ℕ) → Option Why → Type 0 where
   it_is_put : Puts text then (text ∷ []) then
   it_is_not_put : Puts text then [] (Some why.LineFault)
+  it_is_not_written : then ≢ None → Puts text then (text ∷ []) (Some why.LineFault)
 
 -- what follows an answer of a line that gave so many lines before it, at a seat with so many calls left: the entries that come
 -- of it, the texts that are put, and why the session ends, where it does

@@ -1,5 +1,5 @@
 //! One answer of a line, and what follows it.
-ghost use Rattle.std.specs.Prelude.{◌≡◌, ◌≢◌, ℕ, ◌-◌, ◌<◌, ◌≤◌};
+ghost use Rattle.std.specs.Prelude.{◌≡◌, ◌≢◌, ℕ, ◌-◌, ◌<◌, ◌≤◌, None};
 ghost use Rattle.desk_io.specs.Faults.{Rose};
 ghost use Rattle.turn_gate.specs.Seats.{IsSeatOf};
 ghost use Rattle.serve_desk.specs.Told.{line_of};
@@ -38,6 +38,7 @@ pub(crate) fn answer<C: DeskCore, R: Wait>(
     ensures faults_grow { faults line.old ≤ faults line.new }
     ensures cause { result.ends ≡ Some Why.LineFault → Rose (faults line.old) (faults line.new) }
     ensures no_fault { result.ends ≢ Some Why.LineFault → faults line.new ≡ faults line.old }
+    ensures settled { result.ends ≢ None → result.ends ≢ Some Why.LineFault → settled line.new }
 {
     match hear(alloc, line) {
         Said::End => Answered {
@@ -72,6 +73,7 @@ fn reply<C: DeskCore, R: Wait>(
     ensures faults_grow { faults line.old ≤ faults line.new }
     ensures cause { result.ends ≡ Some Why.LineFault → Rose (faults line.old) (faults line.new) }
     ensures no_fault { result.ends ≢ Some Why.LineFault → faults line.new ≡ faults line.old }
+    ensures settled { result.ends ≢ None → result.ends ≢ Some Why.LineFault → settled line.new }
 {
     if heard == LINES_PER_CALLER {
         let ends = put_on(line, TOO_MANY, Some(Why::TooManyLines));
@@ -112,6 +114,7 @@ fn call<C: DeskCore, R: Wait>(
     ensures faults_grow { faults line.old ≤ faults line.new }
     ensures cause { result.ends ≡ Some Why.LineFault → Rose (faults line.old) (faults line.new) }
     ensures no_fault { result.ends ≢ Some Why.LineFault → faults line.new ≡ faults line.old }
+    ensures settled { result.ends ≢ None → result.ends ≢ Some Why.LineFault → settled line.new }
 {
     let Called { seat, outcome } = desk.call(rt, seat, stated);
     match outcome {

@@ -1,5 +1,5 @@
 //! A text put on a line.
-ghost use Rattle.std.specs.Prelude.{◌≡◌, ◌≢◌, ◌≤◌, [], ◌∷◌};
+ghost use Rattle.std.specs.Prelude.{◌≡◌, ◌≢◌, ◌≤◌, [], ◌∷◌, None};
 ghost use Rattle.std.specs.Bool.{OnTrue, OnFalse};
 ghost use Rattle.desk_io.specs.Faults.{Rose};
 ghost use Rattle.caller_lines.specs.LineCalls.{PutText};
@@ -10,8 +10,8 @@ ghost use Rattle.serve_desk.specs.WatchAnswers.{PutsAllOn};
 use crate::Why;
 use caller_lines::CallerLine;
 
-/// Puts a text on the line, behind which the session ends or goes on as told. Where the line doesn't take it, that is a fault and
-/// ends the session.
+/// Puts a text on the line, behind which the session ends or goes on as told. Where it ends, all that was put is written. Where the line
+/// doesn't take the text, or it can't be written then, that is a fault and ends the session.
 pub(crate) fn put_on(
     line: &mut Box<dyn CallerLine + Send>,
     text: &[u8],
@@ -22,11 +22,20 @@ pub(crate) fn put_on(
     ensures faults_grow { faults line.old ≤ faults line.new }
     ensures cause { result ≡ Some Why.LineFault → Rose (faults line.old) (faults line.new) }
     ensures no_fault { result ≢ Some Why.LineFault → faults line.new ≡ faults line.old }
+    ensures settled { result ≢ None → result ≢ Some Why.LineFault → settled line.new }
 {
-    if put(line, text) {
-        then
-    } else {
-        Some(Why::LineFault)
+    if !put(line, text) {
+        return Some(Why::LineFault);
+    }
+    match then {
+        None => None,
+        Some(_) => {
+            if finish(line) {
+                then
+            } else {
+                Some(Why::LineFault)
+            }
+        }
     }
 }
 
@@ -41,6 +50,7 @@ pub(crate) fn put_both(
     ensures faults_grow { faults line.old ≤ faults line.new }
     ensures cause { result ≡ Some Why.LineFault → Rose (faults line.old) (faults line.new) }
     ensures no_fault { result ≢ Some Why.LineFault → faults line.new ≡ faults line.old }
+    ensures settled { result ≢ None → result ≢ Some Why.LineFault → settled line.new }
 {
     let ends = put_on(line, first, None);
     match ends {
@@ -58,4 +68,15 @@ fn put(line: &mut Box<dyn CallerLine + Send>, text: &[u8]) -> bool
     ensures no_fault { OnTrue result (faults line.new ≡ faults line.old) }
 {
     line.put(text)
+}
+
+// Writes what was put on the line, and says whether all of it was written.
+fn finish(line: &mut Box<dyn CallerLine + Send>) -> bool
+    ensures settled { OnTrue result (settled line.new) }
+    ensures told { calls line.new ≡ calls line.old }
+    ensures faults_grow { faults line.old ≤ faults line.new }
+    ensures cause { OnFalse result (Rose (faults line.old) (faults line.new)) }
+    ensures no_fault { OnTrue result (faults line.new ≡ faults line.old) }
+{
+    line.finish()
 }

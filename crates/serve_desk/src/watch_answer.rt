@@ -48,6 +48,7 @@ pub(crate) fn answer_watched<C: DeskCore, R: Wait>(
     ensures faults_grow { faults line.old ≤ faults line.new }
     ensures cause { result.ends ≡ Some Why.LineFault → Rose (faults line.old) (faults line.new) }
     ensures no_fault { result.ends ≢ Some Why.LineFault → faults line.new ≡ faults line.old }
+    ensures settled { result.ends ≢ None → result.ends ≢ Some Why.LineFault → settled line.new }
 {
     match hear_request(alloc, line) {
         Request::Look { board, position } => AnsweredWatched {
@@ -101,6 +102,7 @@ fn look(
     ensures faults_grow { faults line.old ≤ faults line.new }
     ensures cause { result ≡ Some Why.LineFault → Rose (faults line.old) (faults line.new) }
     ensures no_fault { result ≢ Some Why.LineFault → faults line.new ≡ faults line.old }
+    ensures settled { result ≢ None → result ≢ Some Why.LineFault → settled line.new }
 {
     if heard == LINES_PER_CALLER {
         return put_on(line, TOO_MANY, Some(Why::TooManyLines));
@@ -132,6 +134,7 @@ fn reply<C: DeskCore, R: Wait>(
     ensures faults_grow { faults line.old ≤ faults line.new }
     ensures cause { result.ends ≡ Some Why.LineFault → Rose (faults line.old) (faults line.new) }
     ensures no_fault { result.ends ≢ Some Why.LineFault → faults line.new ≡ faults line.old }
+    ensures settled { result.ends ≢ None → result.ends ≢ Some Why.LineFault → settled line.new }
 {
     if heard == LINES_PER_CALLER {
         let ends = put_on(line, TOO_MANY, Some(Why::TooManyLines));
@@ -174,6 +177,7 @@ fn call<C: DeskCore, R: Wait>(
     ensures faults_grow { faults line.old ≤ faults line.new }
     ensures cause { result.ends ≡ Some Why.LineFault → Rose (faults line.old) (faults line.new) }
     ensures no_fault { result.ends ≢ Some Why.LineFault → faults line.new ≡ faults line.old }
+    ensures settled { result.ends ≢ None → result.ends ≢ Some Why.LineFault → settled line.new }
 {
     a_desk_has_one_wall();
     what_one_entry_more_makes_known();
@@ -225,6 +229,7 @@ fn put_entry(
     ensures faults_grow { faults line.old ≤ faults line.new }
     ensures cause { result ≡ Some Why.LineFault → Rose (faults line.old) (faults line.new) }
     ensures no_fault { result ≢ Some Why.LineFault → faults line.new ≡ faults line.old }
+    ensures settled { result ≢ None → result ≢ Some Why.LineFault → settled line.new }
 {
     let text = entry_lines.write(entry);
     if count == 0 {

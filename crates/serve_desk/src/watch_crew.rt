@@ -1,5 +1,5 @@
 //! A crew call of a line, and what is put for it.
-ghost use Rattle.std.specs.Prelude.{◌≡◌, ◌≢◌, ℕ, ◌-◌, ◌<◌, ◌≤◌, [], ◌∷◌, ◌++◌, map, Some};
+ghost use Rattle.std.specs.Prelude.{◌≡◌, ◌≢◌, ℕ, ◌-◌, ◌<◌, ◌≤◌, [], ◌∷◌, ◌++◌, map, Some, None};
 ghost use Rattle.desk_base.specs.Minute.{IsInYears};
 ghost use Rattle.desk_io.specs.Faults.{Rose};
 ghost use Rattle.crew_call.specs.CrewCalls.{somes};
@@ -49,6 +49,7 @@ pub(crate) fn crew<C: DeskCore, R: Wait>(
     ensures faults_grow { faults line.old ≤ faults line.new }
     ensures cause { result.ends ≡ Some Why.LineFault → Rose (faults line.old) (faults line.new) }
     ensures no_fault { result.ends ≢ Some Why.LineFault → faults line.new ≡ faults line.old }
+    ensures settled { result.ends ≢ None → result.ends ≢ Some Why.LineFault → settled line.new }
 {
     if heard == LINES_PER_CALLER {
         let ends = put_on(line, TOO_MANY, Some(Why::TooManyLines));
@@ -93,6 +94,7 @@ fn put_crew(
     ensures faults_grow { faults line.old ≤ faults line.new }
     ensures cause { result ≡ Some Why.LineFault → Rose (faults line.old) (faults line.new) }
     ensures no_fault { result ≢ Some Why.LineFault → faults line.new ≡ faults line.old }
+    ensures settled { result ≢ None → result ≢ Some Why.LineFault → settled line.new }
 {
     let ends = put_outcome(line, entry_lines, entries, told);
     if ends.is_some() {
@@ -115,6 +117,7 @@ fn put_outcome(
     ensures faults_grow { faults line.old ≤ faults line.new }
     ensures cause { result ≡ Some Why.LineFault → Rose (faults line.old) (faults line.new) }
     ensures no_fault { result ≢ Some Why.LineFault → faults line.new ≡ faults line.old }
+    ensures settled { result ≢ None → result ≢ Some Why.LineFault → settled line.new }
 {
     let ends = put_entries(line, entry_lines, entries);
     match ends {
@@ -133,6 +136,7 @@ fn put_entries(
     ensures faults_grow { faults line.old ≤ faults line.new }
     ensures cause { result ≡ Some Why.LineFault → Rose (faults line.old) (faults line.new) }
     ensures no_fault { result ≢ Some Why.LineFault → faults line.new ≡ faults line.old }
+    ensures settled { result ≢ None → result ≢ Some Why.LineFault → settled line.new }
 {
     for entry in entries {
         let ends = put_some(line, entry_lines, entry);
@@ -153,6 +157,7 @@ fn put_some(
     ensures faults_grow { faults line.old ≤ faults line.new }
     ensures cause { result ≡ Some Why.LineFault → Rose (faults line.old) (faults line.new) }
     ensures no_fault { result ≢ Some Why.LineFault → faults line.new ≡ faults line.old }
+    ensures settled { result ≢ None → result ≢ Some Why.LineFault → settled line.new }
 {
     match entry {
         Some(entry) => put_on(line, entry_lines.write(entry), None),

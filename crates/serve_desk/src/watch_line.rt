@@ -40,6 +40,7 @@ pub fn session_watched<C: DeskCore, R: Wait>(
     ensures faults_grow { faults line.old ≤ faults line.new }
     ensures cause { result.why ≡ Why.LineFault → Rose (faults line.old) (faults line.new) }
     ensures no_fault { result.why ≢ Why.LineFault → faults line.new ≡ faults line.old }
+    ensures settled { result.why ≢ Why.LineFault → settled line.new }
 {
     let left = desk.left(&seat);
     let mut seat = seat;

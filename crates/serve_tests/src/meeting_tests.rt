@@ -1,5 +1,5 @@
 //! Two lines that wait for one another.
-ghost use Rattle.std.specs.Prelude.{None};
+ghost use Rattle.std.specs.Prelude.{None, ⊤};
 
 use crate::openings::{LOOK, OPENING};
 use caller_lines::{CallerLine, Heard, LineBuf};
@@ -26,6 +26,8 @@ impl CallerLine for Meeting {
 
     ghost calls = { λ _. None };
 
+    ghost settled = { λ _. ⊤ };
+
     fn next(&mut self, into: &mut LineBuf) -> Heard {
         into.clear();
         self.asked = self.asked.saturating_add(1);
@@ -44,6 +46,10 @@ impl CallerLine for Meeting {
 
     fn put(&mut self, _text: &[u8]) -> bool {
         self.put.fetch_add(1, Ordering::SeqCst);
+        true
+    }
+
+    fn finish(&mut self) -> bool {
         true
     }
 
