@@ -1,4 +1,5 @@
-ghost use Rattle.std.specs.Prelude.{◌≡◌, [], map, take};
+ghost use Rattle.std.specs.Prelude.{◌≡◌, [], map, take, IfSome};
+ghost use Rattle.desk_base.specs.Parts.{parts_by};
 ghost use Rattle.record_rows.specs.declared.fields.TheConstants.{FIELD_LIMIT};
 
 use crate::fields::{Fields, fill_with_line, fill_with_record};
@@ -30,6 +31,13 @@ impl<'a> Row<'a> {
             line: None,
             read: ByteRecord::new(alloc),
         }
+    }
+
+    /// The record's bytes, where its fields are the parts of them between commas; `None` where `csv` read it.
+    pub fn line(&self) -> Option<&'a [u8]>
+        ensures { IfSome result (λ line. row_fields self.now ≡ parts_by 44 line.now) }
+    {
+        self.line
     }
 
     /// Puts the record's fields, the first 12 of more, in place of those that stand there.
