@@ -1,10 +1,8 @@
 -- The commands of a day file.
-use Rattle.std.proofs.Common.{◌≡◌, ◌∙◌, ℕ, ◌+◌, ◌<◌, List, [], ◌∷◌, ◌++◌, length, map, get_or, drop, refl, ap, sym, append_assoc, append-nil, length-append, arith, Option, Some, None, true, inl, inr}
-use Rattle.std.specs.Option.{is_some}
+use Rattle.std.proofs.Common.{◌≡◌, ◌∙◌, ℕ, ◌+◌, ◌<◌, ◌≤◌, List, [], ◌∷◌, ◌++◌, length, map, get_or, drop, refl, ap, sym, append_assoc, append-nil, length-append, arith, inl, inr}
 use Rattle.std.specs.Prelude.{IfOk, IfErr, Result, Ok, Err, ◌≢◌, ◌⊎◌}
 use Rattle.std.specs.Result.{IsOkUnless}
 use Rattle.command_parser.specs.declared.day_file.DayFile.{DayFile}
-use Rattle.std.proofs.lemmas.Bool.{false≢true}
 use Rattle.std.proofs.lemmas.List.{length-map, get_or-map, get_or_append_left}
 use Rattle.std.proofs.Math.Seq.{get_or-append_seam}
 use Rattle.std.proofs.lemmas.List.Elements.{All-head, All-tail}
@@ -14,10 +12,7 @@ use Rattle.desk_model.specs.declared.command.Cmd.TheVariants as cmd
 use Rattle.desk_model.specs.statements.Statement.{StatedValue, stated_of}
 use Rattle.desk_model.specs.statements.Fits.{IsStated}
 use Rattle.desk_model.specs.texts.StatedTexts.{stated_fields}
-use Rattle.record_rows.specs.declared.rows.Rows.{Rows}
-use Rattle.record_rows.specs.Rows.{HasLeft, records_of}
-use Rattle.command_parser.specs.declared.wrong_field.WrongField.{WrongField}
-use Rattle.command_parser.specs.DayCommands.{StatesOrWrong}
+use Rattle.record_rows.specs.Rows.{records_of}
 use Rattle.command_parser.specs.Spelled.{StatesCommand}
 use Rattle.command_parser.specs.OpeningRecord.{StatesOpening}
 use Rattle.command_parser.specs.declared.limits.TheConstants.{RECORD_LIMIT}
@@ -27,56 +22,6 @@ use Rattle.command_parser.specs.DayFile.{StateCommands, HasWrong, IsOpened, IsDa
 use Rattle.command_parser.proofs.ApartLemmas.{stated_fields-one}
 use Rattle.command_parser.proofs.FormLemmas.{wrong-one}
 use Rattle.command_parser.proofs.OpeningLemmas.{opening_fields-one}
-
--- and stays the first, whatever comes behind it
-pub HasWrong-more : (first : ℕ) (records : List (List (List ℕ))) (fields : List (List ℕ)) (record_no field : ℕ)
-    → HasWrong first records record_no field → HasWrong first (records ++ fields ∷ []) record_no field
-HasWrong-more first records fields record_no field has = record {
-  before = has.before;
-  bad = has.bad;
-  after = has.after ++ fields ∷ [];
-  parts = ap (λ list. list ++ fields ∷ []) has.parts ∙ append_assoc has.before (has.bad ∷ has.after) (fields ∷ []);
-  commands = has.commands;
-  states = has.states;
-  wrong = has.wrong;
-  record_is = has.record_is;
-  field_is = has.field_is;
-}
-
--- the same of what is told where a wrong place is
-pub StatesOrWrong-more : (first : ℕ) (wrong : Option WrongField) (commands : List StatedValue) (records : List (List (List ℕ))) (fields : List (List ℕ))
-    → is_some wrong ≡ true → StatesOrWrong first wrong commands records → StatesOrWrong first wrong commands (records ++ fields ∷ [])
-StatesOrWrong-more first None commands records fields e tells = absurd (false≢true e)
-StatesOrWrong-more first (Some place) commands records fields e tells = HasWrong-more first records fields place.record_no place.field tells
-
--- what a reader has told of the records that it was left with, where the first has this number, and the next this one
-pub record HasRead (first : ℕ) (all : List (List (List ℕ))) (rows : Rows) (wrong : Option WrongField) (commands : List StatedValue) (next : ℕ) : Type 0 where
-  pub read : List (List (List ℕ))
-  pub rest : List (List (List ℕ))
-  pub parts : all ≡ read ++ rest
-  pub number : next ≡ length read + first
-  pub tells : StatesOrWrong first wrong commands read
-  pub left : HasLeft rows rest
-
--- with the next record that is one more
-pub HasRead-more : (first : ℕ) (all : List (List (List ℕ))) (rows : Rows) (wrong : Option WrongField) (commands : List StatedValue) (next : ℕ)
-    (has : HasRead first all rows wrong commands next) (fields : List (List ℕ)) (rest : List (List (List ℕ))) (rows' : Rows) (wrong' : Option WrongField) (commands' : List StatedValue)
-    → has.rest ≡ fields ∷ rest → HasLeft rows' rest → StatesOrWrong first wrong' commands' (has.read ++ fields ∷ []) → HasRead first all rows' wrong' commands' (next + 1)
-HasRead-more first all rows wrong commands next has fields rest rows' wrong' commands' parts left tells = record {
-  read = has.read ++ fields ∷ [];
-  rest = rest;
-  parts = has.parts ∙ ap (λ list. has.read ++ list) parts ∙ sym (append_assoc has.read (fields ∷ []) rest);
-  number = omega (arith, has.number, length-append has.read (fields ∷ []));
-  tells = tells;
-  left = left;
-}
-
--- and with none left it is all
-pub HasRead-all : (first : ℕ) (all : List (List (List ℕ))) (rows : Rows) (wrong : Option WrongField) (commands : List StatedValue) (next : ℕ)
-    (has : HasRead first all rows wrong commands next) → has.rest ≡ [] → (next ≡ length all + first) × StatesOrWrong first wrong commands all
-HasRead-all first all rows wrong commands next has none =
-    let whole : all ≡ has.read = has.parts ∙ ap (λ list. has.read ++ list) none ∙ append-nil has.read in
-    (has.number ∙ ap (λ list. length list + first) (sym whole), rw whole has.tells)
 
 -- of records that state commands each states one
 states-there : (records : List (List (List ℕ))) (commands : List StatedValue) → StateCommands records commands

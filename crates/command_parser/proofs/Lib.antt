@@ -6,5 +6,6 @@ pub mod SpelledLemmas
 pub mod ApartLemmas
 pub mod OpeningLemmas
 pub mod DayLemmas
+pub mod RecordsLemmas
 pub mod LineReadLemmas
 pub mod MoreLemmas

@@ -1,13 +1,16 @@
 -- Commands taken apart into their fields.
 use Rattle.std.proofs.Common.{◌≡◌, ℕ, ◌<◌, ◌^◌, Bool, true, false, List, [], ◌∷◌, length, get_or, map, codes, decimal, drop, refl, arith, sym, ◌∙◌, ap, Bor, Some, nat_eq, ◌≢◌}
 use Rattle.std.specs.Cmp.Lexicographic.{pointwise}
+use Rattle.std.specs.List.{join_with_byte}
 use Rattle.std.proofs.lemmas.Bool.{false≢true}
 use Rattle.std.proofs.lemmas.Bool.Decides.{Decides-eqb}
 use Rattle.std.proofs.lemmas.Slice.Eq.{slice_eq-Decides}
 use Rattle.std.proofs.lemmas.List.{get_or-map}
+use Rattle.std.proofs.lemmas.List.Splits.{join_with_byte-slice_split}
 use Rattle.desk_base.specs.Number.{IsNumber}
 use Rattle.desk_base.specs.Code.{IsCode}
 use Rattle.desk_base.specs.Minute.{minute_text}
+use Rattle.desk_base.specs.Parts.{parts_by}
 use Rattle.qualifications.specs.declared.craft.Craft.{Craft}
 use Rattle.qualifications.specs.Craft.{craft_text}
 use Rattle.qualifications.specs.Quals.{quals_text}
@@ -16,11 +19,12 @@ use Rattle.desk_model.specs.declared.command.Cmd.TheVariants as cmd
 use Rattle.desk_model.specs.statements.Chain.{chain_text}
 use Rattle.desk_model.specs.statements.Job.{JobValue, job_of}
 use Rattle.desk_model.specs.statements.Fits.{IsJob}
+use Rattle.desk_model.specs.statements.Statement.{StatedValue}
 use Rattle.desk_model.specs.texts.StatedTexts.{command_fields, job_word, job_fields}
 use Rattle.command_parser.specs.declared.word.Word.{Word}
 use Rattle.command_parser.specs.declared.word.Word.TheVariants as word
 use Rattle.command_parser.specs.Word.{word_text}
-use Rattle.command_parser.specs.Spelled.{Spells, SpellsCommand}
+use Rattle.command_parser.specs.Spelled.{Spells, SpellsCommand, SpellsStated, StatesCommand}
 
 -- a field is what stands at its place
 pub field_at : (borrowed : List (Bor (List ℕ))) (fields : List (List ℕ)) (i : ℕ) (d : Bor (List ℕ))
@@ -173,4 +177,11 @@ pub vacancy-spelled : (relief : Bool) (about : List (Bor (List ℕ))) (d : Bor (
 vacancy-spelled relief about d job len is s = record {
   valid = s.valid;
   fields_are = rw (is, eight about d len, s.vac_is, s.craft_is, s.quals_is, s.place_is, s.report_is, s.duty_is, s.limbo_is, s.chain_is) refl;
+}
+
+-- parts that are joined again are the text
+pub plain-spells : (text : List ℕ) (s : StatedValue) → StatesCommand (parts_by 44 text) s → SpellsStated text s
+plain-spells text s states = record {
+  valid = states.valid;
+  text_is = sym (join_with_byte-slice_split 44 text) ∙ ap (join_with_byte 44) states.fields_are;
 }

@@ -12,6 +12,8 @@ use Rattle.command_parser.specs.RecordForms.{IsWrongAt}
 use Rattle.command_parser.specs.declared.limits.TheConstants.{RECORD_LIMIT}
 use Rattle.command_parser.specs.declared.day_fault.DayFault.{DayFault}
 use Rattle.command_parser.specs.declared.day_fault.DayFault.TheVariants as fault
+use Rattle.command_parser.specs.declared.more_fault.MoreFault.{MoreFault}
+use Rattle.command_parser.specs.declared.more_fault.MoreFault.TheVariants as more
 
 -- the records state these commands, in their order
 pub record StateCommands (records : List (List (List ℕ))) (commands : List StatedValue) : Type 0 where
@@ -71,6 +73,12 @@ HasFault bytes fault.TooMany = HasTooMany bytes
 HasFault bytes fault.NoOpening = HasNoOpening bytes
 HasFault bytes (fault.Unreadable record_no field) = HasUnreadable bytes record_no field
 HasFault bytes fault.NoMemory = ⊥
+
+-- a fault of the records after the opening, as one of the day file
+abbrev pub day_fault : MoreFault → DayFault
+day_fault more.TooMany = fault.TooMany
+day_fault (more.Unreadable record_no field) = fault.Unreadable record_no field
+day_fault more.NoMemory = fault.NoMemory
 
 -- a record after the opening states no command
 pub record IsUnreadable (bytes : List ℕ) : Type 0 where

@@ -4,5 +4,5 @@ pub mod RecordForms
 pub mod OpeningRecord
 pub mod DayFile
 pub mod MoreCommands
-pub mod DayCommands
+pub mod CommandRecords
 pub mod CommandLine

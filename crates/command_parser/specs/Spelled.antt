@@ -1,5 +1,6 @@
 -- What a record's fields state.
 use Rattle.std.specs.Prelude.{◌≡◌, ℕ, List, ◌∷◌}
+use Rattle.std.specs.List.{join_with_byte}
 use Rattle.desk_model.specs.declared.command.Cmd.{Cmd}
 use Rattle.duty_events.specs.declared.event.Event.{Event}
 use Rattle.desk_model.specs.statements.Statement.{StatedValue}
@@ -31,3 +32,8 @@ pub record StatesCommand (fields : List (List ℕ)) (s : StatedValue) : Type 0 w
 pub record StatesSome (fields : List (List ℕ)) : Type 0 where
   pub stated : StatedValue
   pub states : StatesCommand fields stated
+
+-- the text is that of this command and of the minute at which it was stated: its fields with commas between them
+pub record SpellsStated (text : List ℕ) (s : StatedValue) : Type 0 where
+  pub valid : IsStated s
+  pub text_is : text ≡ join_with_byte 44 (stated_fields s)

@@ -1,7 +1,10 @@
 ghost use Rattle.std.specs.Prelude.{◌≡◌};
+ghost use Rattle.command_parser.specs.DayFile.{day_fault};
 ghost use Rattle.command_parser.specs.declared.day_fault.DayFault.TheVariants.{NoMemory};
 
+use crate::more_fault::MoreFault;
 use desk_base::NoMemory as WantOfMemory;
+use std::alloc::AllocError;
 use thiserror::Error;
 
 /// Why bytes are no day file that can be replayed.
@@ -31,5 +34,25 @@ impl From<WantOfMemory> for DayFault {
 
     fn from(_fault: WantOfMemory) -> Self {
         DayFault::NoMemory
+    }
+}
+
+impl From<AllocError> for DayFault {
+    ghost from_gives = { λ _ e. e ≡ NoMemory };
+
+    fn from(_fault: AllocError) -> Self {
+        DayFault::NoMemory
+    }
+}
+
+impl From<MoreFault> for DayFault {
+    ghost from_gives = { λ fault e. e ≡ day_fault fault };
+
+    fn from(fault: MoreFault) -> Self {
+        match fault {
+            MoreFault::TooMany => DayFault::TooMany,
+            MoreFault::Unreadable { record_no, field } => DayFault::Unreadable { record_no, field },
+            MoreFault::NoMemory => DayFault::NoMemory,
+        }
     }
 }

@@ -6,12 +6,10 @@ ghost use Rattle.desk_model.specs.statements.Statement.{StatedValue};
 ghost use Rattle.command_parser.specs.DayFile.{IsDayFile, HasFault};
 ghost use Rattle.command_parser.specs.declared.day_fault.DayFault.{DayFault as Fault};
 
-use crate::day_commands::read_commands;
 use crate::day_fault::DayFault;
-use crate::limits::{COMMAND_LIMIT, RECORD_LIMIT, SHORTEST_RECORD};
-use crate::record_row::read_opening_row;
+use crate::limits::{RECORD_LIMIT, SHORTEST_RECORD};
+use crate::open_day::{OpenDay, an_open_day_is_read_by_its_commands};
 use desk_model::{Opening, Stated};
-use record_rows::{Row, Rows};
 use std::alloc::Global;
 
 /// A day file: how the desk was opened, and what it was told and asked then, in order.
@@ -39,35 +37,20 @@ pub fn read_day(alloc: Global, bytes: &[u8]) -> Result<DayFile, DayFault>
     read_records(alloc, bytes)
 }
 
-// Reads the opening's record, and those behind it.
+// The same, as it is read.
 fn read_records(alloc: Global, bytes: &[u8]) -> Result<DayFile, DayFault>
     ensures day { IfOk result (λ day. IsDayFile bytes.now day.opening day.commands.items) }
     ensures fault { IfErr result (λ fault. fault ≢ DayFault.NoMemory
         → HasFault bytes.now fault) }
 {
-    let mut rows = Rows::of(alloc, bytes);
-    let mut row = Row::new(alloc);
-    if !rows.next(&mut row)? {
-        return Err(DayFault::NoOpening);
-    }
-    let opening = read_opening_row(&row);
+    an_open_day_is_read_by_its_commands();
+    let mut day = OpenDay::of(alloc, bytes)?;
     let room = (bytes.len() / SHORTEST_RECORD).min(RECORD_LIMIT);
-    let Some(told) = read_commands(alloc, room, 2, COMMAND_LIMIT, &mut rows, &mut row)? else {
-        return Err(DayFault::TooMany);
-    };
-    let Some(opening) = opening else {
-        return Err(DayFault::NoOpening);
-    };
-    match told.wrong {
-        None => Ok(DayFile {
-            opening,
-            commands: told.commands,
-        }),
-        Some(place) => Err(DayFault::Unreadable {
-            record_no: place.record_no,
-            field: place.field,
-        }),
-    }
+    let commands = day.records.read_all(alloc, room)?;
+    Ok(DayFile {
+        opening: day.opening,
+        commands,
+    })
 }
 
 /// Bytes are one day file at most. It does nothing: its clause is the law.

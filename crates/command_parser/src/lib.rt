@@ -4,7 +4,7 @@
 
 mod command_line;
 mod command_record;
-mod day_commands;
+mod command_records;
 mod day_fault;
 mod day_file;
 mod event_word;
@@ -14,6 +14,7 @@ mod first_wrong;
 mod limits;
 mod more_commands;
 mod more_fault;
+mod open_day;
 mod opening_record;
 mod read_fail;
 mod record_forms;
@@ -22,21 +23,24 @@ mod spelled_command;
 mod spelled_event;
 mod spelled_offer;
 mod spelled_person;
+mod stated_record;
 mod table_of_records;
 mod word;
-mod wrong_field;
 
 pub use command_line::read_command;
 pub use command_record::{a_record_states_one_command, read_record, stated_by};
+pub use command_records::CommandRecords;
 pub use day_fault::DayFault;
 pub use day_file::{DayFile, bytes_are_one_day_file, read_day};
 pub use field::{read_count, read_person, read_position, read_vac};
-pub use limits::{RECORD_LIMIT, the_most_records_of_a_day_file};
+pub use limits::{COMMAND_LIMIT, RECORD_LIMIT, the_most_records_of_a_day_file};
 pub use more_commands::{bytes_state_one_list_of_commands, read_more};
 pub use more_fault::MoreFault;
+pub use open_day::{OpenDay, an_open_day_is_read_by_its_commands};
 pub use opening_record::opening_of;
 pub use read_fail::ReadFail;
 pub use spelled_event::read_kind;
+pub use stated_record::{StatedRecord, a_plain_record_is_its_statement};
 pub use table_of_records::{
     a_record_is_wrong_at_one_field, the_table_has_just_the_records_of_commands,
 };

@@ -5,7 +5,7 @@ ghost use Rattle.desk_model.specs.statements.Statement.{StatedValue};
 ghost use Rattle.command_parser.specs.MoreCommands.{AreCommands, HasMoreFault};
 ghost use Rattle.command_parser.specs.declared.more_fault.MoreFault.{MoreFault as Fault};
 
-use crate::day_commands::read_commands;
+use crate::command_records::CommandRecords;
 use crate::limits::SHORTEST_RECORD;
 use crate::more_fault::MoreFault;
 use desk_model::Stated;
@@ -34,19 +34,8 @@ fn read_rows(alloc: Global, bytes: &[u8], room: u32) -> Result<Vec<Stated>, More
     ensures fault { IfErr result (λ fault. fault ≢ MoreFault.NoMemory
         → HasMoreFault bytes.now room fault) }
 {
-    let mut rows = Rows::of(alloc, bytes);
-    let mut row = Row::new(alloc);
-    let at_first = (bytes.len() / SHORTEST_RECORD).min(room as usize);
-    let Some(told) = read_commands(alloc, at_first, 1, room, &mut rows, &mut row)? else {
-        return Err(MoreFault::TooMany);
-    };
-    match told.wrong {
-        None => Ok(told.commands),
-        Some(place) => Err(MoreFault::Unreadable {
-            record_no: place.record_no,
-            field: place.field,
-        }),
-    }
+    let mut records = CommandRecords::of(Rows::of(alloc, bytes), Row::new(alloc), 1, room);
+    records.read_all(alloc, (bytes.len() / SHORTEST_RECORD).min(room as usize))
 }
 
 /// Bytes state one list of commands at most. It does nothing: its clause is the law.

@@ -29,6 +29,12 @@ pub entry_line-pieces : (e : EntryValue) → entry_line e
 unfolding entry_line
 entry_line-pieces e = simp append_assoc
 
+-- the same behind a text, where what is behind the statement was written on its own
+pub entry_line-added : (text : List ℕ) (e : EntryValue)
+    → (((text ++ decimal e.caller) ++ 124 ∷ []) ++ join_with_byte 44 (stated_fields e.stated)) ++ (([] ++ 124 ∷ []) ++ outcome_line e.moment e.reply) ≡ text ++ entry_line e
+unfolding entry_line
+entry_line-added text e = simp append_assoc
+
 pub outcome_line-pieces : (front : List ℕ) (moment : ℕ) (r : Reply) → front ++ outcome_line moment r ≡ (((front ++ minute_text moment) ++ 124 ∷ []) ++ reply_text r) ++ 10 ∷ []
 outcome_line-pieces front moment r = simp append_assoc
 

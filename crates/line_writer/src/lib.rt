@@ -13,7 +13,7 @@ mod tally;
 mod wrong_line;
 
 pub use bar_line::{put_bar, put_late};
-pub use entry_line::{fill_with_entry, write_entry};
+pub use entry_line::{add_spelled_entry, fill_with_entry, write_entry};
 pub use line_text::{LineText, put, put_byte};
 pub use opening_line::write_opening;
 pub use outcome_line::{fill_with_outcome, write_bar, write_outcome};
