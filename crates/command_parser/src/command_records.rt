@@ -54,6 +54,11 @@ impl<'a> CommandRecords<'a> {
         }
     }
 
+    /// The minute of the record that was read last, and its text.
+    pub fn last_minute(&self) -> &LastMinute {
+        &self.last
+    }
+
     /// Reads the next record; `None` where none is left. Of the faults the first that holds is told: too many records, and then one that
     /// states no command, behind which the others are counted before it is told. Behind a fault nothing is said of the records any more.
     #[inline]
