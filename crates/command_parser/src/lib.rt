@@ -33,7 +33,7 @@ pub use command_records::CommandRecords;
 pub use day_fault::DayFault;
 pub use day_file::{DayFile, bytes_are_one_day_file, read_day};
 pub use field::{read_count, read_person, read_position, read_vac};
-pub use limits::{COMMAND_LIMIT, RECORD_LIMIT, the_most_records_of_a_day_file};
+pub use limits::{COMMAND_LIMIT, RECORD_LIMIT, SHORTEST_RECORD, the_most_records_of_a_day_file};
 pub use more_commands::{bytes_state_one_list_of_commands, read_more};
 pub use more_fault::MoreFault;
 pub use open_day::{OpenDay, an_open_day_is_read_by_its_commands};

@@ -33,6 +33,14 @@ pub goes_on-next : (h : History) (commands : List StatedValue) (index : ℕ) (s 
 goes_on-next h commands index s e within at answer =
     ap (with_entry (goes_on h (take index commands))) answer ∙ sym (goes_on-more h commands index s within at)
 
+-- the same of all commands so far, and one more
+pub goes_on-last : (h : History) (commands : List StatedValue) (s : StatedValue) (e : EntryValue) → e ≡ next (goes_on h commands) 0 s
+    → with_entry (goes_on h commands) e ≡ goes_on h (commands ++ s ∷ [])
+unfolding history_from
+goes_on-last h commands s e answer =
+    ap (with_entry (goes_on h commands)) answer
+    ∙ sym (ap (history_from h) (map-append by_the_day_file commands (s ∷ [])) ∙ history_from-append h (map by_the_day_file commands) (by_the_day_file s ∷ []))
+
 -- it has an entry more for each command
 pub goes_on-length : (h : History) (commands : List StatedValue) → length (goes_on h commands).entries ≡ length h.entries + length commands
 goes_on-length h commands = omega (arith, history_from-length h (map by_the_day_file commands), length-map commands by_the_day_file)

@@ -1,4 +1,5 @@
 pub mod Ends
 pub mod Forecast
+pub mod FromDay
 pub mod Gathered
 pub mod Replay

@@ -10,9 +10,11 @@ ghost use Rattle.line_writer.specs.Line.{wrong_line};
 ghost use Rattle.command_parser.specs.DayFile.{IsDayFile, HasTooMany, HasNoOpening};
 ghost use Rattle.command_parser.specs.declared.limits.TheConstants.{RECORD_LIMIT};
 ghost use Rattle.day_replay.specs.Ends.{WasRead, WritesOrFails};
+ghost use Rattle.day_replay.specs.FromDay.{WasMade};
 ghost use Rattle.day_replay.specs.Replay.{FindsWrong, EndsByTheDay, IsNoDay, taking_status};
 
-use command_parser::{DayFault, DayFile, read_day};
+use crate::from_day::FromDay;
+use command_parser::{DayFault, DayFile};
 use desk_io::{Sink, Source, Status, put_all, take_all};
 use line_writer::write_wrong;
 use std::alloc::Global;
@@ -58,12 +60,50 @@ pub fn take_day<S: Source, K: Sink>(
     // And each comes where its cause is, unless memory or a fault is in the way.
     ensures by_the_day { EndsByTheDay (taking_status result) (S.left source.old) }
 {
+    take_made(alloc, source, sink)
+}
+
+/// As `take_day`, with what is made of the day file as it is read.
+pub(crate) fn take_made<D: FromDay, S: Source, K: Sink>(
+    alloc: Global,
+    source: &mut S,
+    sink: &mut K,
+) -> Result<D, Status>
+    ensures made { IfOk result (λ made.
+        WasMade (S.left source.old) (S.left source.new) (D.made_of made)) }
+
+    ensures read_fault { IsErrOf result Status.ReadFault
+        → Rose (S.faults source.old) (S.faults source.new) }
+    ensures no_fault { ¬ IsErrOf result Status.ReadFault
+        → S.faults source.new ≡ S.faults source.old }
+    ensures too_long { IsErrOf result Status.TooLong
+        → TookMore (S.left source.old) (S.left source.new) DAY_BYTES
+        ⊎ WasRead DAY_BYTES (S.left source.old) (S.left source.new) HasTooMany }
+    ensures not_too_long { ¬ IsErrOf result Status.TooLong
+        → TookFront (S.left source.old) (S.left source.new) DAY_BYTES }
+    ensures no_opening { IsErrOf result Status.NoOpening
+        → WasRead DAY_BYTES (S.left source.old) (S.left source.new) HasNoOpening }
+    ensures unreadable { IsErrOf result Status.Unreadable
+        → FindsWrong (S.left source.old) (S.left source.new)
+        (WritesOrFails (K.held sink.old) (K.held sink.new)
+        (K.faults sink.old) (K.faults sink.new)) }
+    ensures only { IfErr result IsNoDay }
+    ensures silent { ¬ IsErrOf result Status.Unreadable
+        → Keeps (K.held sink.old) (K.held sink.new) }
+    ensures silent_count { ¬ IsErrOf result Status.Unreadable
+        → K.faults sink.new ≡ K.faults sink.old }
+    ensures source_faults_grow { S.faults source.old ≤ S.faults source.new }
+    ensures sink_faults_grow { K.faults sink.old ≤ K.faults sink.new }
+
+    // And each comes where its cause is, unless memory or a fault is in the way.
+    ensures by_the_day { EndsByTheDay (taking_status result) (S.left source.old) }
+{
     let bytes = match take_all(alloc, source, DAY_BYTES) {
         Ok(bytes) => bytes,
         Err(fault) => return Err(Status::from(fault)),
     };
-    match read_day(alloc, &bytes) {
-        Ok(day) => Ok(day),
+    match D::from_day(alloc, &bytes) {
+        Ok(made) => Ok(made),
         Err(DayFault::TooMany) => Err(Status::TooLong),
         Err(DayFault::NoOpening) => Err(Status::NoOpening),
         Err(DayFault::Unreadable { record_no, field }) => {

@@ -1,22 +1,27 @@
 //! The tally of a day.
-ghost use Rattle.std.specs.Prelude.{◌≤◌, ◌<◌, ◌^◌, length};
-ghost use Rattle.desk_model.specs.histories.History.{opened};
 ghost use Rattle.line_writer.specs.Tally.{Counts};
-ghost use Rattle.day_replay.specs.Replay.{day_history};
 
-use desk_model::{DeskCore, Opening, Stated};
+use crate::day_kept::DayKept;
+use desk_base::NoMemory;
+use desk_model::{Entry, Opening};
 use line_writer::Tally;
+use record_rows::LastMinute;
+use std::alloc::Global;
 
-/// Steps a desk that was opened so and has answered nothing yet through the commands as caller 0, and counts its answers.
-pub(crate) fn tally_day<C: DeskCore>(core: &mut C, opening: &Opening, commands: &[Stated]) -> Tally
-    requires left { length commands.now ≤ C.room core.old }
-    requires few { length commands.now < 2 ^ 64 }
-    requires start { C.stands core.old (opened opening.now) }
-    ensures { Counts result (day_history opening.now commands.now) }
-{
-    let mut tally = Tally::new(opening);
-    for stated in commands {
-        tally.count(&core.step(0, *stated));
+impl DayKept for Tally {
+    ghost kept_of = { Counts };
+
+    fn of_opening(_alloc: Global, opening: &Opening, _bytes: usize) -> Result<Tally, NoMemory> {
+        Ok(Tally::new(opening))
     }
-    tally
+
+    fn keep(
+        &mut self,
+        entry: &Entry,
+        _line: Option<&[u8]>,
+        _stated: &LastMinute,
+    ) -> Result<(), NoMemory> {
+        self.count(entry);
+        Ok(())
+    }
 }

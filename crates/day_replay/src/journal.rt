@@ -4,10 +4,10 @@ ghost use Rattle.std.specs.Bool.{OnTrue, OnFalse};
 ghost use Rattle.std.specs.Io.KnownBytes.{Appends};
 ghost use Rattle.desk_io.specs.Faults.{Rose};
 ghost use Rattle.desk_io.specs.Giving.{AddsFront};
-ghost use Rattle.desk_model.specs.histories.History.{History, history_of, opened};
+ghost use Rattle.desk_model.specs.histories.History.{History, history_of};
 ghost use Rattle.desk_model.specs.texts.Journal.{journal};
 ghost use Rattle.day_replay.specs.Gathered.{Gathers};
-ghost use Rattle.day_replay.specs.Replay.{day_history, goes_on};
+ghost use Rattle.day_replay.specs.Replay.{goes_on};
 
 use crate::gather;
 use crate::lines::gather_lines;
@@ -18,32 +18,6 @@ use record_rows::LastMinute;
 
 /// How many bytes of a journal are put into a sink at once, at most.
 pub const PIECE_BYTES: usize = 65_536;
-
-/// Steps a desk that was opened so and has answered nothing yet through the commands as caller 0, and writes its journal, as
-/// many lines at once as the buffer holds. It says whether the sink took all lines, and stops at the first fault.
-pub fn write_journal<C: DeskCore, K: Sink>(
-    core: &mut C,
-    opening: &Opening,
-    commands: &[Stated],
-    buffer: &mut Vec<u8>,
-    sink: &mut K,
-) -> bool
-    requires left { length commands.now ≤ C.room core.old }
-    requires start { C.stands core.old (opened opening.now) }
-    requires empty { buffer.old.items ≡ [] }
-    requires room { 512 ≤ vec_capacity buffer.old }
-
-    ensures all { OnTrue result (Appends (K.held sink.old) (K.held sink.new)
-        (journal (day_history opening.now commands.now))) }
-    ensures front { OnFalse result (AddsFront (K.held sink.old) (K.held sink.new)
-        (journal (day_history opening.now commands.now))) }
-    ensures faults_grow { K.faults sink.old ≤ K.faults sink.new }
-    ensures cause { OnFalse result (Rose (K.faults sink.old) (K.faults sink.new)) }
-    ensures no_fault { OnTrue result (K.faults sink.new ≡ K.faults sink.old) }
-{
-    gather(buffer, write_opening(opening).as_slice(), sink)
-        && write_entries(core, commands, buffer, sink)
-}
 
 /// Gathers the journal of a history that was opened so and has these entries in the buffer, which is put into the sink where a line
 /// doesn't fit. It says whether the sink took what was put, and stops at the first fault.

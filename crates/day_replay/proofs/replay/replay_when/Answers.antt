@@ -1,17 +1,18 @@
-use Rattle.day_replay.specs.Replay.{Replays, text_of}
+use Rattle.day_replay.specs.Forecast.{when_text}
+use Rattle.day_replay.specs.Replay.{Replays}
 use Rattle.day_replay.proofs.HistoryLemmas.{IsReplay-day}
 use Rattle.day_replay.proofs.EndsLemmas.{EndsDay-taken, EndsDay-untaken}
 use Rattle.day_replay.proofs.ReplayLemmas.{Replays-day}
-use Rattle.day_replay.proofs.replay.replay_day.Goals as goal
+use Rattle.day_replay.proofs.replay.replay_when.Goals as goal
 
 pub returns-in-Ok-clause-ends : goal.returns-in-Ok-clause-ends
 returns-in-Ok-clause-ends g c =
     let law = c.one_history_is_legal.ensures in
     let took = c.in-Ok.ensures in
-    EndsDay-taken _ c.in-Ok.day _ _ (Replays _ _ (text_of c.args.form)) _ _ _ _ _ _ _ _ _ _ took.no_fault took.not_too_long took.silent took.silent_count took.by_the_day
+    EndsDay-taken _ c.in-Ok.day _ _ (Replays _ _ (when_text c.args.vac c.args.person)) _ _ _ _ _ _ _ _ _ _ took.no_fault took.not_too_long took.silent took.silent_count took.by_the_day
     (λ Writes WritesAll as_well written.
     Replays-day _ _ _ _ _ WritesAll took.opening took.day (IsReplay-day law.opening law.legal law.given _ _ took.opening took.stated) (as_well _ written))
-    c.print_day.ensures
+    c.print_when.ensures
 
 pub returns-in-Err-clause-ends : goal.returns-in-Err-clause-ends
 returns-in-Err-clause-ends g c =

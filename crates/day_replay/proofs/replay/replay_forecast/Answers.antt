@@ -1,0 +1,21 @@
+use Rattle.day_replay.specs.Forecast.{forecast_text}
+use Rattle.day_replay.specs.Replay.{Replays}
+use Rattle.day_replay.proofs.HistoryLemmas.{IsReplay-day}
+use Rattle.day_replay.proofs.EndsLemmas.{EndsDay-taken, EndsDay-untaken}
+use Rattle.day_replay.proofs.ReplayLemmas.{Replays-day}
+use Rattle.day_replay.proofs.replay.replay_forecast.Goals as goal
+
+pub returns-in-Ok-clause-ends : goal.returns-in-Ok-clause-ends
+returns-in-Ok-clause-ends g c =
+    let law = c.one_history_is_legal.ensures in
+    let took = c.in-Ok.ensures in
+    EndsDay-taken _ c.in-Ok.day _ _ (Replays _ _ (forecast_text c.args.asked)) _ _ _ _ _ _ _ _ _ _ took.no_fault took.not_too_long took.silent took.silent_count took.by_the_day
+    (λ Writes WritesAll as_well written.
+    Replays-day _ _ _ _ _ WritesAll took.opening took.day (IsReplay-day law.opening law.legal law.given _ _ took.opening took.stated) (as_well _ written))
+    c.print_forecast.ensures
+
+pub returns-in-Err-clause-ends : goal.returns-in-Err-clause-ends
+returns-in-Err-clause-ends g c =
+    let failed = c.in-Err.ensures in
+    EndsDay-untaken _ c.in-Err.status _ _ _ _ _ _ _ _ _ failed.only failed.read_fault failed.no_fault failed.too_long failed.not_too_long failed.no_opening failed.unreadable failed.silent failed.silent_count
+    failed.source_faults_grow failed.sink_faults_grow failed.by_the_day
