@@ -7,7 +7,7 @@ use record_rows::LastMinute;
 use std::alloc::Global;
 
 /// What is kept of a day's entries, as they are answered one after another.
-pub(crate) trait DayKept: Drop {
+pub trait DayKept: Drop {
     ghost use Rattle.std.specs.Prelude.{◌<◌, ◌+◌, ◌^◌, length};
     ghost use Rattle.desk_model.specs.histories.History.{History, opened, with_entry};
     ghost use Rattle.day_replay.specs.FromDay.{IsTextOf};

@@ -5,7 +5,7 @@ use command_parser::{DayFault, DayFile, read_day};
 use std::alloc::Global;
 
 /// What is made of a day file.
-pub(crate) trait FromDay: Drop {
+pub trait FromDay: Drop {
     ghost use Rattle.std.specs.Prelude.{List};
     ghost use Rattle.desk_model.specs.statements.Opening.{OpeningValue};
     ghost use Rattle.desk_model.specs.statements.Statement.{StatedValue};

@@ -19,7 +19,8 @@ use Rattle.desk_model.specs.statements.Statement.{StatedValue}
 use Rattle.desk_model.specs.declared.limits.TheConstants.{LAST_CALLER}
 use Rattle.desk_text.specs.declared.statement.Statement.{Statement}
 use Rattle.line_writer.specs.Line.{outcome_line}
-use Rattle.desk_text.specs.SpelledEntry.{IsEntryLine, SpellsStated, SpellsEntry, BeginsEntry, statement_of}
+use Rattle.command_parser.specs.Spelled.{SpellsStated}
+use Rattle.desk_text.specs.SpelledEntry.{IsEntryLine, SpellsEntry, BeginsEntry, statement_of}
 use Rattle.desk_text.proofs.FirstFieldsLemmas.{take-short}
 use Rattle.desk_text.proofs.PlainLemmas.{Passes, IsInner, is_inner, join, weaker, number, minute_in}
 use Rattle.desk_text.proofs.LineLemmas.{stated_inner}

@@ -7,7 +7,6 @@ use Rattle.desk_model.specs.statements.Fits.{IsStated, Fits}
 use Rattle.desk_model.specs.texts.Journal.{entry_line}
 use Rattle.desk_model.specs.texts.ReplyTexts.{reply_text}
 use Rattle.desk_model.specs.texts.StatedTexts.{stated_fields}
-use Rattle.desk_model.specs.statements.Statement.{StatedValue}
 use Rattle.desk_model.specs.declared.limits.TheConstants.{LAST_CALLER}
 use Rattle.desk_text.specs.declared.statement.Statement.{Statement}
 
@@ -15,11 +14,6 @@ use Rattle.desk_text.specs.declared.statement.Statement.{Statement}
 pub record IsEntryLine (line : List ℕ) (e : EntryValue) : Type 0 where
   pub valid : Fits e
   pub line_is : line ≡ entry_line e
-
--- the text is that of this command and of the minute at which it was stated: its fields with commas between them
-pub record SpellsStated (text : List ℕ) (s : StatedValue) : Type 0 where
-  pub valid : IsStated s
-  pub text_is : text ≡ join_with_byte 44 (stated_fields s)
 
 -- the four parts of a line are this entry's
 pub record SpellsEntry (caller stated moment reply : List ℕ) (e : EntryValue) : Type 0 where

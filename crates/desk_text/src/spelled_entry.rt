@@ -3,7 +3,8 @@ ghost use Rattle.std.specs.Prelude.{◌≡◌, ◌≤◌, ℕ, List, decimal, If
 ghost use Rattle.desk_model.specs.declared.limits.TheConstants.{LAST_CALLER};
 ghost use Rattle.desk_model.specs.statements.Entry.{EntryValue};
 ghost use Rattle.desk_model.specs.statements.Statement.{StatedValue};
-ghost use Rattle.desk_text.specs.SpelledEntry.{IsEntryLine, SpellsStated, SpellsEntry, BeginsEntry};
+ghost use Rattle.command_parser.specs.Spelled.{SpellsStated};
+ghost use Rattle.desk_text.specs.SpelledEntry.{IsEntryLine, SpellsEntry, BeginsEntry};
 ghost use Rattle.desk_text.specs.declared.statement.Statement.{Statement as StatementValue};
 
 use crate::cut::{before, behind, cut, cut_near};
