@@ -45,7 +45,8 @@ pub fn read_record(last: &mut LastMinute, fields: &[&[u8]]) -> Result<Stated, u8
     }
 }
 
-fn read_stated(last: &mut LastMinute, fields: &[&[u8]]) -> Option<Stated>
+/// The command that a record's fields state, and the minute at which it was stated; `None` where they state none.
+pub(crate) fn read_stated(last: &mut LastMinute, fields: &[&[u8]]) -> Option<Stated>
     ensures some { IfSome result (StatesCommand (map (λ field. field.now) fields.now)) }
     ensures only { (s : StatedValue) → StatesCommand (map (λ field. field.now) fields.now) s
         → result ≡ Some s }

@@ -4,7 +4,7 @@ ghost use Rattle.record_rows.specs.Rows.{HasLeft};
 ghost use Rattle.desk_model.specs.statements.Statement.{StatedValue};
 
 use crate::more_fault::MoreFault;
-use crate::record_row::read_row;
+use crate::record_row::{stated_in_row, wrong_in_row};
 use crate::stated_record::StatedRecord;
 use desk_base::NoMemory;
 use desk_model::Stated;
@@ -61,7 +61,7 @@ impl<'a> CommandRecords<'a> {
 
     /// Reads the next record; `None` where none is left. Of the faults the first that holds is told: too many records, and then one that
     /// states no command, behind which the others are counted before it is told. Behind a fault nothing is said of the records any more.
-    #[inline]
+    #[inline(always)]
     pub fn next(&mut self) -> Result<Option<StatedRecord<'a>>, MoreFault>
         ensures reads { (first most : ℕ) (all : List (List (List ℕ))) (commands : List StatedValue)
             → HasRead first most all commands self.old
@@ -84,12 +84,13 @@ impl<'a> CommandRecords<'a> {
         let record_no = self.next_no as u32;
         self.left -= 1;
         self.next_no += 1;
-        match read_row(&mut self.last, &self.row) {
-            Ok(stated) => Ok(Some(StatedRecord {
+        match stated_in_row(&mut self.last, &self.row) {
+            Some(stated) => Ok(Some(StatedRecord {
                 stated,
                 line: self.row.line(),
             })),
-            Err(field) => {
+            None => {
+                let field = wrong_in_row(&self.row);
                 if has_more(&mut self.rows, &mut self.row, self.left)? {
                     Err(MoreFault::TooMany)
                 } else {

@@ -1,5 +1,5 @@
 //! What the records of a text state.
-ghost use Rattle.std.specs.Prelude.{◌≡◌, ◌⊎◌, ℕ, IfOk, IfErr, IfSome};
+ghost use Rattle.std.specs.Prelude.{◌≡◌, IfOk, IfErr, IfSome};
 ghost use Rattle.record_rows.specs.Rows.{row_fields};
 ghost use Rattle.desk_model.specs.statements.Opening.{OpeningValue};
 ghost use Rattle.desk_model.specs.statements.Statement.{StatedValue};
@@ -7,7 +7,8 @@ ghost use Rattle.command_parser.specs.OpeningRecord.{StatesOpening};
 ghost use Rattle.command_parser.specs.RecordForms.{IsWrongAt};
 ghost use Rattle.command_parser.specs.Spelled.{StatesCommand};
 
-use crate::command_record::read_record;
+use crate::command_record::read_stated;
+use crate::first_wrong::wrong_field;
 use crate::opening_record::opening_of;
 use desk_model::{Opening, Stated};
 use record_rows::{Fields, LastMinute, Row};
@@ -19,9 +20,29 @@ pub(crate) fn read_row(last: &mut LastMinute, row: &Row) -> Result<Stated, u8>
     ensures only { (s : StatedValue) → StatesCommand (row_fields row.now) s → result ≡ Ok s }
     ensures wrong { IfErr result (IsWrongAt (row_fields row.now)) }
 {
+    match stated_in_row(last, row) {
+        Some(stated) => Ok(stated),
+        None => Err(wrong_in_row(row)),
+    }
+}
+
+/// The command that a record states, and the minute at which it was stated; `None` where it states none.
+pub(crate) fn stated_in_row(last: &mut LastMinute, row: &Row) -> Option<Stated>
+    ensures some { IfSome result (StatesCommand (row_fields row.now)) }
+    ensures only { (s : StatedValue) → StatesCommand (row_fields row.now) s → result ≡ Some s }
+{
     let mut fields = Fields::new();
     row.fill_fields(&mut fields);
-    read_record(last, fields.as_slice())
+    read_stated(last, fields.as_slice())
+}
+
+/// The number, from 1, of a wrong record's first wrong field.
+pub(crate) fn wrong_in_row(row: &Row) -> u8
+    ensures { IsWrongAt (row_fields row.now) result }
+{
+    let mut fields = Fields::new();
+    row.fill_fields(&mut fields);
+    wrong_field(fields.as_slice())
 }
 
 /// The opening that a record states; `None` where it states none.

@@ -53,8 +53,7 @@ fn replay_records<C: DeskCore, T: DayKept>(
     loop {
         match records.next() {
             Ok(Some(read)) => {
-                let entry = core.step(0, read.stated);
-                kept.keep(&entry, read.line, records.last_minute())?;
+                kept.keep(&core.step(0, read.stated), read.line, records.last_minute())?;
             }
             Ok(None) => return Ok(()),
             Err(fault) => return Err(fault),

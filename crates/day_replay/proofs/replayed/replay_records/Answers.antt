@@ -22,16 +22,16 @@ pub loop-read-preserved : goal.loop-read-preserved
 loop-read-preserved g c =
     let stated = c.in-Ok-Some.read.stated in
     record {
-      left = omega (arith, c.step-entry.ensures.room, c.loop-read.invariant.left, rw c.in-Ok-Some.field-0-is at c.in-Ok-Some.ensures.left);
+      left = omega (arith, c.step.ensures.room, c.loop-read.invariant.left, rw c.in-Ok-Some.field-0-is at c.in-Ok-Some.ensures.left);
       so_far = λ rest o read stands kept.
           let so = c.loop-read.invariant.so_far rest o read stands kept in
-          let answer = c.step-entry.ensures.answer _ so.stands in
-          let next = goes_on-last (opened o) so.commands stated c.step-entry.result answer in
-          let text = IsTextOf-next _ stated c.in-Ok-Some.read.line c.step-entry.result answer (rw c.in-Ok-Some.field-0-is at c.in-Ok-Some.ensures.spelled) in
+          let answer = c.step.ensures.answer _ so.stands in
+          let next = goes_on-last (opened o) so.commands stated c.step.result answer in
+          let text = IsTextOf-next _ stated c.in-Ok-Some.read.line c.step.result answer (rw c.in-Ok-Some.field-0-is at c.in-Ok-Some.ensures.spelled) in
           record {
             commands = so.commands ++ stated ∷ [];
             read = rw c.in-Ok-Some.field-0-is at (c.in-Ok-Some.ensures.reads 2 COMMAND_LIMIT rest so.commands so.read);
-            stands = subst (g.C.DeskCore.stands c.step-entry.new.self) next (c.step-entry.ensures.stands _ so.stands);
+            stands = subst (g.C.DeskCore.stands c.step.new.self) next (c.step.ensures.stands _ so.stands);
             kept = subst (g.T.DayKept.kept_of c.keep.new.self) next (c.in_ok-keep-in-Ok-Some.ensures _ so.kept (HasReplayed-few rest o so.commands _ so.read) text);
           };
     }
