@@ -9,7 +9,6 @@ use Rattle.desk_model.specs.histories.Register.{enrols_any, persons, sets_up_any
 use Rattle.desk_model.specs.declared.limits.TheConstants.{BOARD_LIMIT}
 use Rattle.desk_model.specs.laws.Comes.{Comes}
 use Rattle.desk_model.specs.laws.RestsOn.{RestsOn}
-use Rattle.desk_state.specs.DutyTold.{teller}
 use Rattle.desk_state.specs.OfferTold.{decliner}
 use Rattle.desk_state.specs.Lists.{mover}
 

@@ -3,4 +3,6 @@ mod OfferLemmas
 mod StepLemmas
 mod SearchLemmas
 mod KeepLemmas
+mod StayLemmas
+mod UnfilledLemmas
 mod CoreLemmas

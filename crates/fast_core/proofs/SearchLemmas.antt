@@ -34,7 +34,6 @@ use Rattle.fast_core.specs.declared.kept_desk.KeptDesk.{KeptDesk}
 use Rattle.fast_core.specs.declared.job_asked.JobAsked.{JobAsked}
 use Rattle.fast_core.specs.Candidates.{IsJobAsked}
 use Rattle.fast_core.specs.KeptDesk.{Tells}
-use Rattle.desk_state.proofs.BitLemmas.{no-board}
 use Rattle.fast_core.specs.Search.{bar_by, bar_for, bar_unless, was_searched, Judges, HasSearched, is_barred_though_rested, board_steps, chain_steps}
 use Rattle.fast_core.proofs.OfferLemmas.{code-at}
 use Rattle.fast_core.proofs.StepLemmas.{over-kept, asked-early}

@@ -146,6 +146,9 @@ impl<L: Ledger> Reads for DeskReads<'_, L> {
     }
 
     fn first_free(&self, work: &mut Steps<L>, moment: Minute, job: &Job) -> Option<Link> {
+        if self.desk.unfilled.has(job.vac(), moment) {
+            return None;
+        }
         self.desk
             .first_free(&self.desk.job_asked(moment, job), work)
     }

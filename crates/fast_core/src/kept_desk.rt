@@ -2,7 +2,7 @@ mod bars;
 mod boards;
 mod chain;
 
-ghost use Rattle.std.specs.Prelude.{◌≡◌, ◌↔◌, IfOk, ◌+◌, ℕ, Some, IfSome};
+ghost use Rattle.std.specs.Prelude.{◌≡◌, ◌↔◌, IfOk, ◌+◌, ℕ, false, Some, IfSome};
 ghost use Rattle.desk_model.specs.statements.Opening.{OpeningValue};
 ghost use Rattle.desk_model.specs.histories.History.{History, opened, with_entry, said};
 ghost use Rattle.desk_model.specs.histories.Legal.{IsNext};
@@ -10,19 +10,21 @@ ghost use Rattle.fast_core.specs.KeptDesk.{Tells};
 ghost use Rattle.desk_base.specs.Minute.{IsInYears};
 ghost use Rattle.desk_model.specs.offers.Offers.{open_offer};
 ghost use Rattle.desk_state.specs.Lists.{mover};
+ghost use Rattle.desk_model.specs.laws.Refusal.{changes};
 
 use crate::people::People;
+use crate::unfilled::Unfilled;
 use desk_base::{Minute, NoMemory, PersonNo, VacNo, YEARS_BEGIN, YEARS_END};
 use desk_model::{
-    Cmd, Entry, Offer, Opening, a_legal_history_fits, one_history_is_legal,
-    what_an_entry_makes_of_the_desk, what_is_done_rests_on,
+    Cmd, Entry, Offer, Opening, Reply, a_legal_history_fits, a_refusal_changes_nothing,
+    one_history_is_legal, what_an_entry_makes_of_the_desk, what_is_done_rests_on,
 };
 use desk_register::Register;
 use desk_state::{Duty, Lists, NamedIndexes, Offers};
 use std::alloc::Global;
 
 /// All that a desk keeps: how it was opened, its last moment, its persons with their clocks, its boards and vacancies, the open
-/// offers and holds, and who is on which board in which order.
+/// offers and holds, who is on which board in which order, and which vacancies were unfilled since anything changed.
 #[derive(Drop)]
 pub(crate) struct KeptDesk {
     pub opening: Opening,
@@ -30,6 +32,7 @@ pub(crate) struct KeptDesk {
     pub people: People,
     pub offers: Offers,
     pub lists: Lists,
+    pub unfilled: Unfilled,
 }
 
 // The minute so many minutes before this one, where both lie in the years 2000 to 2099.
@@ -61,6 +64,16 @@ pub(crate) fn mover(entry: &Entry) -> Option<PersonNo>
     }
 }
 
+// Whether the reply says that something changed: a command was done, or an offer made.
+fn changes(reply: &Reply) -> bool
+    ensures { result ≡ changes reply.now }
+{
+    match reply {
+        Reply::Done | Reply::Offered { .. } => true,
+        _ => false,
+    }
+}
+
 impl KeptDesk {
     /// A desk that was opened so and has answered nothing yet; `NoMemory` where there is none for all that it may come to keep.
     pub(crate) fn new(alloc: Global, opening: Opening) -> Result<KeptDesk, NoMemory>
@@ -72,12 +85,14 @@ impl KeptDesk {
         let duty = Duty::new(alloc, opening.window())?;
         let offers = Offers::new(alloc, opening.answer())?;
         let lists = Lists::new(alloc)?;
+        let unfilled = Unfilled::new(alloc)?;
         Ok(KeptDesk {
             opening,
             last: opening.start(),
             people: People { register, duty },
             offers,
             lists,
+            unfilled,
         })
     }
 
@@ -89,12 +104,14 @@ impl KeptDesk {
         let people = self.people.copy(alloc)?;
         let offers = self.offers.copy(alloc)?;
         let lists = self.lists.copy(alloc)?;
+        let unfilled = self.unfilled.copy(alloc)?;
         Ok(KeptDesk {
             opening: self.opening,
             last: self.last,
             people,
             offers,
             lists,
+            unfilled,
         })
     }
 
@@ -102,6 +119,18 @@ impl KeptDesk {
     /// way to the caller.
     #[inline(never)]
     pub(crate) fn keep(&mut self, entry: &Entry)
+        ensures tells { (h : History) → Tells self.old h → IsNext h entry.now → Tells self.new (with_entry h entry.now) }
+        ensures opening { self.new.opening ≡ self.old.opening }
+    {
+        if changes(&entry.reply()) {
+            self.change(entry);
+        } else {
+            self.stay(entry);
+        }
+    }
+
+    // Keeps what the next entry changes, whatever it is.
+    fn change(&mut self, entry: &Entry)
         ensures tells { (h : History) → Tells self.old h → IsNext h entry.now → Tells self.new (with_entry h entry.now) }
         ensures opening { self.new.opening ≡ self.old.opening }
     {
@@ -118,6 +147,19 @@ impl KeptDesk {
         self.offers.keep(entry, named.person, offered);
         named.ready = self.people.ready_of(named.person);
         self.lists.keep(entry, &named);
+        self.unfilled.forget();
+        self.last = entry.moment();
+    }
+
+    // Keeps the moment of the next entry, which changes nothing else, and the vacancy that it tells to be unfilled.
+    fn stay(&mut self, entry: &Entry)
+        ensures tells { (h : History) → Tells self.old h → IsNext h entry.now → changes entry.now.reply ≡ false
+            → Tells self.new (with_entry h entry.now) }
+        ensures opening { self.new.opening ≡ self.old.opening }
+    {
+        what_an_entry_makes_of_the_desk();
+        a_refusal_changes_nothing();
+        self.unfilled.keep(entry);
         self.last = entry.moment();
     }
 

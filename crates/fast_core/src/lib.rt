@@ -8,5 +8,6 @@ mod fast_core;
 mod job_asked;
 mod kept_desk;
 mod people;
+mod unfilled;
 
 pub use fast_core::FastCore;

@@ -1,4 +1,5 @@
 use Rattle.std.proofs.Common.{refl, sym, ◌∙◌}
+use Rattle.desk_model.specs.histories.History.{opened}
 use Rattle.fast_core.proofs.kept_desk.KeptDesk.new.Goals as goal
 
 pub returns : goal.returns
@@ -14,5 +15,6 @@ returns c = record {
     };
     offers = c.in_ok-offers.ensures c.args.opening (sym c.answer-2.ensures.value);
     lists = c.in_ok-lists.ensures c.args.opening;
+    unfilled = c.in_ok-unfilled.ensures (opened c.args.opening);
   };
 }

@@ -5,7 +5,7 @@ use Rattle.desk_model.proofs.LegalLemmas.{legal-with}
 use Rattle.desk_register.specs.Among.{index_among}
 use Rattle.desk_state.specs.Lists.{mover}
 use Rattle.fast_core.proofs.KeepLemmas.{decliner-mover, persons-moved, set_up-few}
-use Rattle.fast_core.proofs.kept_desk.KeptDesk.keep.Goals as goal
+use Rattle.fast_core.proofs.kept_desk.KeptDesk.change.Goals as goal
 
 pub returns-clause-tells : goal.returns-clause-tells
 returns-clause-tells c h tells next =
@@ -25,4 +25,5 @@ returns-clause-tells c h tells next =
         set_up = λ b told. c.named_board.ensures.set_up h b tells told (set_up-few h e b (c.what_is_done_rests_on.ensures.done h e next) told);
         ready = λ p told. c.ready_of-named.ensures (with_entry h e) p people (person p told ∙ sym (ap (λ ps. index_among ps p) (persons-moved h e p (c.what_an_entry_makes_of_the_desk.ensures.comes h e) told)));
       }) tells.lists;
+      unfilled = c.forget.ensures (with_entry h e);
     }
