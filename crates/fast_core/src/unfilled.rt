@@ -76,7 +76,7 @@ impl Unfilled {
         ensures keeps { (h : History) → KeepsUnfilled self.old h → KeepsUnfilled self.new h }
     {
         if self.found.len() >= VACANCY_LIMIT {
-            self.found.clear();
+            self.forget();
         }
     }
 
@@ -121,7 +121,8 @@ impl Unfilled {
 
     /// Forgets all: something changed.
     pub(crate) fn forget(&mut self)
-        ensures { (h : History) → KeepsUnfilled self.new h }
+        ensures all { (h : History) → KeepsUnfilled self.new h }
+        ensures room { length self.new.found.items < VACANCY_LIMIT }
     {
         self.found.clear();
     }
