@@ -3,6 +3,7 @@ mod OfferLemmas
 mod StepLemmas
 mod SearchLemmas
 mod KeepLemmas
+mod TouchedLemmas
 mod StayLemmas
 mod UnfilledLemmas
 mod CoreLemmas

@@ -160,7 +160,7 @@ found-steps h m job kept seen on b j old new barred agrees tours rest lists earl
 -- ---- boards that were searched
 
 -- where nobody on a board may have the job, each has a bar
-all-barred : (h : History) (m : ℕ) (job : JobValue) (b : List ℕ) (p : ℕ) (ps : List ℕ) (n : ℕ) → list_any (nat_eq p) ps ≡ true
+pub all-barred : (h : History) (m : ℕ) (job : JobValue) (b : List ℕ) (p : ℕ) (ps : List ℕ) (n : ℕ) → list_any (nat_eq p) ps ≡ true
     → None ≡ find (λ link. is_free h m job link.person) (links b n ps) → is_free h m job p ≡ false
 all-barred h m job b p [] n there none = absurd (false≢true there)
 all-barred h m job b p (q ∷ ps) n there none = go (nat_eq p q) (is_free h m job q) refl refl there none (all-barred h m job b p ps (n + 1))

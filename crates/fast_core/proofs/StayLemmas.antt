@@ -1,8 +1,7 @@
 -- What is kept of a history is what another says where both have the same desk.
-use Rattle.std.proofs.Common.{◌≡◌, ◌≤◌, ℕ, cond, not, Bool, Option, Some, is_some, List, [], ◌∷◌, length, sym, ap, subst, ◌∙◌}
+use Rattle.std.proofs.Common.{◌≡◌, ◌≤◌, ℕ, cond, not, Bool, Option, None, Some, is_none, is_some, List, [], ◌∷◌, length, refl, sym, ap, subst, ◌∙◌}
 use Rattle.std.specs.List.{slice_get}
 use Rattle.std.specs.Option.{option_map}
-use Rattle.std.proofs.lemmas.List.Elements.{All-weaker}
 use Rattle.duty_events.specs.Lists.{stage_of}
 use Rattle.duty_events.specs.MinuteKind.{is_off}
 use Rattle.rest_rules.specs.Rest.{rest_end}
@@ -13,9 +12,12 @@ use Rattle.offer_flight.specs.Flight.{of_vacancy}
 use Rattle.desk_model.specs.declared.board_setup.BoardSetup.{BoardSetup}
 use Rattle.desk_model.specs.declared.limits.TheConstants.{PERSON_LIMIT, BOARD_LIMIT}
 use Rattle.desk_model.specs.histories.History.{History}
-use Rattle.desk_model.specs.histories.Register.{persons, boards, vacancies}
+use Rattle.desk_model.specs.histories.Register.{person_of, persons, boards, vacancies}
 use Rattle.desk_model.specs.offers.Offers.{open_offer}
 use Rattle.desk_model.specs.laws.Refusal.{IsSameDesk}
+use Rattle.desk_model.specs.offers.Bars.{may_have, is_free}
+use Rattle.desk_model.specs.declared.person.Person.{Person}
+use Rattle.desk_model.specs.statements.Job.{JobValue}
 use Rattle.desk_register.specs.declared.kept_person.KeptPerson.{KeptPerson}
 use Rattle.desk_register.specs.declared.kept_vacancy.KeptVacancy.{KeptVacancy}
 use Rattle.desk_register.specs.Among.{index_among, board_index}
@@ -32,10 +34,7 @@ use Rattle.desk_state.specs.declared.lists.Lists.{Lists}
 use Rattle.desk_state.specs.Keeps.{Keeps as KeepsOffers}
 use Rattle.desk_state.specs.Lists.{KeepsLists, Keeps as KeepsBoth}
 use Rattle.fast_core.specs.declared.people.People.{People}
-use Rattle.fast_core.specs.declared.unfilled.Found.{Found}
-use Rattle.fast_core.specs.declared.unfilled.Unfilled.{Unfilled}
 use Rattle.fast_core.specs.People.{KeepsPeople}
-use Rattle.fast_core.specs.Unfilled.{IsFound, KeepsUnfilled}
 
 -- the history of which something is kept, and another that was opened so and has the same desk
 module _ (h later : History) (opening : later.opening ≡ h.opening) (same : IsSameDesk h later) where
@@ -158,10 +157,11 @@ module _ (h later : History) (opening : later.opening ≡ h.opening) (same : IsS
   pub lists-stay : (lists : Lists) → KeepsBoth lists h → KeepsBoth lists later
   lists-stay lists was = record { lists = lists-same _ _ was.lists; words = was.words }
 
-  -- ---- vacancies that are unfilled
+  -- ---- bars
 
-  pub unfilled-stay : (u : Unfilled) → KeepsUnfilled u h → KeepsUnfilled u later
-  unfilled-stay u was = record { each = All-weaker (IsFound h) (IsFound later) same-found u.found.items was.each }
+  pub free-stays : (m : ℕ) (job : JobValue) (p : ℕ) → is_free later m job p ≡ is_free h m job p
+  free-stays m job p = ap (may_have later m job p) (same.person p) ∙ go (person_of h p)
     where
-      same-found : (f : Found) → IsFound h f → IsFound later f
-      same-found f is = record { barred = λ job made. same.first f.moment job ∙ is.barred job (sym (same.vacancy f.vac) ∙ made) }
+      go : (known : Option Person) → may_have later m job p known ≡ may_have h m job p known
+      go None = refl
+      go (Some person) = ap is_none (same.bar m job p person)

@@ -1,4 +1,5 @@
 pub mod People
+pub mod Touched
 pub mod Unfilled
 pub mod KeptDesk
 pub mod Candidates

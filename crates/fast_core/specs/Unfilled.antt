@@ -1,6 +1,7 @@
 -- Which vacancies are remembered as unfilled, beside what a history says.
-use Rattle.std.specs.Prelude.{◌≡◌, ℕ, Option, None, Some}
-use Rattle.std.specs.List.{All}
+use Rattle.std.specs.Prelude.{◌≡◌, ℕ, ◌≤◌, true, false, nat_eq, Option, None, Some, List, length, drop}
+use Rattle.std.specs.Str.{bytes_eq}
+use Rattle.std.specs.List.{All, list_any}
 use Rattle.desk_model.specs.declared.command.Cmd.{Cmd}
 use Rattle.desk_model.specs.declared.command.Cmd.TheVariants as cmd
 use Rattle.desk_model.specs.declared.reply.Reply.{Reply}
@@ -9,21 +10,24 @@ use Rattle.desk_model.specs.statements.Job.{JobValue}
 use Rattle.desk_model.specs.statements.Entry.{EntryValue}
 use Rattle.desk_model.specs.histories.History.{History}
 use Rattle.desk_model.specs.histories.Register.{vacancy_of}
-use Rattle.desk_model.specs.offers.Bars.{first_free}
+use Rattle.desk_model.specs.boards.Boards.{is_on}
+use Rattle.desk_model.specs.offers.Bars.{is_free}
 use Rattle.fast_core.specs.declared.unfilled.Found.{Found}
 use Rattle.fast_core.specs.declared.unfilled.Unfilled.{Unfilled}
 
--- whatever the vacancy was made as, all of its chain are barred from it at the moment
-pub record IsUnfilled (h : History) (v m : ℕ) : Type 0 where
-  pub barred : (job : JobValue) → vacancy_of h v ≡ Some job → first_free h m job ≡ None
+-- whatever the vacancy was made as, all who are on a board of its chain are barred from it at the moment, but maybe some of these
+pub record IsUnfilledBut (h : History) (v m : ℕ) (some : List ℕ) : Type 0 where
+  pub barred : (job : JobValue) → vacancy_of h v ≡ Some job → (p : ℕ) (b : List ℕ) → list_any (nat_eq p) some ≡ false → list_any (bytes_eq b) job.chain ≡ true → is_on h p b ≡ true
+      → is_free h m job p ≡ false
 
--- that is so of a vacancy and the moment at which it was found so
-abbrev pub IsFound : History → Found → Type 0
-IsFound h f = IsUnfilled h f.vac f.moment
+-- that is so of a vacancy and the moment at which it was found unfilled, but of those who were touched since
+pub record IsFound (h : History) (touched : List ℕ) (f : Found) : Type 0 where
+  pub before : f.before ≤ length touched
+  pub unfilled : IsUnfilledBut h f.vac f.moment (drop f.before touched)
 
 -- and of each that is remembered
 pub record KeepsUnfilled (u : Unfilled) (h : History) : Type 0 where
-  pub each : All (IsFound h) u.found.items
+  pub each : All (IsFound h u.touched.items) u.found.items
 
 -- ---- what an entry tells
 

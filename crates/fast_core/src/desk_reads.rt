@@ -146,7 +146,7 @@ impl<L: Ledger> Reads for DeskReads<'_, L> {
     }
 
     fn first_free(&self, work: &mut Steps<L>, moment: Minute, job: &Job) -> Option<Link> {
-        if self.desk.unfilled.has(job.vac(), moment) {
+        if self.desk.is_unfilled(moment, job) {
             return None;
         }
         self.desk

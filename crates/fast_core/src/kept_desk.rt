@@ -147,7 +147,7 @@ impl KeptDesk {
         self.offers.keep(entry, named.person, offered);
         named.ready = self.people.ready_of(named.person);
         self.lists.keep(entry, &named);
-        self.unfilled.forget();
+        self.unfilled.change(entry);
         self.last = entry.moment();
     }
 

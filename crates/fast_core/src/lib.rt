@@ -8,6 +8,7 @@ mod fast_core;
 mod job_asked;
 mod kept_desk;
 mod people;
+mod touched;
 mod unfilled;
 
 pub use fast_core::FastCore;

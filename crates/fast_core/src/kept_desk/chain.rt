@@ -1,19 +1,21 @@
 //! Positions in the chain of a vacancy, and the first whom nothing bars.
-ghost use Rattle.std.specs.Prelude.{◌≡◌, length, ◌≤◌, ◌+◌};
+ghost use Rattle.std.specs.Prelude.{◌≡◌, length, ◌≤◌, ◌+◌, true, false, None};
+ghost use Rattle.std.specs.List.{All};
 ghost use Rattle.desk_model.specs.histories.History.{History};
 ghost use Rattle.desk_model.specs.boards.Boards.{chain};
 ghost use Rattle.desk_model.specs.answers.ExplainAnswer.{position_in};
 ghost use Rattle.fast_core.specs.KeptDesk.{Tells};
-ghost use Rattle.desk_model.specs.offers.Bars.{first_free};
+ghost use Rattle.desk_model.specs.offers.Bars.{first_free, is_free};
+ghost use Rattle.desk_answers.specs.Asked.{IsAsked};
 ghost use Rattle.fast_core.specs.Candidates.{IsJobAsked};
 ghost use Rattle.fast_core.specs.Search.{search_steps};
 
 use crate::call::Call;
 use crate::job_asked::JobAsked;
 use crate::kept_desk::KeptDesk;
-use desk_base::{Code, PersonNo};
+use desk_base::{Code, Minute, PersonNo};
 use desk_model::{
-    Chain, Link, boards_and_chains_are_bounded, order_is_by_rank, who_is_on_a_board_is_listed,
+    Chain, Job, Link, boards_and_chains_are_bounded, order_is_by_rank, who_is_on_a_board_is_listed,
 };
 use desk_register::who_is_enrolled_has_an_index;
 use slot_tree::Steps;
@@ -72,6 +74,32 @@ impl KeptDesk {
             count = count.saturating_add(self.member_count(board));
         }
         count
+    }
+
+    // Whether each of the persons is barred from the job of a vacancy that was made, at this moment, which isn't past its report.
+    fn are_barred(&self, moment: Minute, job: &Job, persons: &[PersonNo]) -> bool
+        ensures { (h : History) → Tells self.now h → IsAsked h moment job.now → result ≡ true
+            → All (λ p. is_free h moment job.now p ≡ false) persons.now }
+    {
+        for person in persons {
+            if self.bar(moment, job, *person).is_none() {
+                return false;
+            }
+        }
+        true
+    }
+
+    /// Whether it is remembered that all of the chain are barred from the job of a vacancy that was made, at this moment, which isn't
+    /// past its report. Who was touched since is judged again, and nobody else.
+    pub(crate) fn is_unfilled(&self, moment: Minute, job: &Job) -> bool
+        ensures { (h : History) → Tells self.now h → IsAsked h moment job.now → result ≡ true
+            → first_free h moment job.now ≡ None }
+    {
+        order_is_by_rank();
+        match self.unfilled.touched_since(job.vac(), moment) {
+            Some(persons) => self.are_barred(moment, job, persons),
+            None => false,
+        }
     }
 
     /// The first position of the chain of the job that is asked about whose person nothing bars; `None` where all are barred. The steps

@@ -25,5 +25,5 @@ returns-clause-tells c h tells next =
         set_up = λ b told. c.named_board.ensures.set_up h b tells told (set_up-few h e b (c.what_is_done_rests_on.ensures.done h e next) told);
         ready = λ p told. c.ready_of-named.ensures (with_entry h e) p people (person p told ∙ sym (ap (λ ps. index_among ps p) (persons-moved h e p (c.what_an_entry_makes_of_the_desk.ensures.comes h e) told)));
       }) tells.lists;
-      unfilled = c.forget.ensures.all (with_entry h e);
+      unfilled = c.change.ensures h tells.legal next tells.unfilled;
     }
