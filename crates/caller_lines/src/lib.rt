@@ -18,7 +18,7 @@ mod texts_out;
 pub use caller_line::CallerLine;
 pub use file_line::FileLine;
 pub use heard::Heard;
-pub use hearing::{hear, hear_request};
+pub use hearing::{hear, hear_next, hear_next_request, hear_request};
 pub use line_buf::LineBuf;
 pub use memory_line::MemoryLine;
 pub use request::Request;

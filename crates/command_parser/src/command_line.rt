@@ -25,37 +25,55 @@ pub fn read_command(alloc: Global, line: &[u8]) -> Result<Stated, ReadFail>
     ensures tells { (fail : Fail) → HasFail line.now fail
         → (IsErrOf result fail) ⊎ (IsErrOf result ReadFail.NoMemory) }
 {
-    read_line(alloc, line)
+    read_next_command(alloc, &mut LastMinute::new(), line)
+}
+
+/// As `read_command`, of a line that comes behind others. `last` is the minute that they stated last: it only spares work.
+pub fn read_next_command(
+    alloc: Global,
+    last: &mut LastMinute,
+    line: &[u8],
+) -> Result<Stated, ReadFail>
+    ensures some { IfOk result (IsCommandLine line.now) }
+    ensures fail { IfErr result (λ fail. fail ≢ ReadFail.NoMemory → HasFail line.now fail) }
+
+    // And each comes where its cause is, unless memory is wanting.
+    ensures only { (s : StatedValue) → IsCommandLine line.now s
+        → (result ≡ Ok s) ⊎ (IsErrOf result ReadFail.NoMemory) }
+    ensures tells { (fail : Fail) → HasFail line.now fail
+        → (IsErrOf result fail) ⊎ (IsErrOf result ReadFail.NoMemory) }
+{
+    read_line(alloc, last, line)
 }
 
 // Reads a line. Most are plain, and need no reader of records, which is dear to make for each.
-fn read_line(alloc: Global, line: &[u8]) -> Result<Stated, ReadFail>
+fn read_line(alloc: Global, last: &mut LastMinute, line: &[u8]) -> Result<Stated, ReadFail>
     ensures some { IfOk result (IsCommandLine line.now) }
     ensures fail { IfErr result (λ fail. fail ≢ ReadFail.NoMemory → HasFail line.now fail) }
 {
     if is_plain(line) {
-        read_plain(line)
+        read_plain(last, line)
     } else {
-        read_only_record(alloc, line)
+        read_only_record(alloc, last, line)
     }
 }
 
 // Reads a line that is one record, whose fields stand between its commas.
-fn read_plain(line: &[u8]) -> Result<Stated, ReadFail>
+fn read_plain(last: &mut LastMinute, line: &[u8]) -> Result<Stated, ReadFail>
     requires { records_of line.now ≡ parts_by 44 line.now ∷ [] }
     ensures some { IfOk result (IsCommandLine line.now) }
     ensures fail { IfErr result (λ fail. fail ≢ ReadFail.NoMemory → HasFail line.now fail) }
 {
     let mut fields = Fields::new();
     fill_with_line(&mut fields, line);
-    match read_record(&mut LastMinute::new(), fields.as_slice()) {
+    match read_record(last, fields.as_slice()) {
         Ok(stated) => Ok(stated),
         Err(field) => Err(ReadFail::Malformed(field)),
     }
 }
 
 // Reads the line's first record, and sees that it has no second one.
-fn read_only_record(alloc: Global, line: &[u8]) -> Result<Stated, ReadFail>
+fn read_only_record(alloc: Global, last: &mut LastMinute, line: &[u8]) -> Result<Stated, ReadFail>
     ensures some { IfOk result (IsCommandLine line.now) }
     ensures fail { IfErr result (λ fail. fail ≢ ReadFail.NoMemory → HasFail line.now fail) }
 {
@@ -64,7 +82,7 @@ fn read_only_record(alloc: Global, line: &[u8]) -> Result<Stated, ReadFail>
     if !rows.next(&mut row)? {
         return Err(ReadFail::Malformed(0));
     }
-    let read = read_row(&mut LastMinute::new(), &row);
+    let read = read_row(last, &row);
     if rows.next(&mut row)? {
         return Err(ReadFail::Malformed(0));
     }

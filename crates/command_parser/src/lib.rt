@@ -27,7 +27,7 @@ mod stated_record;
 mod table_of_records;
 mod word;
 
-pub use command_line::read_command;
+pub use command_line::{read_command, read_next_command};
 pub use command_record::{a_record_states_one_command, read_record, stated_by};
 pub use command_records::CommandRecords;
 pub use day_fault::DayFault;

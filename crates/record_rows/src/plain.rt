@@ -5,7 +5,7 @@ ghost use Rattle.desk_base.specs.Parts.{parts_by};
 ghost use Rattle.record_rows.specs.Plain.{is_plain, is_plain_byte, plain_records, records_with};
 ghost use Rattle.record_rows.specs.Rows.{records_of};
 
-use memchr::{memchr, memchr2};
+use memchr::{memchr, memchr2, memchr3};
 
 /// Whether a text isn't empty, doesn't begin with the byte EF, as a byte order mark does, and has no quote and no end of a line. Then
 /// it is one record, whose fields stand between its commas.
@@ -23,8 +23,7 @@ pub fn is_plain(text: &[u8]) -> bool
 fn has_plain_bytes(text: &[u8]) -> bool
     ensures { result ≡ list_all is_plain_byte text.now }
 {
-    text.iter()
-        .all(|byte| *byte != b'"' && *byte != b'\n' && *byte != b'\r')
+    memchr3(b'"', b'\n', b'\r', text).is_none()
 }
 
 /// Whether a text doesn't begin with the byte EF, as a byte order mark does, and has no quote and no carriage return. Then its lines

@@ -11,7 +11,7 @@ use crate::put::put_on;
 use crate::texts::{NO_MEMORY, SPENT, TOO_LONG, TOO_MANY, write_malformed};
 use crate::{LINES_PER_CALLER, Why};
 use call_history::Book;
-use caller_lines::{CallerLine, Said, hear};
+use caller_lines::{CallerLine, Said, hear_next};
 use desk_model::{DeskCore, Stated};
 use desk_shared::{Called, Desk, SeatSpent};
 use std::alloc::Global;
@@ -40,7 +40,7 @@ pub(crate) fn answer<C: DeskCore, R: Wait>(
     ensures no_fault { result.ends ≢ Some Why.LineFault → faults line.new ≡ faults line.old }
     ensures settled { result.ends ≢ None → result.ends ≢ Some Why.LineFault → settled line.new }
 {
-    match hear(alloc, line) {
+    match hear_next(alloc, entry_lines.last_stated(), line) {
         Said::End => Answered {
             seat,
             ends: Some(Why::End),

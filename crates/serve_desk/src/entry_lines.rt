@@ -24,6 +24,11 @@ impl EntryLines {
         }
     }
 
+    /// The minute that was stated last.
+    pub(crate) fn last_stated(&mut self) -> &mut LastMinute {
+        &mut self.stated
+    }
+
     /// The entry's line of the journal, with its line feed.
     pub(crate) fn write(&mut self, entry: &Entry) -> &[u8]
         ensures { result.now ≡ entry_line entry.now }

@@ -18,7 +18,7 @@ use crate::watch_crew::crew;
 use crate::{LINES_PER_CALLER, Why};
 use board_window::{Showing, View};
 use call_history::Book;
-use caller_lines::{CallerLine, Request, Said, hear_request};
+use caller_lines::{CallerLine, Request, Said, hear_next_request};
 use desk_base::Code;
 use desk_model::{DeskCore, Entry, Stated};
 use desk_shared::{CalledShown, SeatSpent, ShownBook, ShownDesk, a_desk_has_one_wall};
@@ -50,7 +50,7 @@ pub(crate) fn answer_watched<C: DeskCore, R: Wait>(
     ensures no_fault { result.ends ≢ Some Why.LineFault → faults line.new ≡ faults line.old }
     ensures settled { result.ends ≢ None → result.ends ≢ Some Why.LineFault → settled line.new }
 {
-    match hear_request(alloc, line) {
+    match hear_next_request(alloc, entry_lines.last_stated(), line) {
         Request::Look { board, position } => AnsweredWatched {
             seat,
             ends: look(view, heard, board, position, line),
