@@ -1,4 +1,5 @@
 ghost use Rattle.std.specs.Prelude.{◌≡◌, ◌↔◌, ℕ, ◌+◌, ◌<◌, ◌≤◌, ◌^◌, List, length, map, Some, IfOk, IsErr, vec_len, vec_capacity};
+ghost use Rattle.std.specs.Box.{box_value};
 ghost use Rattle.std.specs.List.{All, slice_get};
 ghost use Rattle.desk_model.specs.statements.Statement.{StatedValue};
 ghost use Rattle.desk_model.specs.histories.History.{History, history_of, opened, with_entry};
@@ -13,13 +14,14 @@ use desk_model::{
 };
 use std::alloc::Global;
 
-/// A desk, and all entries that it has answered.
+/// A desk, and all entries that it has answered. The desk stands in memory of its own, so that a book is handed from caller to caller
+/// without it.
 pub struct Book<C: DeskCore> {
-    core: C,
+    core: Box<C>,
     entries: Vec<Entry>,
-    ghost stands: { ∥ C.stands core (history_of (C.opening core) entries.items) ∥₁ },
-    ghost room: { vec_len entries + C.room core ≤ vec_capacity entries },
-    ghost few: { vec_len entries + C.room core < 2 ^ 32 },
+    ghost stands: { ∥ C.stands (box_value core) (history_of (C.opening (box_value core)) entries.items) ∥₁ },
+    ghost room: { vec_len entries + C.room (box_value core) ≤ vec_capacity entries },
+    ghost few: { vec_len entries + C.room (box_value core) < 2 ^ 32 },
 }
 
 impl<C: DeskCore> Drop for Book<C> {
@@ -33,7 +35,7 @@ impl<C: DeskCore> Drop for Book<C> {
 
 impl<C: DeskCore> Book<C> {
     /// The book of a desk that has answered nothing yet, with memory for an entry for each step that is left to it, fewer than
-    /// 2^32; `NoMemory` where there is none for them.
+    /// 2^32, and for the desk; `NoMemory` where there is none for them.
     pub fn new(alloc: Global, core: C) -> Result<Book<C>, NoMemory>
         requires new { C.stands core (opened (C.opening core)) }
         requires few { C.room core < 2 ^ 32 }
@@ -41,6 +43,9 @@ impl<C: DeskCore> Book<C> {
         ensures room { IfOk result (λ book. ⟦<Book<C> as Booked>⟧.room book ≡ C.room core) }
     {
         let entries = Vec::with_capacity(alloc, core.left() as usize)?;
+        let Ok(core) = Box::new(alloc, core) else {
+            return Err(NoMemory);
+        };
         Ok(Book { core, entries })
     }
 
@@ -140,9 +145,9 @@ impl<C: DeskCore> Book<C> {
 impl<C: DeskCore> Booked for Book<C> {
     ghost use Rattle.std.proofs.Common.{rules, arith};
 
-    ghost history = { λ book. history_of (C.opening book.core) book.entries.items };
+    ghost history = { λ book. history_of (C.opening (box_value book.core)) book.entries.items };
 
-    ghost room = { λ book. length book.entries.items + C.room book.core };
+    ghost room = { λ book. length book.entries.items + C.room (box_value book.core) };
 
     ghost mark = { λ _. no_wall };
 

@@ -1,4 +1,5 @@
 use Rattle.std.proofs.Common.{◌∙◌, [], ◌∷◌, ap, arith, length, length-append}
+use Rattle.std.specs.Box.{box_value}
 use Rattle.desk_model.specs.histories.History.{history_of}
 use Rattle.call_history.proofs.BookLemmas.{goes-on}
 use Rattle.call_history.proofs.book.Book.step_each.Goals as goal
@@ -13,6 +14,6 @@ loop-index-preserved g c =
       room = c.step.ensures.room ∙ so.room;
       many = omega (arith, so.many, ap (λ h. length h.entries) answered.kept, length-append book.entries.items (c.in-Ok._entry ∷ []));
       history = λ commands long told.
-          goes-on c.a_history_goes_on_with_commands.ensures.next (history_of (g.C.DeskCore.opening first.core) first.entries.items) (history_of (g.C.DeskCore.opening book.core) book.entries.items) _ commands
+          goes-on c.a_history_goes_on_with_commands.ensures.next (history_of (g.C.DeskCore.opening (box_value first.core)) first.entries.items) (history_of (g.C.DeskCore.opening (box_value book.core)) book.entries.items) _ commands
           c.loop-index.index _ _ c.in-Ok._entry (told c.loop-index.index c.command_at-caller.result c.loop-index-test.true c.command_at-caller.ensures) (so.history commands long told) answered.answer answered.kept;
     }
