@@ -29,9 +29,9 @@ pub entry_line-pieces : (e : EntryValue) → entry_line e
 unfolding entry_line
 entry_line-pieces e = simp append_assoc
 
--- the same behind a text, where what is behind the statement was written on its own
+-- the same, added to a text piece by piece
 pub entry_line-added : (text : List ℕ) (e : EntryValue)
-    → (((text ++ decimal e.caller) ++ 124 ∷ []) ++ join_with_byte 44 (stated_fields e.stated)) ++ (([] ++ 124 ∷ []) ++ outcome_line e.moment e.reply) ≡ text ++ entry_line e
+    → (((((text ++ decimal e.caller) ++ 124 ∷ []) ++ join_with_byte 44 (stated_fields e.stated)) ++ 124 ∷ []) ++ minute_text e.moment ++ 124 ∷ []) ++ (reply_text e.reply ++ 10 ∷ []) ≡ text ++ entry_line e
 unfolding entry_line
 entry_line-added text e = simp append_assoc
 

@@ -1,14 +1,17 @@
 //! Entries as lines of the journal.
 ghost use Rattle.std.specs.Prelude.{◌≡◌, ◌∷◌, ◌++◌, [], IfOk, decimal};
 ghost use Rattle.std.specs.List.{join_with_byte};
+ghost use Rattle.desk_base.specs.Minute.{minute_text};
 ghost use Rattle.desk_model.specs.texts.Journal.{entry_line};
+ghost use Rattle.desk_model.specs.texts.ReplyTexts.{reply_text};
 ghost use Rattle.desk_model.specs.texts.StatedTexts.{stated_fields};
 
 use crate::line_text::{LineText, put_byte, put_number};
 use crate::outcome_line::put_outcome;
+use crate::reply_line::put_reply;
 use crate::stated_line::put_stated;
-use desk_base::NoMemory;
-use desk_model::Entry;
+use desk_base::{Minute, NoMemory};
+use desk_model::{Entry, Reply};
 use itoa::Buffer;
 use record_rows::LastMinute;
 
@@ -54,13 +57,10 @@ pub fn add_spelled_entry(
     ensures { IfOk result (λ _. stated.now ≡ join_with_byte 44 (stated_fields entry.now.stated)
         → text.new.items ≡ text.old.items ++ entry_line entry.now) }
 {
-    line.clear();
-    put_byte(line, b'|');
-    put_outcome(line, moment, entry.moment(), &entry.reply());
     add_caller(text, entry.caller())?;
     text.extend_from_slice(stated)?;
-    text.extend_from_slice(line.as_slice())?;
-    Ok(())
+    add_moment(text, moment, entry.moment())?;
+    add_reply(text, line, &entry.reply())
 }
 
 // Adds the number of a caller, and the bar behind it. Caller 0 states most.
@@ -72,6 +72,33 @@ fn add_caller(text: &mut Vec<u8>, caller: u8) -> Result<(), NoMemory>
     } else {
         text.extend_from_slice(Buffer::new().format(caller).as_bytes())?;
         text.push(b'|')?;
+    }
+    Ok(())
+}
+
+// Adds a moment between its bars.
+fn add_moment(text: &mut Vec<u8>, last: &mut LastMinute, moment: Minute) -> Result<(), NoMemory>
+    ensures { IfOk result (λ _. text.new.items
+        ≡ text.old.items ++ 124 ∷ [] ++ minute_text moment ++ 124 ∷ []) }
+{
+    text.push(b'|')?;
+    text.extend_from_slice(&last.write(moment))?;
+    text.push(b'|')?;
+    Ok(())
+}
+
+// Adds a reply, and the line feed. Most are just that it was done.
+fn add_reply(text: &mut Vec<u8>, line: &mut LineText, reply: &Reply) -> Result<(), NoMemory>
+    ensures { IfOk result (λ _. text.new.items
+        ≡ text.old.items ++ (reply_text reply.now ++ 10 ∷ [])) }
+{
+    if let Reply::Done = reply {
+        text.extend_from_slice(b"done\n")?;
+    } else {
+        line.clear();
+        put_reply(line, reply);
+        put_byte(line, b'\n');
+        text.extend_from_slice(line.as_slice())?;
     }
     Ok(())
 }
