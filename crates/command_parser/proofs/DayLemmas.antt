@@ -1,5 +1,5 @@
 -- The commands of a day file.
-use Rattle.std.proofs.Common.{◌≡◌, ◌∙◌, ℕ, ◌+◌, ◌<◌, ◌≤◌, List, [], ◌∷◌, ◌++◌, length, map, get_or, drop, refl, ap, sym, append_assoc, append-nil, length-append, arith, inl, inr}
+use Rattle.std.proofs.Common.{◌≡◌, ◌∙◌, ℕ, ◌<◌, List, [], ◌∷◌, length, map, get_or, drop, refl, ap, sym, length-append, arith, inl, inr}
 use Rattle.std.specs.Prelude.{IfOk, IfErr, Result, Ok, Err, ◌≢◌, ◌⊎◌}
 use Rattle.std.specs.Result.{IsOkUnless}
 use Rattle.command_parser.specs.declared.day_file.DayFile.{DayFile}

@@ -1,5 +1,5 @@
 -- Records of commands, read one after another.
-use Rattle.std.proofs.Common.{◌≡◌, ◌∙◌, ◌↔◌, ℕ, ◌+◌, ◌<◌, ◌≤◌, Bool, true, false, List, [], ◌∷◌, ◌++◌, length, map, refl, ap, sym, subst, append_assoc, append-nil, length-append, arith}
+use Rattle.std.proofs.Common.{◌≡◌, ◌∙◌, ◌↔◌, ℕ, ◌+◌, ◌<◌, Bool, true, false, List, [], ◌∷◌, ◌++◌, length, map, refl, ap, sym, subst, append_assoc, length-append, arith}
 use Rattle.std.specs.Prelude.{◌≢◌, Result, Ok, Err}
 use Rattle.std.specs.Result.{IsErrAnd}
 use Rattle.std.specs.Bool.{IsTrue, MatchBool}
@@ -7,7 +7,7 @@ use Rattle.std.proofs.lemmas.Bool.{false≢true}
 use Rattle.std.proofs.lemmas.List.{map-append}
 use Rattle.std.proofs.lemmas.List.Elements.{All-nil, All-cons, All-append}
 use Rattle.record_rows.specs.declared.rows.Rows.{Rows}
-use Rattle.record_rows.specs.Rows.{HasLeft, TookFirst, records_of}
+use Rattle.record_rows.specs.Rows.{HasLeft, TookFirst}
 use Rattle.desk_model.specs.statements.Statement.{StatedValue}
 use Rattle.desk_model.specs.statements.Fits.{IsStated}
 use Rattle.desk_model.specs.texts.StatedTexts.{stated_fields}
@@ -17,9 +17,8 @@ use Rattle.command_parser.specs.declared.limits.TheConstants.{COMMAND_LIMIT}
 use Rattle.command_parser.specs.declared.more_fault.MoreFault.{MoreFault}
 use Rattle.command_parser.specs.declared.more_fault.MoreFault.TheVariants as more
 use Rattle.command_parser.specs.declared.open_day.OpenDay.{OpenDay}
-use Rattle.command_parser.specs.CommandRecords.{HasRead, StateAll, HasWrongRecord, HasRecordFault, IsOpen}
+use Rattle.command_parser.specs.CommandRecords.{HasRead, StateAll, HasRecordFault, IsOpen}
 use Rattle.command_parser.specs.DayFile.{StateCommands, IsDayFile, HasFault, day_fault}
-use Rattle.command_parser.specs.RecordForms.{IsWrongAt}
 use Rattle.command_parser.specs.Spelled.{StatesCommand}
 use Rattle.command_parser.proofs.DayLemmas.{TellsFault, IsOpened-first}
 
@@ -56,37 +55,6 @@ HasRead-more first most all commands a b has fields rest s parts left states nex
   left = left;
   number = omega (arith, next, has.number, length-append has.read (fields ∷ []));
   room = omega (arith, one, has.room, length-append has.read (fields ∷ []));
-}
-
--- where none is left all were read
-pub HasRead-all : (first most : ℕ) (all : List (List (List ℕ))) (commands : List StatedValue) (a : CommandRecords) (has : HasRead first most all commands a) → has.rest ≡ []
-    → StateAll most all commands
-HasRead-all first most all commands a has none =
-    let whole : all ≡ has.read = has.parts ∙ ap (λ list. has.read ++ list) none ∙ append-nil has.read in
-    record { few = omega (arith, ap length whole, has.room); states = subst (λ l. StateCommands l commands) (sym whole) has.states }
-
--- where more are left than there may be, there are too many
-pub HasRead-many : (first most : ℕ) (all : List (List (List ℕ))) (commands : List StatedValue) (a : CommandRecords) (has : HasRead first most all commands a)
-    → a.left < length has.rest → most < length all
-HasRead-many first most all commands a has many = omega (arith, ap length has.parts, length-append has.read has.rest, has.room)
-
--- the next one states no command, and behind it are no more than there may be
-pub HasRead-wrong : (first most : ℕ) (all : List (List (List ℕ))) (commands : List StatedValue) (a : CommandRecords) (has : HasRead first most all commands a)
-    (fields : List (List ℕ)) (rest : List (List (List ℕ))) (field : ℕ) → has.rest ≡ fields ∷ rest → length rest + 1 ≤ a.left
-    → ((s : StatedValue) → ¬ StatesCommand fields s) → IsWrongAt fields field → HasWrongRecord first most all a.next_no field
-HasRead-wrong first most all commands a has fields rest field parts few none wrong = record {
-  few = omega (arith, ap length has.parts, length-append has.read has.rest, ap length parts, has.room);
-  wrong = record {
-    before = has.read;
-    bad = fields;
-    after = rest;
-    parts = has.parts ∙ ap (λ list. has.read ++ list) parts;
-    commands = commands;
-    states = has.states;
-    wrong = none;
-    record_is = has.number;
-    field_is = wrong;
-  };
 }
 
 -- ---- the records that are only counted

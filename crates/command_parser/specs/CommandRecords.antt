@@ -1,7 +1,6 @@
 -- Records of commands, read one after another.
 use Rattle.std.specs.Prelude.{◌≡◌, ℕ, ◌<◌, ◌≤◌, ◌+◌, IfSome, List, [], ◌∷◌, ◌++◌, length}
 use Rattle.record_rows.specs.Rows.{HasLeft, records_of}
-use Rattle.desk_model.specs.statements.Opening.{OpeningValue}
 use Rattle.desk_model.specs.statements.Statement.{StatedValue}
 use Rattle.command_parser.specs.declared.command_records.CommandRecords.{CommandRecords}
 use Rattle.command_parser.specs.declared.limits.TheConstants.{COMMAND_LIMIT}

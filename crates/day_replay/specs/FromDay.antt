@@ -1,5 +1,5 @@
 -- What is made of a day file.
-use Rattle.std.specs.Prelude.{ℕ, ◌<◌, ◌≤◌, ◌++◌, ◌∷◌, [], IfSome, Option, List, length}
+use Rattle.std.specs.Prelude.{ℕ, ◌<◌, IfSome, Option, List, length}
 use Rattle.std.specs.List.{All}
 use Rattle.std.specs.Borrow.{Bor}
 use Rattle.desk_model.specs.statements.Entry.{EntryValue}

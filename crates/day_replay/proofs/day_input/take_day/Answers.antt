@@ -1,5 +1,5 @@
 use Rattle.std.proofs.lemmas.Result.{IfOk-weaker}
-use Rattle.std.proofs.Common.{subst, sym, arith}
+use Rattle.std.proofs.Common.{arith}
 use Rattle.day_replay.proofs.ReplayLemmas.{WasMade-day}
 use Rattle.day_replay.proofs.day_input.take_day.Goals as goal
 

@@ -1,10 +1,9 @@
-use Rattle.std.proofs.Common.{◌≡◌, arith, rules, subst}
+use Rattle.std.proofs.Common.{◌≡◌, arith, rules}
 use Rattle.day_replay.specs.Ends.{Tells, WritesOrFails}
 use Rattle.day_replay.specs.declared.day_input.TheConstants.{DAY_BYTES}
 use Rattle.command_parser.specs.declared.day_fault.DayFault.{DayFault}
 use Rattle.command_parser.specs.declared.day_fault.DayFault.TheVariants as fault
-use Rattle.command_parser.specs.DayFile.{IsDayFile, HasFault}
-use Rattle.day_replay.proofs.InputLemmas.{WasRead-TookAll}
+use Rattle.command_parser.specs.DayFile.{HasFault}
 use Rattle.day_replay.proofs.ReplayLemmas.{WasMade-TookAll, FindsWrong-TookAll, one-cause, cause-day, day-cause, unreadable-cause}
 use Rattle.day_replay.proofs.day_input.take_made.Goals as goal
 

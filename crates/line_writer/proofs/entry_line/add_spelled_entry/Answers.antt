@@ -1,4 +1,4 @@
-use Rattle.std.proofs.Common.{ap, ◌∙◌}
+use Rattle.std.proofs.Common.{◌∙◌}
 use Rattle.std.proofs.lemmas.Result.{IfOk-weaker}
 use Rattle.line_writer.proofs.FieldLemmas.{entry_line-added}
 use Rattle.line_writer.proofs.entry_line.add_spelled_entry.Goals as goal

@@ -1,7 +1,7 @@
-use Rattle.std.proofs.Common.{refl, ap, length, subst, arith}
+use Rattle.std.proofs.Common.{refl, subst, arith}
 use Rattle.std.proofs.lemmas.Option.{IfSome_then}
 use Rattle.command_parser.specs.Spelled.{StatesCommand}
-use Rattle.command_parser.proofs.RecordsLemmas.{HasRead-more, HasRead-all, HasRead-many, HasRead-wrong}
+use Rattle.command_parser.proofs.RecordsLemmas.{HasRead-more}
 use Rattle.command_parser.proofs.SpelledLemmas.{plain-spells}
 use Rattle.command_parser.proofs.command_records.CommandRecords.next.Goals as goal
 
