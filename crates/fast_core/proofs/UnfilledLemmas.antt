@@ -24,6 +24,7 @@ use Rattle.desk_model.specs.histories.Legal.{answer_to, IsNext}
 use Rattle.desk_model.specs.boards.Boards.{is_on, links, order, chain}
 use Rattle.desk_model.specs.offers.Bars.{is_free, first_free}
 use Rattle.desk_model.specs.laws.Refusal.{IsSameDesk}
+use Rattle.desk_model.specs.answers.ExplainAnswer.{position_in}
 use Rattle.desk_model.specs.answers.NextAnswer.{choice_answer}
 use Rattle.desk_model.proofs.JudgedLemmas.{IsChosen, chosen}
 use Rattle.desk_model.proofs.OfferedLemmas.{entry-called}
@@ -31,7 +32,7 @@ use Rattle.desk_model.proofs.OrderLemmas.{nat_eq-same}
 use Rattle.fast_core.specs.declared.unfilled.Found.{Found}
 use Rattle.fast_core.specs.declared.unfilled.Unfilled.{Unfilled}
 use Rattle.fast_core.specs.Touched.{IsSameBut}
-use Rattle.fast_core.specs.Unfilled.{IsUnfilledBut, IsFound, KeepsUnfilled, calls, if_unfilled, found_by}
+use Rattle.fast_core.specs.Unfilled.{IsOutOrBarred, IsUnfilledBut, IsFound, KeepsUnfilled, calls, if_unfilled, found_by}
 use Rattle.fast_core.proofs.SearchLemmas.{all-barred}
 use Rattle.fast_core.proofs.StayLemmas.{free-stays}
 
@@ -123,22 +124,36 @@ among Q (q ∷ ps) p there each = go (nat_eq p q) refl there (λ rest. among Q p
     go true is there later = let same : q ≡ p = grind (arith, nat_tests, is) in subst Q same (All-head Q q ps each)
     go false is there later = later there
 
+-- who has no position in a chain is on none of its boards
+linked-none : (b : List ℕ) (p : ℕ) (ps : List ℕ) (n : ℕ) → find (λ link. nat_eq link.person p) (links b n ps) ≡ None → list_any (nat_eq p) ps ≡ false
+linked-none b p [] n none = refl
+linked-none b p (q ∷ ps) n none = go (nat_eq q p) refl none (linked-none b p ps (n + 1))
+  where
+    go : (here : Bool) → nat_eq q p ≡ here → cond here (Some (record { board = b; position = n; person = q })) (find (λ link. nat_eq link.person p) (links b (n + 1) ps)) ≡ None
+        → (find (λ link. nat_eq link.person p) (links b (n + 1) ps) ≡ None → list_any (nat_eq p) ps ≡ false) → (nat_eq p q || list_any (nat_eq p) ps) ≡ false
+    go true is none rest = cc
+    go false is none rest = let other : nat_eq p q ≡ false = grind (arith, nat_tests, is) in ap (λ here. here || list_any (nat_eq p) ps) other ∙ rest none
+
+pub out-of-chain : (h : History) (m : ℕ) (job : JobValue) (p : ℕ) → Those h → position_in (chain h job.chain) p ≡ None → IsOutOrBarred h m job p
+out-of-chain h m job p those none b there on =
+    absurd (false≢true (sym (linked-none b p (order h b) 1 (board-none (λ link. nat_eq link.person p) h b job.chain none there)) ∙ those b p ∙ on))
+
 -- a vacancy is unfilled of whose chain all but some are barred, where these are, too
 pub still-unfilled : (h : History) (m v : ℕ) (job : JobValue) (persons : List ℕ) → Those h → vacancy_of h v ≡ Some job → IsUnfilledBut h v m persons
-    → All (λ p. is_free h m job p ≡ false) persons → first_free h m job ≡ None
+    → All (IsOutOrBarred h m job) persons → first_free h m job ≡ None
 still-unfilled h m v job persons those made but barred =
     chain-none (λ link. is_free h m job link.person) h job.chain (λ b there. links-none (is_free h m job) b (order h b) 1 (λ p stands. go b there p stands (list_any (nat_eq p) persons) refl))
   where
     go : (b : List ℕ) → list_any (bytes_eq b) job.chain ≡ true → (p : ℕ) → list_any (nat_eq p) (order h b) ≡ true → (touched : Bool) → list_any (nat_eq p) persons ≡ touched
         → is_free h m job p ≡ false
-    go b there p stands true is = among (λ q. is_free h m job q ≡ false) persons p is barred
-    go b there p stands false is = but.barred job made p b is there (sym (those b p) ∙ stands)
+    go b there p stands true is = among (IsOutOrBarred h m job) persons p is barred b there (sym (those b p) ∙ stands)
+    go b there p stands false is = but.barred job made p is b there (sym (those b p) ∙ stands)
 
 -- ---- what an entry tells
 
 chosen-unfilled : (h : History) (m v n : ℕ) → Those h → IsChosen h m v (reply.Unfilled n) → IsUnfilledBut h v m []
 chosen-unfilled h m v n those is = record {
-  barred = λ job made p b other there on.
+  barred = λ job made p other b there on.
       all-barred h m job b p (order h b) 1 (those b p ∙ on)
       (sym (board-none (λ link. is_free h m job link.person) h b job.chain (ap (first_free h m) (same_Some job is.job (sym made ∙ is.made)) ∙ go (first_free h m is.job) is.so) there));
 }
@@ -170,8 +185,8 @@ unfilled-stay h later opening same u was = record { each = All-weaker (IsFound h
     same-found f is = record {
       before = is.before;
       unfilled = record {
-        barred = λ job made p b other there on.
-            free-stays h later opening same f.moment job p ∙ is.unfilled.barred job (sym (same.vacancy f.vac) ∙ made) p b other there (sym (same.on p b) ∙ on);
+        barred = λ job made p other b there on.
+            free-stays h later opening same f.moment job p ∙ is.unfilled.barred job (sym (same.vacancy f.vac) ∙ made) p other b there (sym (same.on p b) ∙ on);
       };
     }
 
@@ -197,8 +212,8 @@ touched-more p h later touched found same was = All-weaker (IsFound h touched) (
     more f is = record {
       before = omega (arith, is.before, length-append touched (p ∷ []));
       unfilled = record {
-        barred = λ job made q b other there on.
+        barred = λ job made q other b there on.
             let apart = neither f q is.before other in
-            same.free f.moment job q apart.1 ∙ is.unfilled.barred job (sym (same.vacancy f.vac) ∙ made) q b apart.0 there (sym (same.on q b apart.1) ∙ on);
+            same.free f.moment job q apart.1 ∙ is.unfilled.barred job (sym (same.vacancy f.vac) ∙ made) q apart.0 b there (sym (same.on q b apart.1) ∙ on);
       };
     }

@@ -15,10 +15,13 @@ use Rattle.desk_model.specs.offers.Bars.{is_free}
 use Rattle.fast_core.specs.declared.unfilled.Found.{Found}
 use Rattle.fast_core.specs.declared.unfilled.Unfilled.{Unfilled}
 
--- whatever the vacancy was made as, all who are on a board of its chain are barred from it at the moment, but maybe some of these
+-- the person is on no board of the job's chain, or barred from it at the moment
+abbrev pub IsOutOrBarred : History → ℕ → JobValue → ℕ → Type 0
+IsOutOrBarred h m job p = (b : List ℕ) → list_any (bytes_eq b) job.chain ≡ true → is_on h p b ≡ true → is_free h m job p ≡ false
+
+-- whatever the vacancy was made as, that is so of all, but maybe of some of these
 pub record IsUnfilledBut (h : History) (v m : ℕ) (some : List ℕ) : Type 0 where
-  pub barred : (job : JobValue) → vacancy_of h v ≡ Some job → (p : ℕ) (b : List ℕ) → list_any (nat_eq p) some ≡ false → list_any (bytes_eq b) job.chain ≡ true → is_on h p b ≡ true
-      → is_free h m job p ≡ false
+  pub barred : (job : JobValue) → vacancy_of h v ≡ Some job → (p : ℕ) → list_any (nat_eq p) some ≡ false → IsOutOrBarred h m job p
 
 -- that is so of a vacancy and the moment at which it was found unfilled, but of those who were touched since
 pub record IsFound (h : History) (touched : List ℕ) (f : Found) : Type 0 where

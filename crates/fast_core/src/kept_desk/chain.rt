@@ -5,7 +5,8 @@ ghost use Rattle.desk_model.specs.histories.History.{History};
 ghost use Rattle.desk_model.specs.boards.Boards.{chain};
 ghost use Rattle.desk_model.specs.answers.ExplainAnswer.{position_in};
 ghost use Rattle.fast_core.specs.KeptDesk.{Tells};
-ghost use Rattle.desk_model.specs.offers.Bars.{first_free, is_free};
+ghost use Rattle.desk_model.specs.offers.Bars.{first_free};
+ghost use Rattle.fast_core.specs.Unfilled.{IsOutOrBarred};
 ghost use Rattle.desk_answers.specs.Asked.{IsAsked};
 ghost use Rattle.fast_core.specs.Candidates.{IsJobAsked};
 ghost use Rattle.fast_core.specs.Search.{search_steps};
@@ -76,13 +77,23 @@ impl KeptDesk {
         count
     }
 
-    // Whether each of the persons is barred from the job of a vacancy that was made, at this moment, which isn't past its report.
+    // Whether the person stands in the chain of the job of a vacancy that was made, and nothing bars them at this moment, which isn't
+    // past its report.
+    fn may_be_called(&self, moment: Minute, job: &Job, person: PersonNo) -> bool
+        ensures { (h : History) → Tells self.now h → IsAsked h moment job.now → result ≡ false
+            → IsOutOrBarred h moment job.now person }
+    {
+        order_is_by_rank();
+        self.position_in(&job.chain(), person).is_some() && self.bar(moment, job, person).is_none()
+    }
+
+    // Whether none of the persons may be called for it.
     fn are_barred(&self, moment: Minute, job: &Job, persons: &[PersonNo]) -> bool
         ensures { (h : History) → Tells self.now h → IsAsked h moment job.now → result ≡ true
-            → All (λ p. is_free h moment job.now p ≡ false) persons.now }
+            → All (IsOutOrBarred h moment job.now) persons.now }
     {
         for person in persons {
-            if self.bar(moment, job, *person).is_none() {
+            if self.may_be_called(moment, job, *person) {
                 return false;
             }
         }
