@@ -199,7 +199,7 @@ fn a_line_without_a_file_fails_at_each_call(rt: HostRuntime) {
     assert!(rt; !dumb.was_put(1, b""));
 }
 
-// The writer takes `done` and `end`, and nothing else.
+// Where no line is held, each text is written at once. The writer takes `done` and `end`, and nothing else.
 #[test]
 fn each_text_is_written_at_once(rt: HostRuntime) {
     let writer = Expecting {
@@ -212,6 +212,53 @@ fn each_text_is_written_at_once(rt: HostRuntime) {
     assert!(rt; !line.put(b"end\n"));
     assert_eq!(rt; line.put_count(), 0);
     assert!(rt; !line.was_put(1, b"done\n"));
+}
+
+// Of `one`, `two` and `end`, which are read together, the replies to the first two wait, and are written before more is read. The
+// writer takes just these.
+#[test]
+fn replies_to_lines_that_were_read_together_are_written_together(
+    rt: HostRuntime,
+) -> Result<(), Fail> {
+    let alloc = rt.alloc();
+    let source = MemorySource::new(b"one\ntwo\nend".to_vec(alloc)?, 100, Vec::new(alloc));
+    let writer = Expecting { left: b"1\n2\n" };
+    let mut line = FileLine::new(Some(Pieces { source }), Some(writer));
+    let mut into = LineBuf::new();
+    for (text, reply) in [(b"one", b"1\n"), (b"two", b"2\n")] {
+        assert_eq!(rt; line.next(&mut into), Heard::Line);
+        assert_eq!(rt; into.as_slice(), text.as_slice());
+        assert!(rt; line.put(reply));
+    }
+    assert_eq!(rt; line.next(&mut into), Heard::Line);
+    assert!(rt; !line.put(b"3\n"));
+    assert_eq!(rt; line.next(&mut into), Heard::End);
+    Ok(())
+}
+
+// What waits fails where it is written: when more is read, or at the end; and then it is gone.
+#[test]
+fn a_reply_that_waits_fails_where_it_is_written(rt: HostRuntime) -> Result<(), Fail> {
+    let alloc = rt.alloc();
+    for ends in [false, true] {
+        let source = MemorySource::new(b"one\ntwo".to_vec(alloc)?, 100, Vec::new(alloc));
+        let writer = Failing {
+            calls: 0,
+            failing: 1,
+        };
+        let mut line = FileLine::new(Some(Pieces { source }), Some(writer));
+        let mut into = LineBuf::new();
+        assert_eq!(rt; line.next(&mut into), Heard::Line);
+        assert!(rt; line.put(b"1\n"));
+        let fails = if ends {
+            !line.finish()
+        } else {
+            line.next(&mut into) == Heard::Failed
+        };
+        assert!(rt; fails, "at the end: {ends}");
+        assert!(rt; line.finish());
+    }
+    Ok(())
 }
 
 #[test]

@@ -33,9 +33,16 @@ PutsOn-put text then before now told = record { texts = text ∷ []; puts = it_i
 pub PutsOn-not_put : (text : List ℕ) (then : Option Why) (before now : Option (List LineCall)) → now ≡ before → PutsOn text then before now (Some why.LineFault)
 PutsOn-not_put text then before now same = record { texts = []; puts = it_is_not_put; told = same ∙ sym (with_all-none before) }
 
-pub PutsOn-not_written : (text : List ℕ) (then : Option Why) (before now : Option (List LineCall)) → then ≢ None → now ≡ with_last before (PutText text)
+pub PutsOn-goes_on : (text : List ℕ) (then : Option Why) (before now : Option (List LineCall)) → then ≡ None → now ≡ with_last before (PutText text) → PutsOn text then before now None
+PutsOn-goes_on text then before now on told = subst (PutsOn text then before now) on (PutsOn-put text then before now told)
+
+-- the session ends behind it, and all that was put is written, or isn't
+pub PutsOn-ends : (text : List ℕ) (then : Option Why) (before mid now : Option (List LineCall)) → mid ≡ with_last before (PutText text) → now ≡ mid → PutsOn text then before now then
+PutsOn-ends text then before mid now told same = PutsOn-put text then before now (same ∙ told)
+
+pub PutsOn-not_written : (text : List ℕ) (then : Option Why) (before mid now : Option (List LineCall)) → then ≢ None → mid ≡ with_last before (PutText text) → now ≡ mid
     → PutsOn text then before now (Some why.LineFault)
-PutsOn-not_written text then before now ends told = record { texts = text ∷ []; puts = it_is_not_written ends; told = told ∙ sym (with_all-one before (PutText text)) }
+PutsOn-not_written text then before mid now ends told same = record { texts = text ∷ []; puts = it_is_not_written ends; told = same ∙ told ∙ sym (with_all-one before (PutText text)) }
 
 -- what was said of a line
 pub line-said : (gave : Given) (s : Said) → ReadsAs gave s → s ≢ said.End → s ≢ said.LineFault → is_line gave ≡ true
