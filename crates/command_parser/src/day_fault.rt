@@ -4,7 +4,6 @@ ghost use Rattle.command_parser.specs.declared.day_fault.DayFault.TheVariants.{N
 
 use crate::more_fault::MoreFault;
 use desk_base::NoMemory as WantOfMemory;
-use std::alloc::AllocError;
 use thiserror::Error;
 
 /// Why bytes are no day file that can be replayed.
@@ -33,14 +32,6 @@ impl From<WantOfMemory> for DayFault {
     ghost from_gives = { λ _ e. e ≡ NoMemory };
 
     fn from(_fault: WantOfMemory) -> Self {
-        DayFault::NoMemory
-    }
-}
-
-impl From<AllocError> for DayFault {
-    ghost from_gives = { λ _ e. e ≡ NoMemory };
-
-    fn from(_fault: AllocError) -> Self {
         DayFault::NoMemory
     }
 }
