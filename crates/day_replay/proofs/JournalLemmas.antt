@@ -1,8 +1,10 @@
 -- The journal of a day grows by the lines of the entries, one after another.
-use Rattle.std.proofs.Common.{◌≡◌, ℕ, ◌+◌, ◌<◌, Option, None, Some, List, [], ◌∷◌, ◌++◌, length, get_or, map, take, drop, take-append-drop, sym, ap, subst, ◌∙◌, arith, append-nil, length-append, append_assoc}
+use Rattle.std.proofs.Common.{◌≡◌, ℕ, ◌+◌, ◌<◌, ◌≤◌, ◌-◌, Bor, Option, None, Some, List, [], ◌∷◌, ◌++◌, length, get_or, map, take, drop, take-append-drop, refl, sym, ap, subst, ◌∙◌, arith, append-nil, length-append, append_assoc, codes, decimal}
 use Rattle.std.specs.Io.KnownBytes.{Appends, Keeps}
 use Rattle.std.proofs.KnownBytes.{Appends-trans, Appends-nil}
-use Rattle.std.proofs.lemmas.List.{take-append-le, take_more, flat_map_more}
+use Rattle.std.proofs.lemmas.List.{take-append-le, drop-append-le, drop_more, drop_all, take_all, take_more, length-drop, nil_from_length, flat_map_more}
+use Rattle.std.specs.List.{join_with_byte}
+use Rattle.std.proofs.lemmas.Fmt.{decimal_digit}
 use Rattle.std.proofs.lemmas.Grind.{flat_map-append}
 use Rattle.std.proofs.Math.Seq.{take-append-add}
 use Rattle.desk_io.specs.Giving.{AddsFront}
@@ -13,14 +15,19 @@ use Rattle.desk_model.specs.statements.Statement.{StatedValue}
 use Rattle.desk_model.specs.histories.History.{History, history_of, with_entry}
 use Rattle.desk_model.specs.histories.Legal.{next, history_from}
 use Rattle.desk_model.specs.texts.Journal.{opening_line, entry_line, entry_lines, journal}
+use Rattle.day_replay.specs.declared.held_line.HeldLine.{HeldLine}
 use Rattle.day_replay.specs.Gathered.{Gathers}
+use Rattle.desk_model.specs.texts.StatedTexts.{stated_fields}
+use Rattle.line_writer.specs.Line.{outcome_line}
+use Rattle.day_replay.specs.FromDay.{IsTextOf}
+use Rattle.day_replay.specs.Held.{AddsLine, held_bytes, held_line, held_lines}
 use Rattle.day_replay.specs.Replay.{by_the_day_file, goes_on}
 use Rattle.day_replay.proofs.HistoryLemmas.{goes_on-behind}
 
 -- ---- text that is gathered
 
 -- after all of one text, a front of the next is a front of both
-AddsFront-after : (a b c : Option (List ℕ)) (text more : List ℕ) → Appends a b text → AddsFront b c more → AddsFront a c (text ++ more)
+pub AddsFront-after : (a b c : Option (List ℕ)) (text more : List ℕ) → Appends a b text → AddsFront b c more → AddsFront a c (text ++ more)
 AddsFront-after a b c text more before front = record {
   count = length text + front.count;
   within = omega (arith, front.within, length-append text more);
@@ -57,6 +64,14 @@ AddsFront-gathered a b c text waiting before front =
 pub AddsFront-more : (a b c : Option (List ℕ)) (text waiting more : List ℕ) → Gathers a b text waiting → AddsFront b c (waiting ++ more) → AddsFront a c (text ++ more)
 AddsFront-more a b c text waiting more before front =
     subst (AddsFront a c) (sym (ap (λ t. t ++ more) before.parts ∙ append_assoc before.put waiting more)) (AddsFront-after a b c before.put (waiting ++ more) before.added front)
+
+-- where what waits was put, and a text behind it, nothing waits
+pub Gathers-put : (a b c : Option (List ℕ)) (waiting text none : List ℕ) → none ≡ [] → Appends a b waiting → Appends b c text → Gathers a c (waiting ++ text) none
+Gathers-put a b c waiting text none empty before after = record {
+  put = waiting ++ text;
+  added = Appends-trans a b c waiting text before after;
+  parts = subst (λ n. waiting ++ text ≡ (waiting ++ text) ++ n) (sym empty) (sym (append-nil (waiting ++ text)));
+}
 
 -- ---- lines of entries
 
@@ -144,3 +159,158 @@ AddsFront-journal a b h commands index front =
     let first = goes_on h (take index commands) in
     let more = journal-grows first (map by_the_day_file (drop index commands)) in
     subst (AddsFront a b) (sym more.1 ∙ ap journal (goes_on-behind h commands index)) (AddsFront-longer a b (journal first) more.0 front)
+
+-- ---- lines that are held
+
+-- a line more, and its text behind the others
+pub held_lines-more : (lines : List HeldLine) (texts : List ℕ) (line : HeldLine) (text : List ℕ) → held_bytes lines ≡ length texts → line.bytes ≡ length text
+    → held_lines (lines ++ line ∷ []) (texts ++ text) ≡ held_lines lines texts ++ held_line line.stated text
+held_lines-more [] texts line text whole bytes =
+    let none : texts ≡ [] = nil_from_length texts (omega (arith, whole)) in
+    let all : take line.bytes text ≡ text = take_all line.bytes text (omega (arith, bytes)) in
+    rw none (rw all (append-nil (held_line line.stated text)))
+held_lines-more (first ∷ rest) texts line text whole bytes =
+    let within : first.bytes ≤ length texts = omega (arith, whole) in
+    let behind : held_bytes rest ≡ length (drop first.bytes texts) = omega (arith, whole, length-drop first.bytes texts) in
+    rw (take-append-le first.bytes texts text within, drop-append-le first.bytes texts text within, held_lines-more rest (drop first.bytes texts) line text behind bytes)
+    (sym (append_assoc (held_line first.stated (take first.bytes texts)) (held_lines rest (drop first.bytes texts)) (held_line line.stated text)))
+
+pub held_bytes-more : (lines : List HeldLine) (line : HeldLine) → held_bytes (lines ++ line ∷ []) ≡ held_bytes lines + line.bytes
+held_bytes-more [] line = omega arith
+held_bytes-more (first ∷ rest) line = omega (arith, held_bytes-more rest line)
+
+-- what was gathered where nothing waited
+pub Gathers-first : (a b : Option (List ℕ)) (none line text waiting : List ℕ) → none ≡ [] → line ≡ text → Gathers a b (none ++ line) waiting → Gathers a b text waiting
+Gathers-first a b none line text waiting empty is gathered = subst (λ t. Gathers a b t waiting) (ap (λ n. n ++ line) empty ∙ is) gathered
+
+-- the three parts of a line, gathered one behind another
+three-parts : (front first second third : List ℕ) → ((front ++ first) ++ second) ++ third ≡ front ++ (first ++ second ++ third)
+three-parts front first second third = simp append_assoc
+
+pub Gathers-three : (a b c d : Option (List ℕ)) (front first second third one two gathered : List ℕ)
+    → Gathers a b (front ++ first) one → Gathers b c (one ++ second) two → Gathers c d (two ++ third) gathered
+    → Gathers a d (front ++ (first ++ second ++ third)) gathered
+Gathers-three a b c d front first second third one two gathered x y z =
+    subst (λ t. Gathers a d t gathered) (three-parts front first second third)
+    (Gathers-more a c d ((front ++ first) ++ second) two third gathered (Gathers-more a b c (front ++ first) one second two x y) z)
+
+first-part : (front first second third : List ℕ) → (front ++ first) ++ (second ++ third) ≡ front ++ (first ++ second ++ third)
+first-part front first second third = simp append_assoc
+
+-- a front of them was put, where the first, the second or the third was not
+pub AddsFront-first : (a b : Option (List ℕ)) (front first second third : List ℕ) → AddsFront a b (front ++ first) → AddsFront a b (front ++ (first ++ second ++ third))
+AddsFront-first a b front first second third put =
+    subst (AddsFront a b) (first-part front first second third) (AddsFront-longer a b (front ++ first) (second ++ third) put)
+
+pub AddsFront-second : (a b c : Option (List ℕ)) (front first second third one : List ℕ) → Gathers a b (front ++ first) one → AddsFront b c (one ++ second)
+    → AddsFront a c (front ++ (first ++ second ++ third))
+AddsFront-second a b c front first second third one x put =
+    subst (AddsFront a c) (three-parts front first second third)
+    (AddsFront-longer a c ((front ++ first) ++ second) third (AddsFront-more a b c (front ++ first) one second x put))
+
+pub AddsFront-third : (a b c d : Option (List ℕ)) (front first second third one two : List ℕ)
+    → Gathers a b (front ++ first) one → Gathers b c (one ++ second) two → AddsFront c d (two ++ third)
+    → AddsFront a d (front ++ (first ++ second ++ third))
+AddsFront-third a b c d front first second third one two x y put =
+    subst (AddsFront a d) (three-parts front first second third)
+    (AddsFront-more a c d ((front ++ first) ++ second) two third (Gathers-more a b c (front ++ first) one second two x y) put)
+
+-- of the lines that are held these were gathered, and those from this one on are left, of which that is held as text
+pub record GathersHeld (a b : Option (List ℕ)) (all : List ℕ) (left : List HeldLine) (texts waiting : List ℕ) : Type 0 where
+  pub done : List ℕ
+  pub gathered : Gathers a b done waiting
+  pub parts : all ≡ done ++ held_lines left texts
+  pub bytes : held_bytes left ≡ length texts
+
+pub GathersHeld-none : (a : Option (List ℕ)) (waiting : List ℕ) (lines : List HeldLine) (texts : List ℕ) → held_bytes lines ≡ length texts
+    → GathersHeld a a (waiting ++ held_lines lines texts) lines texts waiting
+GathersHeld-none a waiting lines texts bytes = record {
+  done = waiting;
+  gathered = record { put = []; added = Appends-nil a; parts = refl };
+  parts = refl;
+  bytes = bytes;
+}
+
+-- the next line's text is within what is left
+pub GathersHeld-within : (a b : Option (List ℕ)) (all : List ℕ) (lines : List HeldLine) (index : ℕ) (line d : HeldLine) (texts waiting : List ℕ)
+    → index < length lines → line ≡ get_or lines index d → GathersHeld a b all (drop index lines) texts waiting → line.bytes ≤ length texts
+GathersHeld-within a b all lines index line d texts waiting within at so =
+    let next : drop index lines ≡ line ∷ drop (index + 1) lines = drop_more lines index d within ∙ ap (λ x. x ∷ drop (index + 1) lines) (sym at) in
+    omega (arith, sym so.bytes ∙ ap held_bytes next)
+
+-- what was gathered with the next line
+pub GathersHeld-line : (a b c : Option (List ℕ)) (all : List ℕ) (lines : List HeldLine) (index : ℕ) (line d : HeldLine) (texts text behind waiting gathered : List ℕ)
+    → index < length lines → line ≡ get_or lines index d → text ≡ take line.bytes texts → behind ≡ drop line.bytes texts
+    → GathersHeld a b all (drop index lines) texts waiting → Gathers b c (waiting ++ held_line line.stated text) gathered
+    → GathersHeld a c all (drop (index + 1) lines) behind gathered
+GathersHeld-line a b c all lines index line d texts text behind waiting gathered within at cut rest so put =
+    let next : drop index lines ≡ line ∷ drop (index + 1) lines = drop_more lines index d within ∙ ap (λ x. x ∷ drop (index + 1) lines) (sym at) in
+    record {
+      done = so.done ++ held_line line.stated text;
+      gathered = Gathers-more a b c so.done waiting (held_line line.stated text) gathered so.gathered put;
+      parts = so.parts ∙ ap (λ ls. so.done ++ held_lines ls texts) next
+          ∙ sym (append_assoc so.done (held_line line.stated (take line.bytes texts)) (held_lines (drop (index + 1) lines) (drop line.bytes texts)))
+          ∙ ap (λ t. (so.done ++ held_line line.stated t) ++ held_lines (drop (index + 1) lines) (drop line.bytes texts)) (sym cut)
+          ∙ ap (λ t. (so.done ++ held_line line.stated text) ++ held_lines (drop (index + 1) lines) t) (sym rest);
+      bytes = omega (arith, sym so.bytes ∙ ap held_bytes next, ap length rest, length-drop line.bytes texts);
+    }
+
+-- where a front of it was put, a front of all was
+pub GathersHeld-front : (a b c : Option (List ℕ)) (all : List ℕ) (lines : List HeldLine) (index : ℕ) (line d : HeldLine) (texts text waiting : List ℕ)
+    → index < length lines → line ≡ get_or lines index d → text ≡ take line.bytes texts
+    → GathersHeld a b all (drop index lines) texts waiting → AddsFront b c (waiting ++ held_line line.stated text) → AddsFront a c all
+GathersHeld-front a b c all lines index line d texts text waiting within at cut so put =
+    let next : drop index lines ≡ line ∷ drop (index + 1) lines = drop_more lines index d within ∙ ap (λ x. x ∷ drop (index + 1) lines) (sym at) in
+    let is : all ≡ (so.done ++ held_line line.stated text) ++ held_lines (drop (index + 1) lines) (drop line.bytes texts) =
+    so.parts ∙ ap (λ ls. so.done ++ held_lines ls texts) next
+    ∙ sym (append_assoc so.done (held_line line.stated (take line.bytes texts)) (held_lines (drop (index + 1) lines) (drop line.bytes texts)))
+    ∙ ap (λ t. (so.done ++ held_line line.stated t) ++ held_lines (drop (index + 1) lines) (drop line.bytes texts)) (sym cut) in
+    subst (AddsFront a c) (sym is)
+    (AddsFront-longer a c (so.done ++ held_line line.stated text) (held_lines (drop (index + 1) lines) (drop line.bytes texts))
+    (AddsFront-more a b c so.done waiting (held_line line.stated text) so.gathered put))
+
+-- where none is left, all was gathered
+pub GathersHeld-all : (a b : Option (List ℕ)) (all : List ℕ) (lines : List HeldLine) (index : ℕ) (texts waiting : List ℕ) → length lines ≤ index
+    → GathersHeld a b all (drop index lines) texts waiting → Gathers a b all waiting
+GathersHeld-all a b all lines index texts waiting past so =
+    let none : drop index lines ≡ [] = drop_all index lines past in
+    subst (λ t. Gathers a b t waiting) (sym (so.parts ∙ ap (λ ls. so.done ++ held_lines ls texts) none ∙ append-nil so.done)) so.gathered
+
+-- caller 0, the text of the statement, and what stands behind it, are the entry's line
+spelled-line : (text : List ℕ) (e : EntryValue) → e.caller ≡ 0 → text ≡ join_with_byte 44 (stated_fields e.stated)
+    → codes "0|" ++ text ++ (124 ∷ outcome_line e.moment e.reply) ≡ entry_line e
+unfolding entry_line
+spelled-line text e zero spelled =
+    let caller : decimal e.caller ≡ 48 ∷ [] = ap decimal zero ∙ decimal_digit 0 (omega arith) in
+    rw (spelled, caller) (simp append_assoc)
+
+line-outcome : (stated : Option (Bor (List ℕ))) (text : Bor (List ℕ)) (e : EntryValue) → stated ≡ Some text → e.caller ≡ 0 → IsTextOf stated e
+    → held_line stated (124 ∷ outcome_line e.moment e.reply) ≡ entry_line e
+line-outcome None text e is zero spelled = absurd (cc)
+line-outcome (Some own) text e is zero spelled = spelled-line own.now e zero spelled.text_is
+
+-- so what stands behind the statement may be held of it
+pub AddsLine-outcome : (stated : Option (Bor (List ℕ))) (text : Bor (List ℕ)) (before after : List ℕ) (e : EntryValue) → stated ≡ Some text
+    → after ≡ before ++ 124 ∷ outcome_line e.moment e.reply → AddsLine stated before after e
+AddsLine-outcome stated text before after e is added = record {
+  text = 124 ∷ outcome_line e.moment e.reply;
+  added = added;
+  line = λ zero spelled. line-outcome stated text e is zero spelled;
+}
+
+-- the journal that is held of one entry more
+pub HoldsJournal-line : (opening : List ℕ) (lines more : List HeldLine) (texts after : List ℕ) (line : HeldLine) (h : History) (e : EntryValue)
+    → more ≡ lines ++ line ∷ [] → AddsLine line.stated texts after e → line.bytes ≡ length after - length texts → e.caller ≡ 0 → IsTextOf line.stated e
+    → opening ++ held_lines lines texts ≡ journal h → held_bytes lines ≡ length texts
+    → (opening ++ held_lines more after ≡ journal (with_entry h e)) × (held_bytes more ≡ length after)
+HoldsJournal-line opening lines more texts after line h e next added bytes zero spelled text whole =
+    let size : line.bytes ≡ length added.text = omega (arith, bytes, ap length added.added, length-append texts added.text) in (
+      ap (λ ls. opening ++ held_lines ls after) next
+          ∙ ap (λ t. opening ++ held_lines (lines ++ line ∷ []) t) added.added
+          ∙ ap (λ t. opening ++ t) (held_lines-more lines texts line added.text whole size)
+          ∙ sym (append_assoc opening (held_lines lines texts) (held_line line.stated added.text))
+          ∙ ap (λ t. t ++ held_line line.stated added.text) text
+          ∙ ap (λ t. journal h ++ t) (added.line zero spelled)
+          ∙ sym (journal-next h e),
+      omega (arith, ap held_bytes next, held_bytes-more lines line, whole, size, ap length added.added, length-append texts added.text),
+    )

@@ -158,3 +158,8 @@ pub IsTextOf-next : (h : History) (s : StatedValue) (line : Option (Bor (List �
     → IsTextOf line e
 unfolding next
 IsTextOf-next h s line e answer spelled = subst (λ x. IfSome line (λ text. SpellsStated text.now x)) (sym (ap (λ x. x.stated) answer)) spelled
+
+-- and it is caller 0 that states it
+pub caller-next : (h : History) (s : StatedValue) (e : EntryValue) → e ≡ next h 0 s → e.caller ≡ 0
+unfolding next
+caller-next h s e answer = ap (λ x. x.caller) answer

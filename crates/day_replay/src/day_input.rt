@@ -60,12 +60,14 @@ pub fn take_day<S: Source, K: Sink>(
     // And each comes where its cause is, unless memory or a fault is in the way.
     ensures by_the_day { EndsByTheDay (taking_status result) (S.left source.old) }
 {
-    take_made(alloc, source, sink)
+    let mut bytes = Vec::new(alloc);
+    take_made(alloc, &mut bytes, source, sink)
 }
 
 /// As `take_day`, with what is made of the day file as it is read.
-pub(crate) fn take_made<D: FromDay, S: Source, K: Sink>(
+pub(crate) fn take_made<'a, D: FromDay<'a>, S: Source, K: Sink>(
     alloc: Global,
+    bytes: &'a mut Vec<u8>,
     source: &mut S,
     sink: &mut K,
 ) -> Result<D, Status>
@@ -98,11 +100,11 @@ pub(crate) fn take_made<D: FromDay, S: Source, K: Sink>(
     // And each comes where its cause is, unless memory or a fault is in the way.
     ensures by_the_day { EndsByTheDay (taking_status result) (S.left source.old) }
 {
-    let bytes = match take_all(alloc, source, DAY_BYTES) {
+    *bytes = match take_all(alloc, source, DAY_BYTES) {
         Ok(bytes) => bytes,
         Err(fault) => return Err(Status::from(fault)),
     };
-    match D::from_day(alloc, &bytes) {
+    match D::from_day(alloc, bytes) {
         Ok(made) => Ok(made),
         Err(DayFault::TooMany) => Err(Status::TooLong),
         Err(DayFault::NoOpening) => Err(Status::NoOpening),

@@ -7,7 +7,7 @@ use record_rows::LastMinute;
 use std::alloc::Global;
 
 /// What is kept of a day's entries, as they are answered one after another.
-pub trait DayKept: Drop {
+pub trait DayKept<'a>: Drop {
     ghost use Rattle.std.specs.Prelude.{◌<◌, ◌+◌, ◌^◌, length};
     ghost use Rattle.desk_model.specs.histories.History.{History, opened, with_entry};
     ghost use Rattle.day_replay.specs.FromDay.{IsTextOf};
@@ -19,14 +19,14 @@ pub trait DayKept: Drop {
     fn of_opening(alloc: Global, opening: &Opening, bytes: usize) -> Result<Self, NoMemory>
         ensures { IfOk result (λ kept. kept_of kept (opened opening.now)) };
 
-    /// Keeps the next entry. `line` is the text of its statement, where that is at hand, and `stated` the minute that was stated last.
+    /// Keeps the next entry, of caller 0. `line` is the text of its statement, where that is at hand, and `stated` the minute that was stated last.
     fn keep(
         &mut self,
         entry: &Entry,
-        line: Option<&[u8]>,
+        line: Option<&'a [u8]>,
         stated: &LastMinute,
     ) -> Result<(), NoMemory>
         ensures { IfOk result (λ _. (h : History) → kept_of self.old h
-            → length h.entries + 1 < 2 ^ 64 → IsTextOf line.entry entry.now
+            → length h.entries + 1 < 2 ^ 64 → entry.now.caller ≡ 0 → IsTextOf line.entry entry.now
             → kept_of self.new (with_entry h entry.now)) };
 }

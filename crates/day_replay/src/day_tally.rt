@@ -8,7 +8,7 @@ use line_writer::Tally;
 use record_rows::LastMinute;
 use std::alloc::Global;
 
-impl DayKept for Tally {
+impl<'a> DayKept<'a> for Tally {
     ghost kept_of = { Counts };
 
     fn of_opening(_alloc: Global, opening: &Opening, _bytes: usize) -> Result<Tally, NoMemory> {
@@ -18,7 +18,7 @@ impl DayKept for Tally {
     fn keep(
         &mut self,
         entry: &Entry,
-        _line: Option<&[u8]>,
+        _line: Option<&'a [u8]>,
         _stated: &LastMinute,
     ) -> Result<(), NoMemory> {
         self.count(entry);

@@ -1,46 +1,90 @@
 //! A journal, held until it is written.
-ghost use Rattle.std.specs.Prelude.{◌≡◌};
-ghost use Rattle.desk_model.specs.texts.Journal.{journal};
+ghost use Rattle.std.specs.Prelude.{◌≡◌, ◌≤◌, [], IfOk, length, vec_capacity};
+ghost use Rattle.std.specs.Bool.{OnTrue, OnFalse};
+ghost use Rattle.std.specs.Io.KnownBytes.{Appends};
+ghost use Rattle.desk_io.specs.Faults.{Rose};
+ghost use Rattle.desk_io.specs.Giving.{AddsFront};
+ghost use Rattle.day_replay.specs.Held.{AddsLine, HoldsJournal, held_bytes, held_text};
 
 use crate::day_kept::DayKept;
+use crate::gather;
+use crate::held_line::{HeldLine, gather_all_held};
 use command_parser::{RECORD_LIMIT, SHORTEST_RECORD};
 use desk_base::NoMemory;
+use desk_io::{Sink, put_all};
 use desk_model::{Entry, Opening};
-use line_writer::{LineText, add_spelled_entry, fill_with_entry, write_opening};
+use line_writer::{LineText, add_outcome, fill_with_entry, write_opening};
 use record_rows::LastMinute;
 use std::alloc::Global;
 
-// How many bytes the line of an entry of caller 0 has at most beside those of its record.
-const LINE_ROOM: usize = 70;
+// How many bytes stand behind the record on a line of the journal, at most.
+const OUTCOME_BYTES: usize = 67;
 
-/// The journal of a day, held until all of the day file was read.
+/// The journal of a day, held until all of the day file was read: of each line the record's own bytes, and what stands behind them as text.
 #[derive(Drop)]
-pub(crate) struct HeldJournal {
-    text: Vec<u8>,
+pub(crate) struct HeldJournal<'a> {
+    opening: LineText,
+    lines: Vec<HeldLine<'a>>,
+    texts: Vec<u8>,
     // The line at hand, and the minutes that the lines before it named.
     line: LineText,
     stated: LastMinute,
     moment: LastMinute,
 }
 
-impl HeldJournal {
-    /// Its text.
-    pub(crate) fn text(&self) -> &[u8]
-        ensures { result.now ≡ self.now.text.items }
+impl HeldJournal<'_> {
+    /// Writes it, as much of it at once as the buffer holds. It says whether the sink took all, and stops at the first fault.
+    pub(crate) fn write<K: Sink>(&self, buffer: &mut Vec<u8>, sink: &mut K) -> bool
+        requires empty { buffer.old.items ≡ [] }
+        requires room { 512 ≤ vec_capacity buffer.old }
+        requires held { held_bytes self.now.lines.items ≡ length self.now.texts.items }
+
+        ensures all { OnTrue result (Appends (K.held sink.old) (K.held sink.new) (held_text self.now)) }
+        ensures front { OnFalse result (AddsFront (K.held sink.old) (K.held sink.new) (held_text self.now)) }
+        ensures faults_grow { K.faults sink.old ≤ K.faults sink.new }
+        ensures cause { OnFalse result (Rose (K.faults sink.old) (K.faults sink.new)) }
+        ensures no_fault { OnTrue result (K.faults sink.new ≡ K.faults sink.old) }
     {
-        &self.text
+        if !gather(buffer, self.opening.as_slice(), sink) {
+            return false;
+        }
+        if !gather_all_held(buffer, &self.lines, &self.texts, sink) {
+            return false;
+        }
+        put_all(sink, buffer)
+    }
+
+    // Adds what is held as text of the line of an entry.
+    fn add_text(&mut self, stated: Option<&[u8]>, entry: &Entry) -> Result<(), NoMemory>
+        ensures added { IfOk result (λ _.
+            AddsLine stated.entry self.old.texts.items self.new.texts.items entry.now) }
+        ensures opening { self.new.opening ≡ self.old.opening }
+        ensures lines { self.new.lines ≡ self.old.lines }
+    {
+        match stated {
+            Some(_text) => add_outcome(&mut self.texts, &mut self.line, &mut self.moment, entry),
+            None => {
+                fill_with_entry(&mut self.line, &mut self.stated, &mut self.moment, entry);
+                self.texts.extend_from_slice(self.line.as_slice())?;
+                Ok(())
+            }
+        }
     }
 }
 
-impl DayKept for HeldJournal {
-    ghost kept_of = { λ held h. held.text.items ≡ journal h };
+impl<'a> DayKept<'a> for HeldJournal<'a> {
+    ghost kept_of = { HoldsJournal };
 
-    fn of_opening(alloc: Global, opening: &Opening, bytes: usize) -> Result<HeldJournal, NoMemory> {
+    fn of_opening(
+        alloc: Global,
+        opening: &Opening,
+        bytes: usize,
+    ) -> Result<HeldJournal<'a>, NoMemory> {
         let records = (bytes / SHORTEST_RECORD).min(RECORD_LIMIT);
-        let mut text = Vec::with_capacity(alloc, bytes.saturating_add(records * LINE_ROOM))?;
-        text.extend_from_slice(write_opening(opening).as_slice())?;
         Ok(HeldJournal {
-            text,
+            opening: write_opening(opening),
+            lines: Vec::with_capacity(alloc, records)?,
+            texts: Vec::with_capacity(alloc, records * OUTCOME_BYTES)?,
             line: LineText::new(),
             stated: LastMinute::new(),
             moment: LastMinute::new(),
@@ -50,23 +94,17 @@ impl DayKept for HeldJournal {
     fn keep(
         &mut self,
         entry: &Entry,
-        line: Option<&[u8]>,
+        line: Option<&'a [u8]>,
         stated: &LastMinute,
     ) -> Result<(), NoMemory> {
         self.moment.follow(stated, entry.moment());
-        match line {
-            Some(text) => add_spelled_entry(
-                &mut self.text,
-                &mut self.line,
-                &mut self.moment,
-                text,
-                entry,
-            ),
-            None => {
-                fill_with_entry(&mut self.line, &mut self.stated, &mut self.moment, entry);
-                self.text.extend_from_slice(self.line.as_slice())?;
-                Ok(())
-            }
-        }
+        let before = self.texts.len();
+        self.add_text(line, entry)?;
+        let bytes = self.texts.len() - before;
+        self.lines.push(HeldLine {
+            stated: line,
+            bytes,
+        })?;
+        Ok(())
     }
 }

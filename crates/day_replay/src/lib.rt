@@ -10,6 +10,7 @@ mod day_when;
 mod earliest_line;
 mod from_day;
 mod held_journal;
+mod held_line;
 mod journal;
 mod lines;
 mod replay;

@@ -36,6 +36,28 @@ pub fn gather<K: Sink>(buffer: &mut Vec<u8>, line: &[u8], sink: &mut K) -> bool
     true
 }
 
+/// Adds a text of any length to those that wait in the buffer. Where it doesn't fit, these are put into the sink first, and where it is
+/// longer than the buffer, the text as well. It says whether the sink took what was put, and stops at the first fault.
+pub(crate) fn gather_text<K: Sink>(buffer: &mut Vec<u8>, text: &[u8], sink: &mut K) -> bool
+    ensures all { OnTrue result (Gathers (K.held sink.old) (K.held sink.new)
+        (buffer.old.items ++ text.now) buffer.new.items) }
+    ensures front { OnFalse result (AddsFront (K.held sink.old) (K.held sink.new)
+        (buffer.old.items ++ text.now)) }
+
+    ensures faults_grow { K.faults sink.old ≤ K.faults sink.new }
+    ensures cause { OnFalse result (Rose (K.faults sink.old) (K.faults sink.new)) }
+    ensures no_fault { OnTrue result (K.faults sink.new ≡ K.faults sink.old) }
+{
+    if text.len() <= buffer.capacity() {
+        return gather(buffer, text, sink);
+    }
+    if !put_all(sink, buffer) {
+        return false;
+    }
+    buffer.clear();
+    put_all(sink, text)
+}
+
 /// Adds the lines of entries to those that wait in the buffer, which are put into the sink where one doesn't fit. It says whether
 /// the sink took what was put, and stops at the first fault.
 pub(crate) fn gather_lines<K: Sink>(buffer: &mut Vec<u8>, entries: &[Entry], sink: &mut K) -> bool

@@ -1,8 +1,9 @@
-ghost use Rattle.std.specs.Prelude.{◌≢◌};
+ghost use Rattle.std.specs.Prelude.{◌≡◌, ◌≢◌, length};
 ghost use Rattle.day_replay.specs.Ends.{EndsWriting};
 ghost use Rattle.desk_model.specs.texts.Journal.{journal};
 ghost use Rattle.line_writer.specs.Tally.{tally_text};
 ghost use Rattle.day_replay.specs.Forecast.{forecast_text, when_text};
+ghost use Rattle.day_replay.specs.Held.{held_bytes, held_text};
 ghost use Rattle.day_replay.specs.Replay.{EndsDay, Replays, day_history, text_of};
 
 use crate::day_forecast::{forecast_day, write_forecast};
@@ -52,9 +53,26 @@ fn replay_journal<S: Source, K: Sink>(alloc: Global, source: &mut S, sink: &mut 
 {
     // What the desk answers is a legal history.
     one_history_is_legal();
-    match take_made::<Replayed<HeldJournal>, S, K>(alloc, source, sink) {
-        Ok(day) => put_text(sink, day.kept.text()),
+    let mut bytes = Vec::new(alloc);
+    match take_made::<Replayed<HeldJournal>, S, K>(alloc, &mut bytes, source, sink) {
+        Ok(day) => print_journal(alloc, &day.kept, sink),
         Err(status) => status,
+    }
+}
+
+// Writes the journal that is held. All memory is taken before anything is written.
+fn print_journal<K: Sink>(alloc: Global, held: &HeldJournal, sink: &mut K) -> Status
+    requires { held_bytes held.now.lines.items ≡ length held.now.texts.items }
+    ensures { EndsWriting result (λ Writes. Writes (held_text held.now))
+        (K.held sink.old) (K.held sink.new) (K.faults sink.old) (K.faults sink.new) }
+{
+    let Ok(mut buffer) = Vec::with_capacity(alloc, PIECE_BYTES) else {
+        return Status::NoMemory;
+    };
+    if held.write(&mut buffer, sink) {
+        Status::Fine
+    } else {
+        Status::WriteFault
     }
 }
 
@@ -66,7 +84,8 @@ fn replay_tally<S: Source, K: Sink>(alloc: Global, source: &mut S, sink: &mut K)
         (K.held sink.old) (K.held sink.new) (K.faults sink.old) (K.faults sink.new) }
 {
     one_history_is_legal();
-    match take_made::<Replayed<Tally>, S, K>(alloc, source, sink) {
+    let mut bytes = Vec::new(alloc);
+    match take_made::<Replayed<Tally>, S, K>(alloc, &mut bytes, source, sink) {
         Ok(day) => put_text(sink, day.kept.write().as_slice()),
         Err(status) => status,
     }

@@ -24,10 +24,10 @@ pub(crate) struct Replayed<T> {
     pub(crate) kept: T,
 }
 
-impl<T: DayKept> FromDay for Replayed<T> {
+impl<'a, T: DayKept<'a>> FromDay<'a> for Replayed<T> {
     ghost made_of = { λ day opening commands. T.kept_of day.kept (day_history opening commands) };
 
-    fn from_day(alloc: Global, bytes: &[u8]) -> Result<Replayed<T>, DayFault> {
+    fn from_day(alloc: Global, bytes: &'a [u8]) -> Result<Replayed<T>, DayFault> {
         an_open_day_is_read_by_its_commands();
         let mut day = OpenDay::of(alloc, bytes)?;
         let mut core = FastCore::new(alloc, day.opening, u64::from(COMMAND_LIMIT))?;
@@ -38,9 +38,9 @@ impl<T: DayKept> FromDay for Replayed<T> {
 }
 
 // Steps a desk that was opened so and has answered nothing yet through the commands of the records as caller 0, and keeps its entries.
-fn replay_records<C: DeskCore, T: DayKept>(
+fn replay_records<'a, C: DeskCore, T: DayKept<'a>>(
     core: &mut C,
-    records: &mut CommandRecords,
+    records: &mut CommandRecords<'a>,
     kept: &mut T,
 ) -> Result<(), MoreFault>
     requires { records_left records.old ≤ C.room core.old }

@@ -29,11 +29,9 @@ pub entry_line-pieces : (e : EntryValue) → entry_line e
 unfolding entry_line
 entry_line-pieces e = simp append_assoc
 
--- the same, added to a text piece by piece
-pub entry_line-added : (text : List ℕ) (e : EntryValue)
-    → (((((text ++ decimal e.caller) ++ 124 ∷ []) ++ join_with_byte 44 (stated_fields e.stated)) ++ 124 ∷ []) ++ minute_text e.moment ++ 124 ∷ []) ++ (reply_text e.reply ++ 10 ∷ []) ≡ text ++ entry_line e
-unfolding entry_line
-entry_line-added text e = simp append_assoc
+-- what stands behind a statement, added to a text piece by piece
+pub outcome_line-added : (text : List ℕ) (moment : ℕ) (r : Reply) → (text ++ 124 ∷ [] ++ minute_text moment ++ 124 ∷ []) ++ (reply_text r ++ 10 ∷ []) ≡ text ++ 124 ∷ outcome_line moment r
+outcome_line-added text moment r = simp append_assoc
 
 pub outcome_line-pieces : (front : List ℕ) (moment : ℕ) (r : Reply) → front ++ outcome_line moment r ≡ (((front ++ minute_text moment) ++ 124 ∷ []) ++ reply_text r) ++ 10 ∷ []
 outcome_line-pieces front moment r = simp append_assoc

@@ -1,4 +1,4 @@
-use Rattle.std.proofs.Common.{◌∙◌, subst}
+use Rattle.std.proofs.Common.{subst}
 use Rattle.desk_model.specs.texts.Journal.{journal}
 use Rattle.day_replay.specs.Replay.{Replays}
 use Rattle.day_replay.proofs.HistoryLemmas.{IsReplay-day}
@@ -12,11 +12,14 @@ returns-in-Ok-clause-ends g c =
     let took = c.in-Ok.ensures in
     EndsDay-taken _ c.in-Ok.day _ _ (Replays _ _ journal) _ _ _ _ _ _ _ _ _ _ took.no_fault took.not_too_long took.silent took.silent_count took.by_the_day
     (λ Writes WritesAll as_well written.
-    Replays-made _ _ _ WritesAll _ took.made (IsReplay-day law.opening law.legal law.given _ _ took.made.valid took.made.stated) (as_well _ (subst Writes (c.text.ensures ∙ took.made.is) written)))
-    c.put_text.ensures
+    Replays-made _ _ _ WritesAll _ took.made (IsReplay-day law.opening law.legal law.given _ _ took.made.valid took.made.stated) (as_well _ (subst Writes took.made.is.text written)))
+    c.print_journal.ensures
 
-pub returns-in-Err-clause-ends : goal.returns-in-Err-clause-ends
-returns-in-Err-clause-ends g c =
+pub print_journal-requires : goal.print_journal-requires
+print_journal-requires g c = c.in-Ok.ensures.made.is.bytes
+
+pub returns-clause-ends : goal.returns-clause-ends
+returns-clause-ends g c =
     let failed = c.in-Err.ensures in
     EndsDay-untaken _ c.in-Err.status _ _ _ _ _ _ _ _ _ failed.only failed.read_fault failed.no_fault failed.too_long failed.not_too_long failed.no_opening failed.unreadable failed.silent failed.silent_count
     failed.source_faults_grow failed.sink_faults_grow failed.by_the_day

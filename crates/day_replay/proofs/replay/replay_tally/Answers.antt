@@ -15,8 +15,8 @@ returns-in-Ok-clause-ends g c =
     Replays-made _ _ _ WritesAll _ took.made (IsReplay-day law.opening law.legal law.given _ _ took.made.valid took.made.stated) (as_well _ (subst Writes (c.as_slice.ensures.value ∙ c.write.ensures _ took.made.is) written)))
     c.put_text.ensures
 
-pub returns-in-Err-clause-ends : goal.returns-in-Err-clause-ends
-returns-in-Err-clause-ends g c =
+pub returns-clause-ends : goal.returns-clause-ends
+returns-clause-ends g c =
     let failed = c.in-Err.ensures in
     EndsDay-untaken _ c.in-Err.status _ _ _ _ _ _ _ _ _ failed.only failed.read_fault failed.no_fault failed.too_long failed.not_too_long failed.no_opening failed.unreadable failed.silent failed.silent_count
     failed.source_faults_grow failed.sink_faults_grow failed.by_the_day

@@ -2,7 +2,7 @@ use Rattle.std.proofs.Common.{[], ◌∷◌, ◌++◌, sym, subst, arith}
 use Rattle.desk_model.specs.histories.History.{opened}
 use Rattle.command_parser.specs.declared.limits.TheConstants.{COMMAND_LIMIT}
 use Rattle.day_replay.proofs.HistoryLemmas.{goes_on-none, goes_on-last}
-use Rattle.day_replay.proofs.ReplayLemmas.{HasReplayed-few, IsTextOf-next}
+use Rattle.day_replay.proofs.ReplayLemmas.{HasReplayed-few, IsTextOf-next, caller-next}
 use Rattle.day_replay.proofs.replayed.replay_records.Goals as goal
 
 pub loop-read-init : goal.loop-read-init
@@ -32,7 +32,7 @@ loop-read-preserved g c =
             commands = so.commands ++ stated ∷ [];
             read = rw c.in-Ok-Some.field-0-is at (c.in-Ok-Some.ensures.reads 2 COMMAND_LIMIT rest so.commands so.read);
             stands = subst (g.C.DeskCore.stands c.step.new.self) next (c.step.ensures.stands _ so.stands);
-            kept = subst (g.T.DayKept.kept_of c.keep.new.self) next (c.in_ok-keep-in-Ok-Some.ensures _ so.kept (HasReplayed-few rest o so.commands _ so.read) text);
+            kept = subst (g.T.DayKept.kept_of c.keep.new.self) next (c.in_ok-keep-in-Ok-Some.ensures _ so.kept (HasReplayed-few rest o so.commands _ so.read) (caller-next _ stated c.step.result answer) text);
           };
     }
 

@@ -1,0 +1,77 @@
+//! Lines of a journal that are held until they are written.
+ghost use Rattle.std.specs.Prelude.{◌≡◌, ◌≤◌, ◌++◌, length};
+ghost use Rattle.std.specs.Bool.{OnTrue, OnFalse};
+ghost use Rattle.desk_io.specs.Faults.{Rose};
+ghost use Rattle.desk_io.specs.Giving.{AddsFront};
+ghost use Rattle.day_replay.specs.Gathered.{Gathers};
+ghost use Rattle.day_replay.specs.Held.{held_bytes, held_line, held_lines};
+
+use crate::lines::gather_text;
+use desk_io::Sink;
+
+/// A line that is held.
+#[derive(Clone, Copy)]
+pub(crate) struct HeldLine<'a> {
+    /// The bytes of its record, which are the text of its statement; `None` where the whole line is held as text.
+    pub(crate) stated: Option<&'a [u8]>,
+    /// How many bytes of it are held as text: what stands behind the record, or the whole line.
+    pub(crate) bytes: usize,
+}
+
+/// Adds a line, of which this is held as text, to those that wait in the buffer. It says whether the sink took what was put, and stops at
+/// the first fault.
+pub(crate) fn gather_held<K: Sink>(
+    buffer: &mut Vec<u8>,
+    stated: Option<&[u8]>,
+    text: &[u8],
+    sink: &mut K,
+) -> bool
+    ensures all { OnTrue result (Gathers (K.held sink.old) (K.held sink.new)
+        (buffer.old.items ++ held_line stated.entry text.now) buffer.new.items) }
+    ensures front { OnFalse result (AddsFront (K.held sink.old) (K.held sink.new)
+        (buffer.old.items ++ held_line stated.entry text.now)) }
+
+    ensures faults_grow { K.faults sink.old ≤ K.faults sink.new }
+    ensures cause { OnFalse result (Rose (K.faults sink.old) (K.faults sink.new)) }
+    ensures no_fault { OnTrue result (K.faults sink.new ≡ K.faults sink.old) }
+{
+    let Some(statement) = stated else {
+        return gather_text(buffer, text, sink);
+    };
+    if !gather_text(buffer, b"0|", sink) {
+        return false;
+    }
+    if !gather_text(buffer, statement, sink) {
+        return false;
+    }
+    gather_text(buffer, text, sink)
+}
+
+/// Adds lines, of which this is held as text, to those that wait in the buffer. It says whether the sink took what was put, and stops at
+/// the first fault.
+pub(crate) fn gather_all_held<K: Sink>(
+    buffer: &mut Vec<u8>,
+    lines: &[HeldLine],
+    texts: &[u8],
+    sink: &mut K,
+) -> bool
+    requires { held_bytes lines.now ≡ length texts.now }
+    ensures all { OnTrue result (Gathers (K.held sink.old) (K.held sink.new)
+        (buffer.old.items ++ held_lines lines.now texts.now) buffer.new.items) }
+    ensures front { OnFalse result (AddsFront (K.held sink.old) (K.held sink.new)
+        (buffer.old.items ++ held_lines lines.now texts.now)) }
+
+    ensures faults_grow { K.faults sink.old ≤ K.faults sink.new }
+    ensures cause { OnFalse result (Rose (K.faults sink.old) (K.faults sink.new)) }
+    ensures no_fault { OnTrue result (K.faults sink.new ≡ K.faults sink.old) }
+{
+    let mut left = texts;
+    for line in lines {
+        let (text, behind) = left.split_at(line.bytes);
+        if !gather_held(buffer, line.stated, text, sink) {
+            return false;
+        }
+        left = behind;
+    }
+    true
+}
