@@ -569,11 +569,12 @@ def long_cases():
     )
 
 
-# The sizes of the pieces in which a text is put. The journal of a replay is put as a whole. Of a forecast, behind the opening, 1,109 lines of 59 bytes, with
-# one of 14 bytes among them, fill the first buffer of 65,536 bytes, and the others fit the second. A journal that goes on is put first, and then the lines behind it.
+# The sizes of the pieces in which a text is put, through a buffer of 65,536 bytes. Of a replay the opening, 1,110 lines of 59 bytes and the first two bytes of the
+# next fill the first, since a record is not parted; of a forecast the opening and 1,109 lines of 59 bytes, with one of 14 bytes among them; the others fit the
+# second. A journal that goes on is put first, and then the lines behind it.
 PIECES = [
     ('the opening', ('replay',), OPENING, [35]),
-    ('the journal of 2,000 refused commands', ('replay',), LONG_DAY, [118_035]),
+    ('the journal of 2,000 refused commands', ('replay',), LONG_DAY, [65_527, 52_508]),
     ('the same with 1,000 of them supposed', ('forecast', '1000'), LONG_DAY, [65_480, 52_569]),
     ('a journal that goes on', ('continue',), ONE_COMMAND, [35, 58]),
 ]
