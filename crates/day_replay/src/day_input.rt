@@ -64,7 +64,7 @@ pub fn take_day<S: Source, K: Sink>(
     take_made(alloc, &mut bytes, source, sink)
 }
 
-/// As `take_day`, with what is made of the day file as it is read.
+/// As `take_day`, with what is made of the day file as it is read. What is made may refer to the bytes, which are kept for it in `bytes`.
 pub(crate) fn take_made<'a, D: FromDay<'a>, S: Source, K: Sink>(
     alloc: Global,
     bytes: &'a mut Vec<u8>,
