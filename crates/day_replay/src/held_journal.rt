@@ -17,8 +17,9 @@ use line_writer::{LineText, add_outcome, fill_with_entry, write_opening};
 use record_rows::LastMinute;
 use std::alloc::Global;
 
-// How many bytes stand behind the record on a line of the journal, at most.
-const OUTCOME_BYTES: usize = 67;
+// How many bytes the line of an entry of caller 0 has at most beside those of its record. These are held too where `csv` read the record;
+// room that is not used takes no memory.
+const LINE_ROOM: usize = 70;
 
 /// The journal of a day, held until all of the day file was read: of each line the record's own bytes, and what stands behind them as text.
 #[derive(Drop)]
@@ -84,7 +85,7 @@ impl<'a> DayKept<'a> for HeldJournal<'a> {
         Ok(HeldJournal {
             opening: write_opening(opening),
             lines: Vec::with_capacity(alloc, records)?,
-            texts: Vec::with_capacity(alloc, records * OUTCOME_BYTES)?,
+            texts: Vec::with_capacity(alloc, bytes.saturating_add(records * LINE_ROOM))?,
             line: LineText::new(),
             stated: LastMinute::new(),
             moment: LastMinute::new(),
