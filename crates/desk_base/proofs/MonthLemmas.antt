@@ -65,6 +65,32 @@ first_day_mono month later h =
 pub first_day-zero : first_day 0 ≡ 0
 first_day-zero = omega (arith, first_day-count 0, day_count-epoch)
 
+-- the days from 1 March 1969 to the first of a month, by years that begin in March
+abbrev pub since_march : ℕ → ℕ
+since_march month =
+    let years = (month + 10) / 12 in
+    365 * years + ((years + 1) / 4 - (years + 69) / 100 + (years + 369) / 400) + (153 * ((month + 10) % 12) + 2) / 5
+
+pub first_day-since_march : (month : ℕ) → first_day month + 306 ≡ since_march month
+first_day-since_march month =
+    elim (cases_lt (month % 12) 2) [
+      | inl early ↦
+          let shifted = day_count-early (pos (year_of month)) (11_969 + month / 12) (number_in_year month) 1 (omega (arith, signed_arith)) (omega arith) (omega arith) (omega arith) in
+          let years : (month + 10) / 12 ≡ month / 12 = omega arith in
+          let in_year : (month + 10) % 12 ≡ month % 12 + 10 = omega arith in
+          rw (years, in_year) (omega (arith, first_day-count month, shifted))
+      | inr late ↦
+          let shifted = day_count-late (pos (year_of month)) (11_970 + month / 12) (number_in_year month) 1 (omega (arith, signed_arith)) (omega arith) (omega arith) (omega arith) in
+          let years : (month + 10) / 12 ≡ month / 12 + 1 = omega arith in
+          let in_year : (month + 10) % 12 + 2 ≡ month % 12 = omega arith in
+          let less : (month + 10) % 12 ≡ month % 12 - 2 = omega arith in
+          rw (years, less) (omega (arith, first_day-count month, shifted))
+    ]
+
+-- each month begins less than five days from where it would if 4,800 of the same length had 146,097 days
+pub first_day-near : (month : ℕ) → month ≤ 6126 → (146_097 * month ≤ 4_800 * (first_day month + 5)) × (4_800 * first_day month ≤ 146_097 * month + 4_800 * 5)
+first_day-near month bound = (omega (arith, first_day-since_march month), omega (arith, first_day-since_march month))
+
 -- the days on which the desk's ranges begin and end: those of January 2000 and of January 2100, and that of May 2480
 pub first_day-2000 : first_day 360 ≡ 10_957
 first_day-2000 = omega (arith, first_day-count 360, day_count-early (pos 2000) 11_999 1 1 refl (omega arith) (omega arith) (omega arith))

@@ -14,10 +14,6 @@ pub record IsMinuteAt (minute : ℕ) (date : Date) (hour past : ℕ) : Type 0 wh
 abbrev pub IsDated : ℕ → Type 0
 IsDated minute = (date : Date) × ((hour : ℕ) × ((past : ℕ) × IsMinuteAt minute date hour past))
 
--- a civil date from that of the first minute to that of the last
-abbrev pub IsInDays : Date → Type 0
-IsInDays date = (day : ℕ) × ((epoch_day date ≡ pos day) × (day < 186_414))
-
 -- the month in which the civil date lies
 pub record IsMonthAt (month : ℕ) (date : Date) : Type 0 where
   pub year : date.year ≡ pos (year_of month)

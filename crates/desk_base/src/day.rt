@@ -1,10 +1,11 @@
-ghost use Rattle.std.specs.Prelude.{◌≡◌, ℕ, ◌<◌, pos};
-ghost use Rattle.desk_base.specs.Day.{day_of};
+ghost use Rattle.std.specs.Prelude.{◌≡◌, ℕ, ◌<◌, ◌≤◌, pos};
+ghost use Rattle.desk_base.specs.Day.{day_of, number_in_month};
+ghost use Rattle.desk_base.specs.Month.{IsMonthOf};
 ghost use Rattle.desk_base.specs.Civil.{IsMinuteAt, IsDated};
 ghost use Rattle.jiff_core.specs.declared.civil.date.Date.{Date};
 ghost use Rattle.jiff_core.specs.Date.{epoch_day};
 
-use crate::Minute;
+use crate::{Minute, Month};
 use std::marker::Model;
 
 /// A civil day, by its number from 1 January 1970, which is 0, up to the day of the last minute.
@@ -24,6 +25,14 @@ impl Model for Day {
 }
 
 impl Day {
+    // The day of that number.
+    pub(crate) fn new(number: u32) -> Day
+        requires { number < 186_414 }
+        ensures { result ≡ number }
+    {
+        Day(number)
+    }
+
     /// The day of a minute, which is its civil date.
     pub fn of(minute: Minute) -> Day
         ensures value { result ≡ day_of minute }
@@ -32,6 +41,15 @@ impl Day {
             → epoch_day date ≡ pos result }
     {
         Day((minute.number() / 1440) as u32)
+    }
+
+    // The day's number in its month, from 1.
+    pub(crate) fn in_month(self, month: Month) -> u8
+        requires { IsMonthOf self month }
+        ensures value { result ≡ number_in_month self }
+        ensures range { result ≤ 31 }
+    {
+        (self.0 - month.first_day().0 + 1) as u8
     }
 
     /// The day's number from 1 January 1970, below 186,414.

@@ -5,7 +5,6 @@ ghost use Rattle.desk_base.specs.Minute.{IsInYears, is_in_years, minute_text};
 ghost use Rattle.desk_base.specs.Civil.{IsMinuteAt, civil_text};
 ghost use Rattle.jiff_core.specs.declared.civil.date.Date.{Date};
 
-use crate::civil::date_of;
 use crate::digits::{digits_of, number_of};
 use crate::{Day, Month};
 use std::marker::Model;
@@ -56,11 +55,10 @@ impl Minute {
     }
 
     // The first minute of a day.
-    pub(crate) fn from_day(day: u32) -> Minute
-        requires { day < 186_414 }
+    pub(crate) fn from_day(day: Day) -> Minute
         ensures { result ≡ 1440 * day }
     {
-        Minute(1440 * day)
+        Minute(1440 * day.number())
     }
 
     /// The minutes since 1970-01-01 00:00, below 2^28.
@@ -111,10 +109,11 @@ impl Minute {
         ensures civil { (date : Date) (hour past : ℕ) → IsMinuteAt self date hour past
             → result ≡ civil_text date hour past }
     {
-        let date = date_of(Day::of(self).number());
+        let day = Day::of(self);
+        let month = Month::of_day(day);
         let time = self.0 % 1440;
-        let [y1, y2, y3, y4, _, m1, m2] = Month::at(date).write();
-        let [d1, d2] = digits_of(date.day() as u8);
+        let [y1, y2, y3, y4, _, m1, m2] = month.write();
+        let [d1, d2] = digits_of(day.in_month(month));
         let [h1, h2] = digits_of((time / 60) as u8);
         let [p1, p2] = digits_of((time % 60) as u8);
         [

@@ -1,16 +1,15 @@
 ghost use Rattle.std.specs.Prelude.{◌≡◌, ℕ, ◌+◌, ◌≤◌, ◌<◌, IfSome, pos};
 ghost use Rattle.std.specs.Option.{SomeIff};
 ghost use Rattle.std.specs.Bool.{Decides};
-ghost use Rattle.desk_base.specs.Month.{year_of, number_in_year, first_day, first_minute, minutes_of, month_text, IsMonthInYears};
+ghost use Rattle.desk_base.specs.Month.{year_of, number_in_year, first_day, first_minute, minutes_of, month_text, IsMonthInYears, IsMonthOf};
 ghost use Rattle.desk_base.specs.Minute.{month_of};
-ghost use Rattle.desk_base.specs.Civil.{IsMinuteAt, IsMonthAt, IsInDays};
+ghost use Rattle.desk_base.specs.Civil.{IsMinuteAt, IsMonthAt};
 ghost use Rattle.jiff_core.specs.Calendar.{days_in_month};
 ghost use Rattle.jiff_core.specs.declared.civil.date.Date.{Date as CivilDate};
 
-use crate::civil::{date_of, first_day_of, first_of, month_at};
+use crate::civil::{days_of, first_day_of, month_of};
 use crate::digits::{digits_of, number_of};
 use crate::{Day, Minute};
-use jiff::civil::Date;
 use std::marker::Model;
 
 /// January 2000, the first month of the years 2000 to 2099.
@@ -78,7 +77,14 @@ impl Month {
         ensures civil { (date : CivilDate) (hour past : ℕ) → IsMinuteAt minute date hour past
             → IsMonthAt result date }
     {
-        Month::at(date_of(Day::of(minute).number()))
+        Month::of_day(Day::of(minute))
+    }
+
+    // The month in which a day lies.
+    pub(crate) fn of_day(day: Day) -> Month
+        ensures { IsMonthOf day result }
+    {
+        Month(month_of(day.number()))
     }
 
     /// The month in which a minute lies that isn't before the month `from`. It is told at once where that is the one.
@@ -95,19 +101,18 @@ impl Month {
         }
     }
 
-    // The month in which a date lies, from the first minute's date to the last one's.
-    pub(crate) fn at(date: Date) -> Month
-        requires { IsInDays date }
-        ensures { IsMonthAt result date }
+    // The month's first day.
+    pub(crate) fn first_day(self) -> Day
+        ensures { result ≡ first_day self }
     {
-        Month(month_at(date))
+        Day::new(first_day_of(self.0))
     }
 
     /// The month's first minute.
     pub fn first(self) -> Minute
         ensures { result ≡ first_minute self }
     {
-        Minute::from_day(first_day_of(self.0))
+        Minute::from_day(self.first_day())
     }
 
     // How many days the month has, 28 to 31.
@@ -116,7 +121,7 @@ impl Month {
         ensures next { first_day self + result ≡ first_day (self + 1) }
         ensures most { result ≤ 31 }
     {
-        first_of(self.0).days_in_month() as u8
+        days_of(self.0)
     }
 
     /// How many minutes the month has, 40,320 to 44,640.
