@@ -1,5 +1,5 @@
 -- The journal of a day grows by the lines of the entries, one after another.
-use Rattle.std.proofs.Common.{◌≡◌, ℕ, ◌+◌, ◌<◌, ◌≤◌, ◌-◌, Bor, Option, None, Some, List, [], ◌∷◌, ◌++◌, length, get_or, map, take, drop, take-append-drop, refl, sym, ap, subst, ◌∙◌, arith, append-nil, length-append, append_assoc, codes, decimal}
+use Rattle.std.proofs.Common.{◌≡◌, ◌≢◌, ℕ, ◌+◌, ◌<◌, ◌≤◌, ◌-◌, Option, None, Some, List, [], ◌∷◌, ◌++◌, length, get_or, map, take, drop, take-append-drop, refl, sym, ap, subst, ◌∙◌, arith, append-nil, length-append, append_assoc, codes, decimal}
 use Rattle.std.specs.Io.KnownBytes.{Appends, Keeps}
 use Rattle.std.proofs.KnownBytes.{Appends-trans, Appends-nil}
 use Rattle.std.proofs.lemmas.List.{take-append-le, drop-append-le, drop_more, drop_all, take_all, take_more, length-drop, nil_from_length, flat_map_more}
@@ -19,7 +19,7 @@ use Rattle.day_replay.specs.declared.held_line.HeldLine.{HeldLine}
 use Rattle.day_replay.specs.Gathered.{Gathers}
 use Rattle.desk_model.specs.texts.StatedTexts.{stated_fields}
 use Rattle.line_writer.specs.Line.{outcome_line}
-use Rattle.day_replay.specs.FromDay.{IsTextOf}
+use Rattle.command_parser.specs.Spelled.{SpellsStated}
 use Rattle.day_replay.specs.Held.{AddsLine, held_bytes, held_line, held_lines}
 use Rattle.day_replay.specs.Replay.{by_the_day_file, goes_on}
 use Rattle.day_replay.proofs.HistoryLemmas.{goes_on-behind}
@@ -164,16 +164,16 @@ AddsFront-journal a b h commands index front =
 
 -- a line more, and its text behind the others
 pub held_lines-more : (lines : List HeldLine) (texts : List ℕ) (line : HeldLine) (text : List ℕ) → held_bytes lines ≡ length texts → line.bytes ≡ length text
-    → held_lines (lines ++ line ∷ []) (texts ++ text) ≡ held_lines lines texts ++ held_line line.stated text
+    → held_lines (lines ++ line ∷ []) (texts ++ text) ≡ held_lines lines texts ++ held_line line.stated.now text
 held_lines-more [] texts line text whole bytes =
     let none : texts ≡ [] = nil_from_length texts (omega (arith, whole)) in
     let all : take line.bytes text ≡ text = take_all line.bytes text (omega (arith, bytes)) in
-    rw none (rw all (append-nil (held_line line.stated text)))
+    rw none (rw all (append-nil (held_line line.stated.now text)))
 held_lines-more (first ∷ rest) texts line text whole bytes =
     let within : first.bytes ≤ length texts = omega (arith, whole) in
     let behind : held_bytes rest ≡ length (drop first.bytes texts) = omega (arith, whole, length-drop first.bytes texts) in
     rw (take-append-le first.bytes texts text within, drop-append-le first.bytes texts text within, held_lines-more rest (drop first.bytes texts) line text behind bytes)
-    (sym (append_assoc (held_line first.stated (take first.bytes texts)) (held_lines rest (drop first.bytes texts)) (held_line line.stated text)))
+    (sym (append_assoc (held_line first.stated.now (take first.bytes texts)) (held_lines rest (drop first.bytes texts)) (held_line line.stated.now text)))
 
 pub held_bytes-more : (lines : List HeldLine) (line : HeldLine) → held_bytes (lines ++ line ∷ []) ≡ held_bytes lines + line.bytes
 held_bytes-more [] line = omega arith
@@ -215,6 +215,10 @@ AddsFront-third a b c d front first second third one two x y put =
     subst (AddsFront a d) (three-parts front first second third)
     (AddsFront-more a c d ((front ++ first) ++ second) two third (Gathers-more a b c (front ++ first) one second two x y) put)
 
+-- what waits behind it, where nothing was put
+pub Gathers-waiting : (a : Option (List ℕ)) (text waiting : List ℕ) → waiting ≡ text → Gathers a a text waiting
+Gathers-waiting a text waiting is = record { put = []; added = Appends-nil a; parts = sym is }
+
 -- of the lines that are held these were gathered, and those from this one on are left, of which that is held as text
 pub record GathersHeld (a b : Option (List ℕ)) (all : List ℕ) (left : List HeldLine) (texts waiting : List ℕ) : Type 0 where
   pub done : List ℕ
@@ -241,33 +245,33 @@ GathersHeld-within a b all lines index line d texts waiting within at so =
 -- what was gathered with the next line
 pub GathersHeld-line : (a b c : Option (List ℕ)) (all : List ℕ) (lines : List HeldLine) (index : ℕ) (line d : HeldLine) (texts text behind waiting gathered : List ℕ)
     → index < length lines → line ≡ get_or lines index d → text ≡ take line.bytes texts → behind ≡ drop line.bytes texts
-    → GathersHeld a b all (drop index lines) texts waiting → Gathers b c (waiting ++ held_line line.stated text) gathered
+    → GathersHeld a b all (drop index lines) texts waiting → Gathers b c (waiting ++ held_line line.stated.now text) gathered
     → GathersHeld a c all (drop (index + 1) lines) behind gathered
 GathersHeld-line a b c all lines index line d texts text behind waiting gathered within at cut rest so put =
     let next : drop index lines ≡ line ∷ drop (index + 1) lines = drop_more lines index d within ∙ ap (λ x. x ∷ drop (index + 1) lines) (sym at) in
     record {
-      done = so.done ++ held_line line.stated text;
-      gathered = Gathers-more a b c so.done waiting (held_line line.stated text) gathered so.gathered put;
+      done = so.done ++ held_line line.stated.now text;
+      gathered = Gathers-more a b c so.done waiting (held_line line.stated.now text) gathered so.gathered put;
       parts = so.parts ∙ ap (λ ls. so.done ++ held_lines ls texts) next
-          ∙ sym (append_assoc so.done (held_line line.stated (take line.bytes texts)) (held_lines (drop (index + 1) lines) (drop line.bytes texts)))
-          ∙ ap (λ t. (so.done ++ held_line line.stated t) ++ held_lines (drop (index + 1) lines) (drop line.bytes texts)) (sym cut)
-          ∙ ap (λ t. (so.done ++ held_line line.stated text) ++ held_lines (drop (index + 1) lines) t) (sym rest);
+          ∙ sym (append_assoc so.done (held_line line.stated.now (take line.bytes texts)) (held_lines (drop (index + 1) lines) (drop line.bytes texts)))
+          ∙ ap (λ t. (so.done ++ held_line line.stated.now t) ++ held_lines (drop (index + 1) lines) (drop line.bytes texts)) (sym cut)
+          ∙ ap (λ t. (so.done ++ held_line line.stated.now text) ++ held_lines (drop (index + 1) lines) t) (sym rest);
       bytes = omega (arith, sym so.bytes ∙ ap held_bytes next, ap length rest, length-drop line.bytes texts);
     }
 
 -- where a front of it was put, a front of all was
 pub GathersHeld-front : (a b c : Option (List ℕ)) (all : List ℕ) (lines : List HeldLine) (index : ℕ) (line d : HeldLine) (texts text waiting : List ℕ)
     → index < length lines → line ≡ get_or lines index d → text ≡ take line.bytes texts
-    → GathersHeld a b all (drop index lines) texts waiting → AddsFront b c (waiting ++ held_line line.stated text) → AddsFront a c all
+    → GathersHeld a b all (drop index lines) texts waiting → AddsFront b c (waiting ++ held_line line.stated.now text) → AddsFront a c all
 GathersHeld-front a b c all lines index line d texts text waiting within at cut so put =
     let next : drop index lines ≡ line ∷ drop (index + 1) lines = drop_more lines index d within ∙ ap (λ x. x ∷ drop (index + 1) lines) (sym at) in
-    let is : all ≡ (so.done ++ held_line line.stated text) ++ held_lines (drop (index + 1) lines) (drop line.bytes texts) =
+    let is : all ≡ (so.done ++ held_line line.stated.now text) ++ held_lines (drop (index + 1) lines) (drop line.bytes texts) =
     so.parts ∙ ap (λ ls. so.done ++ held_lines ls texts) next
-    ∙ sym (append_assoc so.done (held_line line.stated (take line.bytes texts)) (held_lines (drop (index + 1) lines) (drop line.bytes texts)))
-    ∙ ap (λ t. (so.done ++ held_line line.stated t) ++ held_lines (drop (index + 1) lines) (drop line.bytes texts)) (sym cut) in
+    ∙ sym (append_assoc so.done (held_line line.stated.now (take line.bytes texts)) (held_lines (drop (index + 1) lines) (drop line.bytes texts)))
+    ∙ ap (λ t. (so.done ++ held_line line.stated.now t) ++ held_lines (drop (index + 1) lines) (drop line.bytes texts)) (sym cut) in
     subst (AddsFront a c) (sym is)
-    (AddsFront-longer a c (so.done ++ held_line line.stated text) (held_lines (drop (index + 1) lines) (drop line.bytes texts))
-    (AddsFront-more a b c so.done waiting (held_line line.stated text) so.gathered put))
+    (AddsFront-longer a c (so.done ++ held_line line.stated.now text) (held_lines (drop (index + 1) lines) (drop line.bytes texts))
+    (AddsFront-more a b c so.done waiting (held_line line.stated.now text) so.gathered put))
 
 -- where none is left, all was gathered
 pub GathersHeld-all : (a b : Option (List ℕ)) (all : List ℕ) (lines : List HeldLine) (index : ℕ) (texts waiting : List ℕ) → length lines ≤ index
@@ -284,23 +288,31 @@ spelled-line text e zero spelled =
     let caller : decimal e.caller ≡ 48 ∷ [] = ap decimal zero ∙ decimal_digit 0 (omega arith) in
     rw (spelled, caller) (simp append_assoc)
 
-line-outcome : (stated : Option (Bor (List ℕ))) (text : Bor (List ℕ)) (e : EntryValue) → stated ≡ Some text → e.caller ≡ 0 → IsTextOf stated e
-    → held_line stated (124 ∷ outcome_line e.moment e.reply) ≡ entry_line e
-line-outcome None text e is zero spelled = absurd (cc)
-line-outcome (Some own) text e is zero spelled = spelled-line own.now e zero spelled.text_is
+-- the line of a statement that has bytes
+pub held_line-stated : (stated text : List ℕ) → stated ≢ [] → held_line stated text ≡ codes "0|" ++ stated ++ text
+held_line-stated [] text some = absurd (some refl)
+held_line-stated (byte ∷ stated) text some = refl
 
 -- so what stands behind the statement may be held of it
-pub AddsLine-outcome : (stated : Option (Bor (List ℕ))) (text : Bor (List ℕ)) (before after : List ℕ) (e : EntryValue) → stated ≡ Some text
+pub AddsLine-outcome : (stated before after : List ℕ) (e : EntryValue) → stated ≢ []
     → after ≡ before ++ 124 ∷ outcome_line e.moment e.reply → AddsLine stated before after e
-AddsLine-outcome stated text before after e is added = record {
+AddsLine-outcome stated before after e some added = record {
   text = 124 ∷ outcome_line e.moment e.reply;
   added = added;
-  line = λ zero spelled. line-outcome stated text e is zero spelled;
+  line = λ zero spelled. held_line-stated stated _ some ∙ spelled-line stated e zero (spelled some).text_is;
+}
+
+-- or its whole line, where no bytes of it are at hand
+pub AddsLine-whole : (stated before after : List ℕ) (e : EntryValue) → stated ≡ [] → after ≡ before ++ entry_line e → AddsLine stated before after e
+AddsLine-whole stated before after e none added = record {
+  text = entry_line e;
+  added = added;
+  line = λ zero spelled. ap (λ s. held_line s (entry_line e)) none;
 }
 
 -- the journal that is held of one entry more
 pub HoldsJournal-line : (opening : List ℕ) (lines more : List HeldLine) (texts after : List ℕ) (line : HeldLine) (h : History) (e : EntryValue)
-    → more ≡ lines ++ line ∷ [] → AddsLine line.stated texts after e → line.bytes ≡ length after - length texts → e.caller ≡ 0 → IsTextOf line.stated e
+    → more ≡ lines ++ line ∷ [] → AddsLine line.stated.now texts after e → line.bytes ≡ length after - length texts → e.caller ≡ 0 → (line.stated.now ≢ [] → SpellsStated line.stated.now e.stated)
     → opening ++ held_lines lines texts ≡ journal h → held_bytes lines ≡ length texts
     → (opening ++ held_lines more after ≡ journal (with_entry h e)) × (held_bytes more ≡ length after)
 HoldsJournal-line opening lines more texts after line h e next added bytes zero spelled text whole =
@@ -308,8 +320,8 @@ HoldsJournal-line opening lines more texts after line h e next added bytes zero 
       ap (λ ls. opening ++ held_lines ls after) next
           ∙ ap (λ t. opening ++ held_lines (lines ++ line ∷ []) t) added.added
           ∙ ap (λ t. opening ++ t) (held_lines-more lines texts line added.text whole size)
-          ∙ sym (append_assoc opening (held_lines lines texts) (held_line line.stated added.text))
-          ∙ ap (λ t. t ++ held_line line.stated added.text) text
+          ∙ sym (append_assoc opening (held_lines lines texts) (held_line line.stated.now added.text))
+          ∙ ap (λ t. t ++ held_line line.stated.now added.text) text
           ∙ ap (λ t. journal h ++ t) (added.line zero spelled)
           ∙ sym (journal-next h e),
       omega (arith, ap held_bytes next, held_bytes-more lines line, whole, size, ap length added.added, length-append texts added.text),

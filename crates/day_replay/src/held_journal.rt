@@ -1,9 +1,12 @@
 //! A journal, held until it is written.
-ghost use Rattle.std.specs.Prelude.{◌≡◌, ◌≤◌, [], IfOk, length, vec_capacity};
+ghost use Rattle.std.specs.Prelude.{◌≡◌, ◌≢◌, ◌≤◌, [], IfOk, length, vec_capacity};
 ghost use Rattle.std.specs.Bool.{OnTrue, OnFalse};
 ghost use Rattle.std.specs.Io.KnownBytes.{Appends};
 ghost use Rattle.desk_io.specs.Faults.{Rose};
 ghost use Rattle.desk_io.specs.Giving.{AddsFront};
+ghost use Rattle.desk_model.specs.statements.Entry.{EntryValue};
+ghost use Rattle.command_parser.specs.Spelled.{SpellsStated};
+ghost use Rattle.day_replay.specs.FromDay.{IsTextOf};
 ghost use Rattle.day_replay.specs.Held.{AddsLine, HoldsJournal, held_bytes, held_text};
 
 use crate::day_kept::DayKept;
@@ -20,6 +23,16 @@ use std::alloc::Global;
 // How many bytes the line of an entry of caller 0 has at most beside those of its record. These are held too where `csv` read the record;
 // room that is not used takes no memory.
 const LINE_ROOM: usize = 70;
+
+// The bytes, or none where there are none at hand.
+fn bytes_or_none(line: Option<&[u8]>) -> &[u8]
+    ensures { (e : EntryValue) → IsTextOf line.entry e → result.now ≢ [] → SpellsStated result.now e.stated }
+{
+    match line {
+        Some(bytes) => bytes,
+        None => &[],
+    }
+}
 
 /// The journal of a day, held until all of the day file was read: of each line the record's own bytes, and what stands behind them as text.
 #[derive(Drop)]
@@ -55,20 +68,19 @@ impl HeldJournal<'_> {
         put_all(sink, buffer)
     }
 
-    // Adds what is held as text of the line of an entry.
-    fn add_text(&mut self, stated: Option<&[u8]>, entry: &Entry) -> Result<(), NoMemory>
+    // Adds what is held as text of the line of an entry: all of it, where no bytes of its statement are at hand.
+    fn add_text(&mut self, stated: &[u8], entry: &Entry) -> Result<(), NoMemory>
         ensures added { IfOk result (λ _.
-            AddsLine stated.entry self.old.texts.items self.new.texts.items entry.now) }
+            AddsLine stated.now self.old.texts.items self.new.texts.items entry.now) }
         ensures opening { self.new.opening ≡ self.old.opening }
         ensures lines { self.new.lines ≡ self.old.lines }
     {
-        match stated {
-            Some(_text) => add_outcome(&mut self.texts, &mut self.line, &mut self.moment, entry),
-            None => {
-                fill_with_entry(&mut self.line, &mut self.stated, &mut self.moment, entry);
-                self.texts.extend_from_slice(self.line.as_slice())?;
-                Ok(())
-            }
+        if stated.is_empty() {
+            fill_with_entry(&mut self.line, &mut self.stated, &mut self.moment, entry);
+            self.texts.extend_from_slice(self.line.as_slice())?;
+            Ok(())
+        } else {
+            add_outcome(&mut self.texts, &mut self.line, &mut self.moment, entry)
         }
     }
 }
@@ -100,12 +112,10 @@ impl<'a> DayKept<'a> for HeldJournal<'a> {
     ) -> Result<(), NoMemory> {
         self.moment.follow(stated, entry.moment());
         let before = self.texts.len();
-        self.add_text(line, entry)?;
+        let stated = bytes_or_none(line);
+        self.add_text(stated, entry)?;
         let bytes = self.texts.len() - before;
-        self.lines.push(HeldLine {
-            stated: line,
-            bytes,
-        })?;
+        self.lines.push(HeldLine { stated, bytes })?;
         Ok(())
     }
 }

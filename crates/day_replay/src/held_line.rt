@@ -1,5 +1,5 @@
 //! Lines of a journal that are held until they are written.
-ghost use Rattle.std.specs.Prelude.{◌≡◌, ◌≤◌, ◌++◌, length};
+ghost use Rattle.std.specs.Prelude.{◌≡◌, ◌≤◌, ◌+◌, ◌++◌, length, codes, vec_capacity};
 ghost use Rattle.std.specs.Bool.{OnTrue, OnFalse};
 ghost use Rattle.desk_io.specs.Faults.{Rose};
 ghost use Rattle.desk_io.specs.Giving.{AddsFront};
@@ -12,39 +12,71 @@ use desk_io::Sink;
 /// A line that is held.
 #[derive(Clone, Copy)]
 pub(crate) struct HeldLine<'a> {
-    /// The bytes of its record, which are the text of its statement; `None` where the whole line is held as text.
-    pub(crate) stated: Option<&'a [u8]>,
+    /// The bytes of its record, which are the text of its statement; empty where the whole line is held as text.
+    pub(crate) stated: &'a [u8],
     /// How many bytes of it are held as text: what stands behind the record, or the whole line.
     pub(crate) bytes: usize,
 }
 
-/// Adds a line, of which this is held as text, to those that wait in the buffer. It says whether the sink took what was put, and stops at
-/// the first fault.
-pub(crate) fn gather_held<K: Sink>(
-    buffer: &mut Vec<u8>,
-    stated: Option<&[u8]>,
-    text: &[u8],
-    sink: &mut K,
-) -> bool
+// Adds a line of caller 0 to those that wait in the buffer, which has room for it.
+#[inline(always)]
+fn add_line(buffer: &mut Vec<u8>, stated: &[u8], text: &[u8])
+    requires { length buffer.old.items + 2 + length stated.now + length text.now ≤ vec_capacity buffer.old }
+    ensures { buffer.new.items ≡ buffer.old.items ++ codes "0|" ++ stated.now ++ text.now }
+{
+    buffer.extend_from_slice(b"0|").unwrap();
+    buffer.extend_from_slice(stated).unwrap();
+    buffer.extend_from_slice(text).unwrap();
+}
+
+// Adds a line of caller 0 to those that wait in the buffer, and puts these into the sink as often as it is full. It stays a call, since few
+// lines come where the buffer is full.
+#[inline(never)]
+fn gather_parts<K: Sink>(buffer: &mut Vec<u8>, stated: &[u8], text: &[u8], sink: &mut K) -> bool
     ensures all { OnTrue result (Gathers (K.held sink.old) (K.held sink.new)
-        (buffer.old.items ++ held_line stated.entry text.now) buffer.new.items) }
+        (buffer.old.items ++ (codes "0|" ++ stated.now ++ text.now)) buffer.new.items) }
     ensures front { OnFalse result (AddsFront (K.held sink.old) (K.held sink.new)
-        (buffer.old.items ++ held_line stated.entry text.now)) }
+        (buffer.old.items ++ (codes "0|" ++ stated.now ++ text.now))) }
 
     ensures faults_grow { K.faults sink.old ≤ K.faults sink.new }
     ensures cause { OnFalse result (Rose (K.faults sink.old) (K.faults sink.new)) }
     ensures no_fault { OnTrue result (K.faults sink.new ≡ K.faults sink.old) }
 {
-    let Some(statement) = stated else {
-        return gather_text(buffer, text, sink);
-    };
     if !gather_text(buffer, b"0|", sink) {
         return false;
     }
-    if !gather_text(buffer, statement, sink) {
+    if !gather_text(buffer, stated, sink) {
         return false;
     }
     gather_text(buffer, text, sink)
+}
+
+/// Adds a line, of which this is held as text, to those that wait in the buffer. It says whether the sink took what was put, and stops at
+/// the first fault.
+#[inline(always)]
+pub(crate) fn gather_held<K: Sink>(
+    buffer: &mut Vec<u8>,
+    stated: &[u8],
+    text: &[u8],
+    sink: &mut K,
+) -> bool
+    ensures all { OnTrue result (Gathers (K.held sink.old) (K.held sink.new)
+        (buffer.old.items ++ held_line stated.now text.now) buffer.new.items) }
+    ensures front { OnFalse result (AddsFront (K.held sink.old) (K.held sink.new)
+        (buffer.old.items ++ held_line stated.now text.now)) }
+
+    ensures faults_grow { K.faults sink.old ≤ K.faults sink.new }
+    ensures cause { OnFalse result (Rose (K.faults sink.old) (K.faults sink.new)) }
+    ensures no_fault { OnTrue result (K.faults sink.new ≡ K.faults sink.old) }
+{
+    if stated.is_empty() {
+        return gather_text(buffer, text, sink);
+    }
+    if buffer.capacity() - buffer.len() <= 1 + stated.len() + text.len() {
+        return gather_parts(buffer, stated, text, sink);
+    }
+    add_line(buffer, stated, text);
+    true
 }
 
 /// Adds lines, of which this is held as text, to those that wait in the buffer. It says whether the sink took what was put, and stops at

@@ -30,7 +30,7 @@ unfolding entry_line
 entry_line-pieces e = simp append_assoc
 
 -- what stands behind a statement, added to a text piece by piece
-pub outcome_line-added : (text : List ℕ) (moment : ℕ) (r : Reply) → (text ++ 124 ∷ [] ++ minute_text moment ++ 124 ∷ []) ++ (reply_text r ++ 10 ∷ []) ≡ text ++ 124 ∷ outcome_line moment r
+pub outcome_line-added : (text : List ℕ) (moment : ℕ) (r : Reply) → (text ++ (124 ∷ minute_text moment ++ 124 ∷ [])) ++ (reply_text r ++ 10 ∷ []) ≡ text ++ 124 ∷ outcome_line moment r
 outcome_line-added text moment r = simp append_assoc
 
 pub outcome_line-pieces : (front : List ℕ) (moment : ℕ) (r : Reply) → front ++ outcome_line moment r ≡ (((front ++ minute_text moment) ++ 124 ∷ []) ++ reply_text r) ++ 10 ∷ []

@@ -1,7 +1,6 @@
 //! What the desk answered, and bars, as texts of their own.
-ghost use Rattle.std.specs.Prelude.{◌≡◌, ◌≤◌, ◌+◌, ◌∷◌, ◌++◌, [], IfOk};
+ghost use Rattle.std.specs.Prelude.{◌≡◌, ◌≤◌, ◌+◌, ◌∷◌, ◌++◌, [], IfOk, codes};
 ghost use Rattle.arrayvec.specs.ArrayVec.{array_vec_len};
-ghost use Rattle.desk_base.specs.Minute.{minute_text};
 ghost use Rattle.desk_model.specs.texts.BarTexts.{bar_text};
 ghost use Rattle.desk_model.specs.texts.ReplyTexts.{reply_text};
 ghost use Rattle.line_writer.specs.Line.{outcome_line};
@@ -43,6 +42,24 @@ pub(crate) fn put_outcome(line: &mut LineText, last: &mut LastMinute, moment: Mi
     put_byte(line, b'\n');
 }
 
+// A moment between its bars.
+fn between_bars(moment: [u8; 16]) -> [u8; 18]
+    ensures { result ≡ 124 ∷ moment ++ 124 ∷ [] }
+{
+    let mut text = *b"|YYYY-MM-DD HH:MM|";
+    text[1..17].copy_from_slice(&moment);
+    text
+}
+
+// What stands behind the statement on the line of an entry that was done at this moment.
+fn done_at(moment: [u8; 16]) -> [u8; 23]
+    ensures { result ≡ 124 ∷ moment ++ codes "|done\n" }
+{
+    let mut text = *b"|YYYY-MM-DD HH:MM|done\n";
+    text[1..17].copy_from_slice(&moment);
+    text
+}
+
 /// Adds to a text what stands behind the statement on the entry's line, `|moment|reply`, with the line feed; what stood in `line` is gone.
 /// `last` is the moment that the lines before it named last: it only spares work.
 pub fn add_outcome(
@@ -54,34 +71,28 @@ pub fn add_outcome(
     ensures { IfOk result (λ _. text.new.items
         ≡ text.old.items ++ 124 ∷ outcome_line entry.now.moment entry.now.reply) }
 {
-    add_moment(text, last, entry.moment())?;
-    add_reply(text, line, &entry.reply())
+    let moment = last.write(entry.moment());
+    match &entry.reply() {
+        Reply::Done => {
+            text.extend_from_slice(&done_at(moment))?;
+            Ok(())
+        }
+        reply => {
+            text.extend_from_slice(&between_bars(moment))?;
+            add_reply(text, line, reply)
+        }
+    }
 }
 
-// Adds a moment between its bars.
-fn add_moment(text: &mut Vec<u8>, last: &mut LastMinute, moment: Minute) -> Result<(), NoMemory>
-    ensures { IfOk result (λ _. text.new.items
-        ≡ text.old.items ++ 124 ∷ [] ++ minute_text moment ++ 124 ∷ []) }
-{
-    text.push(b'|')?;
-    text.extend_from_slice(&last.write(moment))?;
-    text.push(b'|')?;
-    Ok(())
-}
-
-// Adds a reply, and the line feed. Most are just that it was done.
+// Adds a reply, and the line feed.
 fn add_reply(text: &mut Vec<u8>, line: &mut LineText, reply: &Reply) -> Result<(), NoMemory>
     ensures { IfOk result (λ _. text.new.items
         ≡ text.old.items ++ (reply_text reply.now ++ 10 ∷ [])) }
 {
-    if let Reply::Done = reply {
-        text.extend_from_slice(b"done\n")?;
-    } else {
-        line.clear();
-        put_reply(line, reply);
-        put_byte(line, b'\n');
-        text.extend_from_slice(line.as_slice())?;
-    }
+    line.clear();
+    put_reply(line, reply);
+    put_byte(line, b'\n');
+    text.extend_from_slice(line.as_slice())?;
     Ok(())
 }
 

@@ -1,11 +1,11 @@
-use Rattle.std.proofs.Common.{◌∙◌, None, get_or, refl, arith}
+use Rattle.std.proofs.Common.{◌∙◌, [], get_or, refl, arith}
 use Rattle.day_replay.specs.declared.held_line.HeldLine.{HeldLine}
 use Rattle.day_replay.proofs.JournalLemmas.{GathersHeld-none, GathersHeld-within, GathersHeld-line, GathersHeld-front, GathersHeld-all}
 use Rattle.day_replay.proofs.held_line.gather_all_held.Goals as goal
 
 -- what a list of lines is said to have behind its end
 abbrev no_line : HeldLine
-no_line = record { stated = None; bytes = 0 }
+no_line = record { stated = record { ref_ptr = (0, 0); now = [] }; bytes = 0 }
 
 pub loop-line-init : goal.loop-line-init
 loop-line-init g c = record {
