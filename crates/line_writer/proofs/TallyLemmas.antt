@@ -1,5 +1,5 @@
 -- The sorts of a tally.
-use Rattle.std.proofs.Common.{◌≡◌, ◌∙◌, ℕ, ◌+◌, ◌≤◌, ◌<◌, ◌^◌, Bool, ap, sym, List, [], ◌∷◌, ◌++◌, length, refl, arith, inl, inr}
+use Rattle.std.proofs.Common.{◌≡◌, ◌∙◌, Decides, true, false, ℕ, ◌+◌, ◌≤◌, ◌<◌, ◌^◌, Bool, ap, sym, List, [], ◌∷◌, ◌++◌, length, refl, arith, inl, inr}
 use Rattle.std.proofs.lemmas.Bool.{cases_Bool}
 use Rattle.std.specs.Prelude.{if◌then◌else◌}
 use Rattle.desk_model.specs.statements.Entry.{EntryValue}
@@ -49,6 +49,15 @@ count-raised s entries e n later so few counts is raised =
     ∙ ap (λ t. n + (if t then 1 else 0)) is
     ∙ ap (λ k. k + (if is_of s e.reply then 1 else 0)) counts
     ∙ sym (count-last s entries e)
+
+-- whether an answer's sort is this one tells whether the answer is of this one
+pub sort-told : (s found : ReplySort) (r : Reply) (so : Bool) → Decides so (found ≡ s) → is_of found r ≡ true
+    → ((other : ReplySort) → is_of other r ≡ true → found ≡ other) → so ≡ is_of s r
+sort-told s found r true told is only = sym (ap (λ x. is_of x r) (sym (told.0 refl)) ∙ is)
+sort-told s found r false told is only = elim (cases_Bool (is_of s r)) [
+  | inl of_it ↦ absurd (let found_it = told.1 (only s of_it) in cc)
+  | inr other ↦ sym other
+]
 
 pub count-all : (entries : List EntryValue)
     → count sort.Done entries + count sort.Offered entries + count sort.Unfilled entries + count sort.Denied entries + count sort.Told entries + count sort.Refused entries

@@ -1,11 +1,13 @@
 //! The sorts of answers that a tally counts.
-ghost use Rattle.std.specs.Prelude.{◌≡◌};
-ghost use Rattle.line_writer.specs.Tally.{is_of, is_told, is_denied};
+ghost use Rattle.std.specs.Prelude.{◌≡◌, true};
+ghost use Rattle.std.specs.Bool.{Decides};
+ghost use Rattle.line_writer.specs.declared.reply_sort.ReplySort.{ReplySort as SortValue};
+ghost use Rattle.line_writer.specs.Tally.{is_of};
 
 use desk_model::Reply;
 
 /// A sort of answers.
-#[derive(Clone, Copy)]
+#[derive(Clone, Copy, Debug, PartialEq, Eq)]
 pub(crate) enum ReplySort {
     /// It was done.
     Done,
@@ -22,41 +24,29 @@ pub(crate) enum ReplySort {
 }
 
 impl ReplySort {
-    /// Whether an answer is of the sort.
-    pub(crate) fn has(self, reply: &Reply) -> bool
-        ensures { result ≡ is_of self reply.now }
+    /// The one sort that an answer is of.
+    pub(crate) fn of(reply: &Reply) -> ReplySort
+        ensures is { is_of result reply.now ≡ true }
+        ensures only { (sort : SortValue) → is_of sort reply.now ≡ true → result ≡ sort }
     {
-        let is_done = matches!(reply, Reply::Done);
-        let is_offered = matches!(reply, Reply::Offered { .. });
-        let is_unfilled = matches!(reply, Reply::Unfilled { .. });
-        match self {
-            ReplySort::Done => is_done,
-            ReplySort::Offered => is_offered,
-            ReplySort::Unfilled => is_unfilled,
-            ReplySort::Denied => is_denied(reply),
-            ReplySort::Told => is_told(reply),
-            ReplySort::Refused => {
-                !(is_done || is_offered || is_unfilled || is_denied(reply) || is_told(reply))
-            }
-        }
-    }
-}
-
-fn is_denied(reply: &Reply) -> bool
-    ensures { result ≡ is_denied reply.now }
-{
-    matches!(reply, Reply::Denied(_) | Reply::RunAround(_))
-}
-
-fn is_told(reply: &Reply) -> bool
-    ensures { result ≡ is_told reply.now }
-{
-    matches!(
-        reply,
-        Reply::Seen(_)
+        match reply {
+            Reply::Done => ReplySort::Done,
+            Reply::Offered { .. } => ReplySort::Offered,
+            Reply::Unfilled { .. } => ReplySort::Unfilled,
+            Reply::Denied(_) | Reply::RunAround(_) => ReplySort::Denied,
+            Reply::Seen(_)
             | Reply::NoOne { .. }
             | Reply::Hours { .. }
             | Reply::Clear { .. }
-            | Reply::State(_)
-    )
+            | Reply::State(_) => ReplySort::Told,
+            _ => ReplySort::Refused,
+        }
+    }
+
+    /// Whether it is this sort.
+    pub(crate) fn is(self, sort: ReplySort) -> bool
+        ensures { Decides result (self ≡ sort) }
+    {
+        self == sort
+    }
 }

@@ -56,14 +56,14 @@ impl Tally {
     {
         what_an_entry_makes_of_the_desk();
         a_tally_adds_up();
-        let reply = &entry.reply();
+        let sort = ReplySort::of(&entry.reply());
         self.commands = raised(self.commands, true);
-        self.done = raised(self.done, ReplySort::Done.has(reply));
-        self.offered = raised(self.offered, ReplySort::Offered.has(reply));
-        self.unfilled = raised(self.unfilled, ReplySort::Unfilled.has(reply));
-        self.denied = raised(self.denied, ReplySort::Denied.has(reply));
-        self.told = raised(self.told, ReplySort::Told.has(reply));
-        self.refused = raised(self.refused, ReplySort::Refused.has(reply));
+        self.done = raised(self.done, sort.is(ReplySort::Done));
+        self.offered = raised(self.offered, sort.is(ReplySort::Offered));
+        self.unfilled = raised(self.unfilled, sort.is(ReplySort::Unfilled));
+        self.denied = raised(self.denied, sort.is(ReplySort::Denied));
+        self.told = raised(self.told, sort.is(ReplySort::Told));
+        self.refused = raised(self.refused, sort.is(ReplySort::Refused));
         self.moment = entry.moment();
     }
 
