@@ -1,4 +1,4 @@
-ghost use Rattle.std.specs.Prelude.{◌≡◌};
+ghost use Rattle.std.specs.Prelude.{◌≡◌, false, IsTrue};
 ghost use Rattle.std.specs.Option.{SomeIff};
 ghost use Rattle.std.specs.Bool.{Decides};
 ghost use Rattle.desk_model.specs.statements.Statement.{stated_of};
@@ -41,6 +41,23 @@ impl Stated {
             Some(Stated { minute, cmd })
         } else {
             None
+        }
+    }
+
+    /// Takes this command, stated at this minute, in place of what stood here; false where one of them has not the form that `new` asks
+    /// for, and then nothing changes. It is `new` without moving the command about.
+    #[inline]
+    pub fn put(&mut self, minute: Minute, cmd: &Cmd) -> bool
+        ensures fits { Decides result (IsStated (stated_of minute cmd.now)) }
+        ensures put { IsTrue result → self.new ≡ stated_of minute cmd.now }
+        ensures same { result ≡ false → self.new ≡ self.old }
+    {
+        if minute.is_in_years() && is_command(cmd) {
+            self.minute = minute;
+            self.cmd = *cmd;
+            true
+        } else {
+            false
         }
     }
 
