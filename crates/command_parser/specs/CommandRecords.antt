@@ -1,5 +1,6 @@
 -- Records of commands, read one after another.
-use Rattle.std.specs.Prelude.{◌≡◌, ℕ, ◌<◌, ◌≤◌, ◌+◌, IfSome, List, [], ◌∷◌, ◌++◌, length}
+use Rattle.std.specs.Prelude.{◌≡◌, ℕ, ◌<◌, ◌≤◌, ◌+◌, IfSome, Option, List, [], ◌∷◌, ◌++◌, length}
+use Rattle.std.specs.Borrow.{Bor}
 use Rattle.record_rows.specs.Rows.{HasLeft, records_of}
 use Rattle.desk_model.specs.statements.Statement.{StatedValue}
 use Rattle.command_parser.specs.declared.command_records.CommandRecords.{CommandRecords}
@@ -7,14 +8,21 @@ use Rattle.command_parser.specs.declared.limits.TheConstants.{COMMAND_LIMIT}
 use Rattle.command_parser.specs.declared.more_fault.MoreFault.{MoreFault}
 use Rattle.command_parser.specs.declared.more_fault.MoreFault.TheVariants as fault
 use Rattle.command_parser.specs.declared.open_day.OpenDay.{OpenDay}
-use Rattle.command_parser.specs.declared.stated_record.StatedRecord.{StatedRecord}
 use Rattle.command_parser.specs.DayFile.{StateCommands, HasWrong}
 use Rattle.command_parser.specs.OpeningRecord.{StatesOpening}
 use Rattle.command_parser.specs.Spelled.{SpellsStated}
 
--- the bytes of a record that gives them out are the text of what it states
-abbrev pub IsSpelled : StatedRecord → Type 0
-IsSpelled read = IfSome read.line (λ line. SpellsStated line.now read.stated)
+-- what the record that was read last states
+abbrev pub last_stated : CommandRecords → StatedValue
+last_stated records = records.stated
+
+-- its bytes, where it gives them out
+abbrev pub last_line : CommandRecords → Option (Bor (List ℕ))
+last_line records = records.line
+
+-- these are the text of what it states
+abbrev pub IsSpelled : CommandRecords → Type 0
+IsSpelled records = IfSome (last_line records) (λ line. SpellsStated line.now (last_stated records))
 
 -- how many more records may be read
 abbrev pub records_left : CommandRecords → ℕ

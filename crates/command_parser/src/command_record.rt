@@ -1,5 +1,5 @@
 //! Commands, read from the fields of a record, and the law that a record states one.
-ghost use Rattle.std.specs.Prelude.{◌≡◌, ◌∷◌, IfSome, IfOk, IfErr, map, ℕ, List};
+ghost use Rattle.std.specs.Prelude.{◌≡◌, ◌∷◌, IfSome, IfOk, IfErr, IsTrue, false, map, ℕ, List};
 ghost use Rattle.desk_model.specs.declared.command.Cmd.{Cmd as CmdValue};
 ghost use Rattle.desk_model.specs.statements.Statement.{StatedValue};
 ghost use Rattle.command_parser.specs.Spelled.{SpellsCommand, StatesCommand};
@@ -67,6 +67,39 @@ pub fn stated_by(last: &mut LastMinute, minute: &[u8], command: &[&[u8]]) -> Opt
     match read_cmd(last, command) {
         Some(cmd) => Stated::new(minute, cmd),
         None => None,
+    }
+}
+
+/// Puts what a record's fields state in place of what `stated` has, which spares its being moved about; false where they state nothing, and
+/// then it stays.
+pub(crate) fn put_stated_by(stated: &mut Stated, last: &mut LastMinute, fields: &[&[u8]]) -> bool
+    ensures some { IsTrue result → StatesCommand (map (λ field. field.now) fields.now) stated.new }
+    ensures only { (s : StatedValue) → StatesCommand (map (λ field. field.now) fields.now) s → IsTrue result }
+    ensures same { result ≡ false → stated.new ≡ stated.old }
+{
+    let [minute, command @ ..] = fields else {
+        return false;
+    };
+    put_stated(stated, last, minute, command)
+}
+
+/// The same of what the text of a minute and the fields of a command state.
+pub fn put_stated(
+    stated: &mut Stated,
+    last: &mut LastMinute,
+    minute: &[u8],
+    command: &[&[u8]],
+) -> bool
+    ensures some { IsTrue result → StatesCommand (minute.now ∷ map (λ field. field.now) command.now) stated.new }
+    ensures only { (s : StatedValue) → StatesCommand (minute.now ∷ map (λ field. field.now) command.now) s → IsTrue result }
+    ensures same { result ≡ false → stated.new ≡ stated.old }
+{
+    let Some(minute) = last.read(minute) else {
+        return false;
+    };
+    match &read_cmd(last, command) {
+        Some(cmd) => stated.put(minute, cmd),
+        None => false,
     }
 }
 

@@ -28,7 +28,7 @@ mod table_of_records;
 mod word;
 
 pub use command_line::{read_command, read_next_command};
-pub use command_record::{a_record_states_one_command, read_record, stated_by};
+pub use command_record::{a_record_states_one_command, put_stated, read_record, stated_by};
 pub use command_records::CommandRecords;
 pub use day_fault::DayFault;
 pub use day_file::{DayFile, bytes_are_one_day_file, read_day};
@@ -40,7 +40,7 @@ pub use open_day::{OpenDay, an_open_day_is_read_by_its_commands};
 pub use opening_record::opening_of;
 pub use read_fail::ReadFail;
 pub use spelled_event::read_kind;
-pub use stated_record::{StatedRecord, a_plain_record_is_its_statement};
+pub use stated_record::a_plain_record_is_its_statement;
 pub use table_of_records::{
     a_record_is_wrong_at_one_field, the_table_has_just_the_records_of_commands,
 };

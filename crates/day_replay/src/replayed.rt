@@ -52,10 +52,11 @@ fn replay_records<'a, C: DeskCore, T: DayKept<'a>>(
 {
     loop {
         match records.next() {
-            Ok(Some(read)) => {
-                kept.keep(&core.step(0, read.stated), read.line, records.last_minute())?;
+            Ok(true) => {
+                let entry = core.step(0, *records.stated());
+                kept.keep(&entry, records.line(), records.last_minute())?;
             }
-            Ok(None) => return Ok(()),
+            Ok(false) => return Ok(()),
             Err(fault) => return Err(fault),
         }
     }

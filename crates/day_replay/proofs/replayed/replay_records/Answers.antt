@@ -1,12 +1,13 @@
 use Rattle.std.proofs.Common.{[], ◌∷◌, ◌++◌, sym, subst, arith}
 use Rattle.desk_model.specs.histories.History.{opened}
 use Rattle.command_parser.specs.declared.limits.TheConstants.{COMMAND_LIMIT}
+use Rattle.command_parser.specs.CommandRecords.{last_line, last_stated}
 use Rattle.day_replay.proofs.HistoryLemmas.{goes_on-none, goes_on-last}
 use Rattle.day_replay.proofs.ReplayLemmas.{HasReplayed-few, IsTextOf-next, caller-next}
 use Rattle.day_replay.proofs.replayed.replay_records.Goals as goal
 
-pub loop-read-init : goal.loop-read-init
-loop-read-init g c = record {
+pub loop-entry-init : goal.loop-entry-init
+loop-entry-init g c = record {
   left = c.requires;
   so_far = λ rest o read stands kept.
       let start = sym (goes_on-none (opened o)) in
@@ -18,34 +19,34 @@ loop-read-init g c = record {
       };
 }
 
-pub loop-read-preserved : goal.loop-read-preserved
-loop-read-preserved g c =
-    let stated = c.in-Ok-Some.read.stated in
+pub loop-entry-preserved : goal.loop-entry-preserved
+loop-entry-preserved g c =
+    let stated = last_stated c.next.new.self in
     record {
-      left = omega (arith, c.step.ensures.room, c.loop-read.invariant.left, rw c.in-Ok-Some.field-0-is at c.in-Ok-Some.ensures.left);
+      left = omega (arith, c.step-entry.ensures.room, c.loop-entry.invariant.left, c.in-Ok-true.ensures.left c.in-Ok-true.field-0-test);
       so_far = λ rest o read stands kept.
-          let so = c.loop-read.invariant.so_far rest o read stands kept in
-          let answer = c.step.ensures.answer _ so.stands in
-          let next = goes_on-last (opened o) so.commands stated c.step.result answer in
-          let text = IsTextOf-next _ stated c.in-Ok-Some.read.line c.step.result answer (rw c.in-Ok-Some.field-0-is at c.in-Ok-Some.ensures.spelled) in
+          let so = c.loop-entry.invariant.so_far rest o read stands kept in
+          let answer = rw c.stated.ensures at (c.step-entry.ensures.answer _ so.stands) in
+          let next = goes_on-last (opened o) so.commands stated c.step-entry.result answer in
+          let text = IsTextOf-next _ stated (last_line c.next.new.self) c.step-entry.result answer (c.in-Ok-true.ensures.spelled c.in-Ok-true.field-0-test) in
           record {
             commands = so.commands ++ stated ∷ [];
-            read = rw c.in-Ok-Some.field-0-is at (c.in-Ok-Some.ensures.reads 2 COMMAND_LIMIT rest so.commands so.read);
-            stands = subst (g.C.DeskCore.stands c.step.new.self) next (c.step.ensures.stands _ so.stands);
-            kept = subst (g.T.DayKept.kept_of c.keep.new.self) next (c.in_ok-keep-in-Ok-Some.ensures _ so.kept (HasReplayed-few rest o so.commands _ so.read) (caller-next _ stated c.step.result answer) text);
+            read = rw c.in-Ok-true.field-0-test at (c.in-Ok-true.ensures.reads 2 COMMAND_LIMIT rest so.commands so.read);
+            stands = subst (g.C.DeskCore.stands c.step-entry.new.self) next (c.step-entry.ensures.stands _ so.stands);
+            kept = subst (g.T.DayKept.kept_of c.keep.new.self) next (c.in_ok-keep-in-Ok-true.ensures _ so.kept (HasReplayed-few rest o so.commands _ so.read) (caller-next _ stated c.step-entry.result answer) text);
           };
     }
 
-pub returns-in-Ok-None : goal.returns-in-Ok-None
-returns-in-Ok-None g c = λ rest o read stands kept.
-    let so = c.loop-read.invariant.so_far rest o read stands kept in
+pub returns-in-Ok-false : goal.returns-in-Ok-false
+returns-in-Ok-false g c = λ rest o read stands kept.
+    let so = c.loop-entry.invariant.so_far rest o read stands kept in
     record {
       commands = so.commands;
-      states = rw c.in-Ok-None.field-0-is at (c.in-Ok-None.ensures.reads 2 COMMAND_LIMIT rest so.commands so.read);
+      states = rw c.in-Ok-false.field-0-test at (c.in-Ok-false.ensures.reads 2 COMMAND_LIMIT rest so.commands so.read);
       is = so.kept;
     }
 
 pub returns-in-Err : goal.returns-in-Err
 returns-in-Err g c = λ rest o read stands kept.
-    let so = c.loop-read.invariant.so_far rest o read stands kept in
+    let so = c.loop-entry.invariant.so_far rest o read stands kept in
     c.in-Err.ensures.fault 2 COMMAND_LIMIT rest so.commands so.read
