@@ -1,7 +1,7 @@
 -- Where the filled slots end.
-use Rattle.std.proofs.Common.{◌≡◌, ℕ, zero, suc, ◌+◌, ◌-◌, ◌<◌, ◌≤◌, inl, inr, true, Option, None, Some, is_some, List, [], ◌∷◌, ◌++◌, length, take, replicate, set, if◌then◌else◌, ◌&&◌, ◌==◌, is_none, refl, sym, ap, subst, ◌∙◌, arith}
+use Rattle.std.proofs.Common.{◌≡◌, ℕ, zero, suc, ◌+◌, ◌-◌, ◌<◌, ◌≤◌, inl, inr, true, nat_lt, Option, None, Some, is_some, List, [], ◌∷◌, ◌++◌, length, replicate, set, if◌then◌else◌, ◌&&◌, ◌==◌, is_none, refl, sym, ap, subst, ◌∙◌, arith}
 use Rattle.std.specs.List.{filter}
-use Rattle.std.proofs.lemmas.Bool.{cases_order, cases_lt, cases_eq, eq-eqb, ne_eqb, false≢true}
+use Rattle.std.proofs.lemmas.Bool.{cases_order, cases_lt, cases_eq, eq-eqb, ne_eqb, lt-ltb, le-ltb, false≢true}
 use Rattle.std.proofs.lemmas.List.{length-append, length-replicate}
 use Rattle.slot_tree.specs.declared.slot.Slot.{Slot}
 use Rattle.slot_tree.specs.Slots.{slot_at, filled, filled_end, compacted}
@@ -118,6 +118,13 @@ filled_end-compacted slots = filled_end-is _ _ record {
   before = λ some. filter-before slots (length slots - length (filter is_some slots)) (length (filter is_some slots) - 1) (omega (arith, some));
 }
 
+-- a slot is filled exactly where it is one of as many at the front as are filled
+pub front-filled : (slots : List (Option Slot)) (s : ℕ) → nat_lt s (length (filter is_some slots)) ≡ is_some (slot_at (compacted slots) s)
+front-filled slots s = elim (cases_lt s (length (filter is_some slots))) [
+  | inl before ↦ lt-ltb s _ before ∙ sym (filter-before slots (length slots - length (filter is_some slots)) s before)
+  | inr behind ↦ le-ltb s _ behind ∙ ap is_some (sym (filter-after slots (length slots - length (filter is_some slots)) s behind))
+]
+
 few : (slots : List (Option Slot)) → length (filter is_some slots) ≤ length slots
 few [] = omega arith
 few (None ∷ xs) = omega (arith, few xs)
@@ -137,16 +144,10 @@ filled_end-few slots = elim (cases_lt (length slots) (filled_end slots)) [
 
 -- ---- in order
 
-pub filled-none : (slots : List (Option Slot)) → ((s : ℕ) → slot_at slots s ≡ None) → filled slots ≡ []
+filled-none : (slots : List (Option Slot)) → ((s : ℕ) → slot_at slots s ≡ None) → filled slots ≡ []
 filled-none [] none = refl
 filled-none (None ∷ xs) none = filled-none xs (λ s. none (suc s))
 filled-none (Some x ∷ xs) none = absurd (let is : Some x ≡ None = none 0 in cc)
-
-pub filled_take-none : (slots : List (Option Slot)) (n : ℕ) → ((s : ℕ) → slot_at slots s ≡ None) → filled (take n slots) ≡ []
-filled_take-none slots zero none = refl
-filled_take-none [] (suc n) none = refl
-filled_take-none (None ∷ xs) (suc n) none = filled_take-none xs n (λ s. none (suc s))
-filled_take-none (Some x ∷ xs) (suc n) none = absurd (let is : Some x ≡ None = none 0 in cc)
 
 filled-behind : (slots : List (Option Slot)) (e : ℕ) (x : Slot) → e < length slots → ((s : ℕ) → e ≤ s → slot_at slots s ≡ None) → filled (set slots e (Some x)) ≡ filled slots ++ x ∷ []
 filled-behind [] e x within after = absurd (omega (arith, within))

@@ -44,7 +44,7 @@ finds-ready slots nodes from m many at many_is long keys small found = record {
   behind = omega (arith, found.behind);
   ready = key-ready (slot_at slots (at - many)) m small (omega (arith, found.below, here));
   first = λ s low high.
-      let is = (keys s (omega (arith, high, found.within, long, many_is))).0 in
+      let is = keys s (omega (arith, high, found.within, long, many_is)) in
       let position : many + s ≡ length slots + s = omega (arith, many_is) in
       let same : slice_index nodes (many + s) ≡ slice_index nodes (length slots + s) = ap (slice_index nodes) position in
       key-later (slot_at slots s) m (omega (arith, found.first (many + s) (omega (arith, low)) (omega (arith, high)), is, same));
@@ -53,7 +53,7 @@ finds-ready slots nodes from m many at many_is long keys small found = record {
     here : slice_index nodes at ≡ key (slot_at slots (at - many))
     here =
         let position : at ≡ length slots + (at - many) = omega (arith, found.behind, many_is) in
-        ap (slice_index nodes) position ∙ (keys (at - many) (omega (arith, found.within, found.behind, long, many_is))).0
+        ap (slice_index nodes) position ∙ keys (at - many) (omega (arith, found.within, found.behind, long, many_is))
 
 pub finds-none : (slots : List (Option Slot)) (nodes : List ℕ) (from m many : ℕ) → many ≡ length slots → length nodes ≡ 2 * length slots → KeysStand slots nodes
     → FindsBelow nodes (many + from) m None → FindsReady slots from m None
@@ -61,7 +61,7 @@ finds-none slots nodes from m many many_is long keys none s low = elim (cases_lt
   | inl within ↦
       let position : many + s ≡ length slots + s = omega (arith, many_is) in
       let same : slice_index nodes (many + s) ≡ slice_index nodes (length slots + s) = ap (slice_index nodes) position in
-      key-later (slot_at slots s) m (omega (arith, none (many + s) (omega (arith, low)) (omega (arith, within, long, many_is)), (keys s within).0, same))
+      key-later (slot_at slots s) m (omega (arith, none (many + s) (omega (arith, low)) (omega (arith, within, long, many_is)), keys s within, same))
   | inr beyond ↦ ap (is_ready m) (past slots s beyond)
 ]
 
@@ -93,7 +93,7 @@ keeps-new height many low is = record {
       let long = length-replicate {A = Option Slot} many None in
       let number : slice_index (replicate (2 * many) EMPTY) (length (replicate {A = Option Slot} many None) + s) ≡ EMPTY = get_or-replicate (2 * many) (length (replicate {A = Option Slot} many None) + s) EMPTY 0 (omega (arith, within, long)) in
       let slot : slot_at (replicate many None) s ≡ None = get_or-replicate many s None None (omega (arith, within, long)) in
-      rw (number, slot) (refl, refl);
+      rw (number, slot) refl;
   ends = sym (filled_end-empty many);
 }
   where

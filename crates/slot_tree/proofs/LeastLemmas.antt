@@ -14,7 +14,7 @@ AreLeastBut nodes odd = (n : ℕ) → 1 ≤ n → 2 * n + 1 < length nodes → n
 more : (i p : ℕ) → (i + 1) * p ≡ i * p + p
 more i p = add-mul i 1 p ∙ ap (λ q. i * p + q) (one-mul p)
 
-pow_twice : (t n : ℕ) → n ≡ t + 1 → 2 ^ n ≡ 2 * 2 ^ t
+pub pow_twice : (t n : ℕ) → n ≡ t + 1 → 2 ^ n ≡ 2 * 2 ^ t
 pow_twice t n is = ap (λ k. 2 ^ k) is ∙ pow-add 2 t 1 ∙ mul_comm (2 ^ t) 2
 
 twice : (i t n : ℕ) → n ≡ t + 1 → i * 2 ^ n ≡ 2 * (i * 2 ^ t)
@@ -26,7 +26,7 @@ at_least i t = le-mul_of_pos_right i (pow_pos t)
 -- ---- down
 
 -- a node has no more than any of the lowest below it
-pub least_below : (nodes : List ℕ) (t at : ℕ) → AreLeast nodes → 1 ≤ at → (at + 1) * 2 ^ t ≤ length nodes
+least_below : (nodes : List ℕ) (t at : ℕ) → AreLeast nodes → 1 ≤ at → (at + 1) * 2 ^ t ≤ length nodes
     → (a : ℕ) → at * 2 ^ t ≤ a → a < (at + 1) * 2 ^ t → slice_index nodes at ≤ slice_index nodes a
 least_below nodes zero at least some within a from to =
     let same : at ≡ a = omega (arith, from, to) in

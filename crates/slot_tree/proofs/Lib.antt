@@ -2,5 +2,5 @@ pub mod LeastLemmas
 pub mod SlotLemmas
 pub mod EndLemmas
 pub mod KeepLemmas
-pub mod CountLemmas
+pub mod WordLemmas
 pub mod RestLemmas

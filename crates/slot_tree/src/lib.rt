@@ -2,7 +2,7 @@
 #![tactic(auto)]
 
 mod counted_nodes;
-mod keys;
+mod filled_slots;
 mod limits;
 mod nodes;
 mod search;
@@ -10,6 +10,7 @@ mod slot;
 mod slot_tree;
 mod slots;
 mod steps;
+mod word;
 
 pub use limits::SLOT_LIMIT;
 pub use slot::Slot;

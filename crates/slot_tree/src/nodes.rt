@@ -1,6 +1,6 @@
 //! The nodes of a tree of slots, each with the lesser number of the two below it.
 ghost use Rattle.std.specs.Prelude.{◌≡◌, ◌≢◌, ℕ, ◌+◌, ◌*◌, ◌≤◌, ◌<◌, length, slice_index, vec_capacity};
-ghost use Rattle.slot_tree.specs.Nodes.{IsKeyOf, AreLeast, KeysStand};
+ghost use Rattle.slot_tree.specs.Nodes.{key, AreLeast, KeysStand};
 
 use crate::Slot;
 
@@ -9,7 +9,7 @@ pub(crate) const EMPTY: u32 = 1 << 28;
 
 /// The number that the lowest node of a slot has.
 pub(crate) fn key_of(slot: &Option<Slot>) -> u32
-    ensures { IsKeyOf slot.now result }
+    ensures { result ≡ key slot.now }
 {
     match slot {
         Some(held) => held.ready.number() as u32,

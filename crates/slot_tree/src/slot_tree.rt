@@ -1,11 +1,13 @@
 ghost use Rattle.std.specs.Prelude.{◌≡◌, ℕ, ◌+◌, ◌-◌, ◌*◌, ◌^◌, ◌<◌, ◌≤◌, IfOk, IfSome, true, None, Some, [], ◌∷◌, ◌++◌, is_some, length, take, replicate, slice_set, vec_capacity};
 ghost use Rattle.slot_tree.specs.Slots.{slot_at, with_ready, filled, filled_end, compacted};
 ghost use Rattle.slot_tree.specs.Search.{FindsReady, FindsFilled};
-ghost use Rattle.slot_tree.specs.Nodes.{AreLeast, AreFloorsOf, KeysStand, AreKeys};
+ghost use Rattle.slot_tree.specs.Nodes.{AreLeast, KeysStand};
+ghost use Rattle.slot_tree.specs.Words.{TellFilled};
 ghost use Rattle.slot_tree.specs.Rest.{all_slots, all_nodes, HasRoom};
+ghost use Rattle.slot_tree.specs.declared.limits.TheConstants.{SLOT_LIMIT};
 
 use crate::counted_nodes::CountedNodes;
-use crate::keys::{BLOCK, filled_as, filled_before};
+use crate::filled_slots::FilledSlots;
 use crate::nodes::{EMPTY, fill, key_of, mend, write};
 use crate::search::first_below;
 use crate::slots::{end_before, slot_count};
@@ -18,14 +20,16 @@ use std::sync::ledger::Ledger;
 /// Slots in a row, 2^k of them, each empty or filled by a person and the minute from which the person is ready. Numbers of
 /// slots count from 0. A contract sees the list of the slots.
 ///
-/// Slots are filled behind the last filled one, so the filled ones stand in the order in which they were filled. Memory for all
-/// is taken when they are made, and is not written to before the first is filled, or they are compacted.
+/// Slots are filled behind the last filled one, so the filled ones stand in the order in which they were filled. A bit of each tells
+/// whether it is filled. Memory for all is taken when they are made, and is not written to before the first is filled, or they are
+/// compacted.
 #[derive(Drop)]
 pub struct SlotTree {
     height: u32,
     next: usize,
     slots: Vec<Option<Slot>>,
     nodes: Vec<u32>,
+    filled: FilledSlots,
 }
 
 impl Model for SlotTree {
@@ -40,7 +44,7 @@ impl Model for SlotTree {
     ghost view = { λ t. all_slots t.height t.slots.items };
 
     ghost invariant = { λ t. IsKept t.height t.next t.slots.items (vec_capacity t.slots)
-        t.nodes.items (vec_capacity t.nodes) };
+        t.nodes.items (vec_capacity t.nodes) t.filled.words };
 }
 
 impl SlotTree {
@@ -55,6 +59,7 @@ impl SlotTree {
             next: 0,
             slots: Vec::with_capacity(alloc, many)?,
             nodes: Vec::with_capacity(alloc, 2 * many)?,
+            filled: FilledSlots::none(),
         })
     }
 
@@ -70,6 +75,7 @@ impl SlotTree {
         put(
             &mut self.slots,
             &mut self.nodes,
+            &mut self.filled,
             slot,
             Some(Slot { person, ready }),
         );
@@ -83,7 +89,13 @@ impl SlotTree {
         ensures { self.new ≡ slice_set self.old slot None }
     {
         keep_all(&mut self.slots, &mut self.nodes, self.height);
-        put(&mut self.slots, &mut self.nodes, slot as usize, None);
+        put(
+            &mut self.slots,
+            &mut self.nodes,
+            &mut self.filled,
+            slot as usize,
+            None,
+        );
         self.next = end_before(&self.slots, self.next);
     }
 
@@ -98,6 +110,7 @@ impl SlotTree {
             put(
                 &mut self.slots,
                 &mut self.nodes,
+                &mut self.filled,
                 slot as usize,
                 Some(Slot { person, ready }),
             );
@@ -138,38 +151,18 @@ impl SlotTree {
         }
     }
 
-    // The numbers of the slots in order, and for each 64 of them the least; with fewer slots there is no such block. `None` only
-    // where no slot is filled.
-    fn keys(&self) -> Option<(&[u32], &[u32])>
-        ensures keys { IfSome result (λ found. AreKeys self.now found.0.now) }
-        ensures blocks { IfSome result (λ found. AreFloorsOf found.1.now found.0.now) }
-        ensures none { result ≡ None → (slot : ℕ) → slot_at self.now slot ≡ None }
-    {
-        if self.next == 0 {
-            return None;
-        }
-        let many = slot_count(self.height);
-        let blocks = many / BLOCK;
-        Some((&self.nodes[many..], &self.nodes[blocks..2 * blocks]))
-    }
-
     /// How many of the slots before this one are filled.
     pub fn before(&self, slot: u32) -> u32
         ensures { result ≡ length (filled (take slot self.now)) }
     {
-        match self.keys() {
-            Some((keys, blocks)) => filled_before(keys, blocks, slot as usize),
-            None => 0,
-        }
+        self.filled.count_before(slot)
     }
 
     /// The slot that is filled as this number from the front, from 1; `None` exactly where there is none.
     pub fn nth(&self, position: u32) -> Option<u32>
         ensures { FindsFilled self.now position result }
     {
-        let (keys, blocks) = self.keys()?;
-        let at = filled_as(keys, blocks, position)?;
-        Some(at as u32)
+        self.filled.nth(position)
     }
 
     /// A tree with the same slots; `NoMemory` where there is none for it.
@@ -186,6 +179,7 @@ impl SlotTree {
             next: self.next,
             slots,
             nodes,
+            filled: self.filled,
         })
     }
 
@@ -208,6 +202,7 @@ impl SlotTree {
         keep_all(&mut self.slots, &mut self.nodes, self.height);
         fill(&mut self.nodes, &self.slots);
         mend(&mut self.nodes);
+        self.filled.mark_front(self.next);
     }
 }
 
@@ -241,20 +236,30 @@ fn keep_all(slots: &mut Vec<Option<Slot>>, nodes: &mut Vec<u32>, height: u32)
     }
 }
 
-// Writes a slot, and its number into the nodes.
-fn put(slots: &mut Vec<Option<Slot>>, nodes: &mut Vec<u32>, slot: usize, value: Option<Slot>)
+// Writes a slot, its number into the nodes, and whether it is filled.
+fn put(
+    slots: &mut Vec<Option<Slot>>,
+    nodes: &mut Vec<u32>,
+    filled: &mut FilledSlots,
+    slot: usize,
+    value: Option<Slot>,
+)
     requires within { slot < length slots.old.items }
     requires twice { length nodes.old.items ≡ 2 * length slots.old.items }
     requires least { AreLeast nodes.old.items }
     requires keys { KeysStand slots.old.items nodes.old.items }
+    requires few { slot < SLOT_LIMIT }
+    requires told { TellFilled slots.old.items filled.old.words }
     ensures slots { slots.new.items ≡ slice_set slots.old.items slot value }
     ensures length { length nodes.new.items ≡ length nodes.old.items }
     ensures least { AreLeast nodes.new.items }
     ensures keys { KeysStand slots.new.items nodes.new.items }
+    ensures told { TellFilled slots.new.items filled.new.words }
     ensures slots_room { vec_capacity slots.new ≡ vec_capacity slots.old }
     ensures nodes_room { vec_capacity nodes.new ≡ vec_capacity nodes.old }
 {
     slots[slot] = value;
     let number = key_of(&value);
     write(nodes, slots.len() + slot, number);
+    filled.mark(slot, value.is_some());
 }

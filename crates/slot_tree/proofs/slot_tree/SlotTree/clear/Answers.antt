@@ -25,7 +25,8 @@ end_before-self-inside-requires-clause-after c s low =
 
 pub invariant_of-self : goal.invariant_of-self
 invariant_of-self c =
-    kept-written _ _ _ _ _ _ _ _ _ _ _ _ _ _ _ c.self.invariant c.keep_all.ensures.slots c.keep_all.ensures.nodes
+    kept-written _ _ _ _ _ _ _ _ _ _ _ _ _ _ _ _ _ c.self.invariant c.keep_all.ensures.slots c.keep_all.ensures.nodes
     (omega (arith, c.keep_all.ensures.slots_room, c.put.ensures.slots_room)) (omega (arith, c.keep_all.ensures.nodes_room, c.put.ensures.nodes_room))
     c.put.ensures.slots c.put.ensures.length c.put.ensures.least c.put.ensures.keys
     (c.end_before-self-inside.ensures ∙ ap filled_end (c.deref.ensures.value ∙ c.put.ensures.slots))
+    c.put.ensures.told

@@ -1,13 +1,13 @@
-use Rattle.std.proofs.Common.{None, Some, length, refl, ap, arith}
-use Rattle.slot_tree.proofs.CountLemmas.{finds-filled}
-use Rattle.slot_tree.proofs.EndLemmas.{filled-none}
+use Rattle.std.proofs.Common.{subst, arith}
+use Rattle.slot_tree.specs.Search.{FindsFilled}
+use Rattle.slot_tree.specs.Rest.{all_slots}
+use Rattle.slot_tree.proofs.KeepLemmas.{size-few}
+use Rattle.slot_tree.proofs.WordLemmas.{finds-filled}
 use Rattle.slot_tree.proofs.slot_tree.SlotTree.nth.Goals as goal
 
-pub returns-in_err-keys : goal.returns-in_err-keys
-returns-in_err-keys c = rw c.from_residual.ensures (λ some. omega (arith, some, ap length (filled-none c.args.self.now (c.in_err-keys.ensures.none refl))))
-
-pub returns-in_err-at : goal.returns-in_err-at
-returns-in_err-at c = rw c.from_residual-in_err-at.ensures (finds-filled _ _ c.args.position None c.in_ok-keys.ensures.keys c.in_err-at.ensures)
-
 pub returns : goal.returns
-returns c = finds-filled _ _ c.args.position (Some c.in_ok-at.at) c.in_ok-keys.ensures.keys c.in_ok-at.ensures
+returns c =
+    let slots = all_slots c.self.inside.height c.self.inside.slots.items in
+    let few = size-few c.self.inside.height c.self.invariant.stand.low in
+    subst (λ xs. FindsFilled xs c.args.position c.nth.result) c.self.view_is
+    (finds-filled slots c.self.inside.filled.words c.args.position c.nth.result (omega (arith, few, c.self.invariant.stand.many)) c.self.invariant.told c.nth.ensures)

@@ -15,6 +15,6 @@ invariant_of-self c =
     let ends : c.self.inside.next ≡ filled_end (set c.keep_all.new.slots.items c.args.slot (Some x)) =
     c.self.invariant.stand.ends ∙ sym (filled_end-kept slots c.args.slot x (slot_at-within slots c.args.slot filled) filled)
     ∙ ap (λ xs. filled_end (set xs c.args.slot (Some x))) (sym c.keep_all.ensures.slots) in
-    kept-written _ _ _ _ _ _ _ _ _ _ _ _ _ _ _ c.self.invariant c.keep_all.ensures.slots c.keep_all.ensures.nodes
+    kept-written _ _ _ _ _ _ _ _ _ _ _ _ _ _ _ _ _ c.self.invariant c.keep_all.ensures.slots c.keep_all.ensures.nodes
     (omega (arith, c.keep_all.ensures.slots_room, c.put.ensures.slots_room)) (omega (arith, c.keep_all.ensures.nodes_room, c.put.ensures.nodes_room))
-    c.put.ensures.slots c.put.ensures.length c.put.ensures.least c.put.ensures.keys ends
+    c.put.ensures.slots c.put.ensures.length c.put.ensures.least c.put.ensures.keys ends c.put.ensures.told

@@ -1,0 +1,9 @@
+use Rattle.std.proofs.Common.{◌≡◌, ◌*◌, ◌≤◌}
+use Rattle.slot_tree.specs.Words.{bits_before}
+use Rattle.slot_tree.proofs.filled_slots.FilledSlots.count_before.Given as goal
+
+abbrev pub invariant-loop-w : goal.invariant-loop-w
+invariant-loop-w l = record {
+  counted : l.before ≡ bits_before l.self.words (64 * l.w);
+  few : l.before ≤ 64 * l.w;
+}
