@@ -7,10 +7,11 @@ ghost use Rattle.audit_desk.specs.Resumed.{Resumes};
 
 use crate::lines::first_line;
 use crate::{Outcome, Verdict};
+use command_parser::some_statement;
 use desk_model::{DeskCore, Entry};
-use desk_text::{each_line_ends_once, read_entry, read_statement};
+use desk_text::{Statement, each_line_ends_once, put_statement, read_entry};
 use line_writer::{LineText, fill_with_outcome};
-use record_rows::LastMinute;
+use record_rows::{Fields, LastMinute};
 
 // What the desk answered by an entry.
 fn outcome_of(entry: &Entry) -> Outcome
@@ -39,9 +40,14 @@ pub(crate) fn audit_entries<C: DeskCore>(core: &mut C, text: &[u8]) -> Result<u3
     let mut count: u32 = 0;
     let mut right_outcome = LineText::new();
     let mut last = LastMinute::new();
+    let mut fields = Fields::new();
+    let mut statement = Statement {
+        caller: 0,
+        stated: some_statement(),
+    };
     while !left.is_empty() {
         let (line, behind) = first_line(left);
-        let Some((statement, outcome)) = read_statement(&mut last, line) else {
+        let Some(outcome) = put_statement(&mut statement, &mut fields, &mut last, line) else {
             return Err(Verdict::Unreadable(count + 2));
         };
         let right = core.step(statement.caller, statement.stated);

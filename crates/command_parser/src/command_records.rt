@@ -6,17 +6,11 @@ ghost use Rattle.desk_model.specs.statements.Statement.{StatedValue};
 
 use crate::more_fault::MoreFault;
 use crate::record_row::{put_stated_in_row, wrong_in_row};
-use desk_base::{Minute, NoMemory, PersonNo, YEARS_BEGIN};
-use desk_model::{Cmd, Stated};
+use crate::stated_record::some_statement;
+use desk_base::NoMemory;
+use desk_model::Stated;
 use record_rows::{Fields, LastMinute, Row, Rows};
 use std::alloc::Global;
-
-// Some statement, for another to be put in its place.
-fn some_statement() -> Stated {
-    let minute = Minute::new(YEARS_BEGIN).unwrap();
-    let person = PersonNo::new(1).unwrap();
-    Stated::new(minute, Cmd::Drop { person }).unwrap()
-}
 
 /// Records of commands that are still to be read, and what the one that was read last states.
 pub struct CommandRecords<'a> {

@@ -40,7 +40,7 @@ pub use open_day::{OpenDay, an_open_day_is_read_by_its_commands};
 pub use opening_record::opening_of;
 pub use read_fail::ReadFail;
 pub use spelled_event::read_kind;
-pub use stated_record::a_plain_record_is_its_statement;
+pub use stated_record::{a_plain_record_is_its_statement, some_statement};
 pub use table_of_records::{
     a_record_is_wrong_at_one_field, the_table_has_just_the_records_of_commands,
 };

@@ -25,5 +25,5 @@ pub use line_writer::{
     LineText, fill_with_entry, fill_with_outcome, write_bar, write_entry, write_opening,
     write_outcome,
 };
-pub use spelled_entry::{read_entry, read_next_entry, read_statement};
+pub use spelled_entry::{put_statement, read_entry, read_next_entry};
 pub use statement::Statement;

@@ -1,5 +1,5 @@
 //! Entries, and what was stated by whom, read from lines of a journal.
-ghost use Rattle.std.specs.Prelude.{◌≡◌, ◌≤◌, ℕ, List, decimal, IfSome, IsSomeAnd};
+ghost use Rattle.std.specs.Prelude.{◌≡◌, ◌≤◌, ℕ, List, decimal, IfSome, IsSomeAnd, IsTrue};
 ghost use Rattle.desk_model.specs.declared.limits.TheConstants.{LAST_CALLER};
 ghost use Rattle.desk_model.specs.statements.Entry.{EntryValue};
 ghost use Rattle.desk_model.specs.statements.Statement.{StatedValue};
@@ -10,7 +10,7 @@ ghost use Rattle.desk_text.specs.declared.statement.Statement.{Statement as Stat
 use crate::cut::{before, behind, cut, cut_near};
 use crate::spelled_reply::read_reply;
 use crate::statement::Statement;
-use command_parser::stated_by;
+use command_parser::{a_record_states_one_command, put_stated, stated_by};
 use desk_base::read_decimal;
 use desk_model::{Entry, LAST_CALLER, Stated};
 use record_rows::{Fields, LastMinute, fill_with_line};
@@ -40,21 +40,28 @@ pub fn read_next_entry(
     read_parts(stated_last, moment_last, caller, stated, moment, reply)
 }
 
-/// Who stated what by a line of the journal, read as far as that stands in it, `caller|command|`, and the outcome that stands
-/// behind it, as it is. It is `None` where the line begins otherwise. `last` is the minute that the lines before it stated last: it
-/// only spares work.
-pub fn read_statement<'a>(last: &mut LastMinute, line: &'a [u8]) -> Option<(Statement, &'a [u8])>
-    ensures some { IfSome result (λ read. BeginsEntry line.now read.1.now read.0) }
+/// Puts who stated what by a line of the journal in place of what `statement` has, read as far as that stands in it, `caller|command|`,
+/// and gives the outcome that stands behind it, as it is. It is `None` where the line begins otherwise, and then `statement` means
+/// nothing. The fields of the command are put in place of those that `fields` has, and `last` is the minute that the lines before it
+/// stated last: both only spare work.
+pub fn put_statement<'a>(
+    statement: &mut Statement,
+    fields: &mut Fields<'a>,
+    last: &mut LastMinute,
+    line: &'a [u8],
+) -> Option<&'a [u8]>
+    ensures some { IfSome result (λ outcome. BeginsEntry line.now outcome.now statement.new) }
     ensures only { (s : StatementValue) (outcome : List ℕ) → BeginsEntry line.now outcome s
-        → IsSomeAnd result (λ read. (read.0 ≡ s) × (read.1.now ≡ outcome)) }
+        → IsSomeAnd result (λ read. (statement.new ≡ s) × (read.now ≡ outcome)) }
 {
     let (caller, rest) = cut_near(line, b'|')?;
     let (stated, outcome) = cut(rest, b'|')?;
-    let statement = Statement {
-        caller: read_caller(caller)?,
-        stated: read_stated(last, stated)?,
-    };
-    Some((statement, outcome))
+    statement.caller = read_caller(caller)?;
+    if put_stated_text(&mut statement.stated, fields, last, stated) {
+        Some(outcome)
+    } else {
+        None
+    }
 }
 
 fn read_parts(
@@ -89,6 +96,27 @@ fn read_caller(text: &[u8]) -> Option<u8>
     } else {
         None
     }
+}
+
+// Puts what was stated, and when, as `read_stated` reads it, in place of what `stated` has; false where the text is of nothing.
+fn put_stated_text<'a>(
+    stated: &mut Stated,
+    fields: &mut Fields<'a>,
+    last: &mut LastMinute,
+    text: &'a [u8],
+) -> bool
+    ensures some { IsTrue result → SpellsStated text.now stated.new }
+    ensures only { (s : StatedValue) → SpellsStated text.now s → IsTrue result × (stated.new ≡ s) }
+{
+    a_record_states_one_command();
+    let Some((minute, rest)) = text.split_at_checked(16) else {
+        return false;
+    };
+    let Some(command) = behind(rest, b",") else {
+        return false;
+    };
+    fill_with_line(fields, command);
+    put_stated(stated, last, minute, fields.as_slice())
 }
 
 // What was stated, and when: its record with plain commas, the first behind the 16 bytes of the minute.

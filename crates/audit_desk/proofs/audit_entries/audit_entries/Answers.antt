@@ -13,7 +13,7 @@ returns-in_default-clause-found g c = λ h stands none.
     let so = c.loop-left.invariant.read h stands none in
     HasUnreadable-line _ c.loop-left.left.now c.first_line.result.0.now c.first_line.result.1.now so.history _ (g.met.C.DeskCore.legal _ _ so.stands) so.read
     (some-left c.loop-left.left.now c.loop-left-test.ensures) c.each_line_ends_once.ensures.entry c.first_line.ensures.line
-    (λ e is. rw (c.in_default.is) at (c.read_statement.ensures.only _ _ (IsEntryLine-begins _ e is))) (omega (arith, so.count_is))
+    (λ e is. rw (c.in_default.is) at (c.put_statement.ensures.only _ _ (IsEntryLine-begins _ e is))) (omega (arith, so.count_is))
 
 pub returns-in_default-read_entry-clause-found : goal.returns-in_default-read_entry-clause-found
 returns-in_default-read_entry-clause-found g c = λ h stands none.
@@ -26,9 +26,9 @@ pub returns-then-ne-clause-found : goal.returns-then-ne-clause-found
 returns-then-ne-clause-found g c = λ h stands none.
     let so = c.loop-left.invariant.read h stands none in
     let line : IsEntryLine c.first_line.result.0.now c.in-Some-read_entry.entry = rw (c.in-Some-read_entry.is) at c.read_entry.ensures.some in
-    let read : (c.in-Some.statement ≡ statement_of c.in-Some-read_entry.entry) × (c.in-Some.outcome.now ≡ outcome_line c.in-Some-read_entry.entry.moment c.in-Some-read_entry.entry.reply) =
-    rw (c.in-Some.is) at (c.read_statement.ensures.only _ _ (IsEntryLine-begins _ c.in-Some-read_entry.entry line)) in
-    let answer = next-statement so.history c.in-Some-read_entry.entry c.step-right.result c.in-Some.statement read.0 (c.step-right.ensures.answer _ so.stands) in
+    let read : (c.put_statement.new.statement ≡ statement_of c.in-Some-read_entry.entry) × (c.in-Some.outcome.now ≡ outcome_line c.in-Some-read_entry.entry.moment c.in-Some-read_entry.entry.reply) =
+    rw (c.in-Some.is) at (c.put_statement.ensures.only _ _ (IsEntryLine-begins _ c.in-Some-read_entry.entry line)) in
+    let answer = next-statement so.history c.in-Some-read_entry.entry c.step-right.result c.put_statement.new.statement read.0 (c.step-right.ensures.answer _ so.stands) in
     record {
       history = so.history;
       entry = c.in-Some-read_entry.entry;
@@ -55,13 +55,13 @@ loop-left-preserved g c =
       room = omega (arith, c.step-right.ensures.room, c.loop-left.invariant.room, shorter);
       read = λ h stands none.
           let so = c.loop-left.invariant.read h stands none in
-          let begins : BeginsEntry c.first_line.result.0.now c.in-Some.outcome.now c.in-Some.statement = rw (c.in-Some.is) at c.read_statement.ensures.some in
+          let begins : BeginsEntry c.first_line.result.0.now c.in-Some.outcome.now c.put_statement.new.statement = rw (c.in-Some.is) at c.put_statement.ensures.some in
           record {
             history = with_entry so.history c.step-right.result;
             stands = c.step-right.ensures.stands _ so.stands;
             read = journal-goes_on so.history c.step-right.result _ c.loop-left.left.now c.first_line.result.0.now c.first_line.result.1.now so.read c.first_line.ensures.parts
-                (entry_line-outcome _ _ c.in-Some.statement c.step-right.result begins
-                (statement-next so.history c.step-right.result c.in-Some.statement (c.step-right.ensures.answer _ so.stands))
+                (entry_line-outcome _ _ c.put_statement.new.statement c.step-right.result begins
+                (statement-next so.history c.step-right.result c.put_statement.new.statement (c.step-right.ensures.answer _ so.stands))
                 (same-text _ _ c.if-ne.ensures ∙ c.as_slice.ensures.value ∙ c.fill_with_outcome.ensures));
             count_is = omega (arith, so.count_is, length-append so.history.entries (c.step-right.result ∷ []));
           };
