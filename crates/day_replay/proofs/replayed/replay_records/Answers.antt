@@ -1,13 +1,14 @@
-use Rattle.std.proofs.Common.{[], ◌∷◌, ◌++◌, sym, subst, arith}
+use Rattle.std.proofs.Common.{IfSome, [], ◌∷◌, ◌++◌, sym, subst, arith}
 use Rattle.desk_model.specs.histories.History.{opened}
 use Rattle.command_parser.specs.declared.limits.TheConstants.{COMMAND_LIMIT}
-use Rattle.command_parser.specs.CommandRecords.{last_line, last_stated}
+use Rattle.command_parser.specs.CommandRecords.{last_stated}
+use Rattle.command_parser.specs.Spelled.{SpellsStated}
 use Rattle.day_replay.proofs.HistoryLemmas.{goes_on-none, goes_on-last}
 use Rattle.day_replay.proofs.ReplayLemmas.{HasReplayed-few, IsTextOf-next, caller-next}
 use Rattle.day_replay.proofs.replayed.replay_records.Goals as goal
 
-pub loop-entry-init : goal.loop-entry-init
-loop-entry-init g c = record {
+pub loop-core-init : goal.loop-core-init
+loop-core-init g c = record {
   left = c.requires;
   so_far = λ rest o read stands kept.
       let start = sym (goes_on-none (opened o)) in
@@ -19,16 +20,17 @@ loop-entry-init g c = record {
       };
 }
 
-pub loop-entry-preserved : goal.loop-entry-preserved
-loop-entry-preserved g c =
+pub loop-core-preserved : goal.loop-core-preserved
+loop-core-preserved g c =
     let stated = last_stated c.next.new.self in
     record {
-      left = omega (arith, c.step-entry.ensures.room, c.loop-entry.invariant.left, c.in-Ok-true.ensures.left c.in-Ok-true.field-0-test);
+      left = omega (arith, c.step-entry.ensures.room, c.loop-core.invariant.left, c.in-Ok-true.ensures.left c.in-Ok-true.field-0-test);
       so_far = λ rest o read stands kept.
-          let so = c.loop-entry.invariant.so_far rest o read stands kept in
+          let so = c.loop-core.invariant.so_far rest o read stands kept in
           let answer = rw c.stated.ensures at (c.step-entry.ensures.answer _ so.stands) in
           let next = goes_on-last (opened o) so.commands stated c.step-entry.result answer in
-          let text = IsTextOf-next _ stated (last_line c.next.new.self) c.step-entry.result answer (c.in-Ok-true.ensures.spelled c.in-Ok-true.field-0-test) in
+          let text = IsTextOf-next _ stated c.line.result c.step-entry.result answer
+          (subst (λ l. IfSome l (λ text. SpellsStated text.now stated)) (sym c.line.ensures) (c.in-Ok-true.ensures.spelled c.in-Ok-true.field-0-test)) in
           record {
             commands = so.commands ++ stated ∷ [];
             read = rw c.in-Ok-true.field-0-test at (c.in-Ok-true.ensures.reads 2 COMMAND_LIMIT rest so.commands so.read);
@@ -39,7 +41,7 @@ loop-entry-preserved g c =
 
 pub returns-in-Ok-false : goal.returns-in-Ok-false
 returns-in-Ok-false g c = λ rest o read stands kept.
-    let so = c.loop-entry.invariant.so_far rest o read stands kept in
+    let so = c.loop-core.invariant.so_far rest o read stands kept in
     record {
       commands = so.commands;
       states = rw c.in-Ok-false.field-0-test at (c.in-Ok-false.ensures.reads 2 COMMAND_LIMIT rest so.commands so.read);
@@ -48,5 +50,5 @@ returns-in-Ok-false g c = λ rest o read stands kept.
 
 pub returns-in-Err : goal.returns-in-Err
 returns-in-Err g c = λ rest o read stands kept.
-    let so = c.loop-entry.invariant.so_far rest o read stands kept in
+    let so = c.loop-core.invariant.so_far rest o read stands kept in
     c.in-Err.ensures.fault 2 COMMAND_LIMIT rest so.commands so.read
