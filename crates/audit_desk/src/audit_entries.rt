@@ -50,7 +50,7 @@ pub(crate) fn audit_entries<C: DeskCore>(core: &mut C, text: &[u8]) -> Result<u3
         let Some(outcome) = put_statement(&mut statement, &mut fields, &mut last, line) else {
             return Err(Verdict::Unreadable(count + 2));
         };
-        let right = core.step(statement.caller, statement.stated);
+        let right = core.answer(statement.caller, &statement.stated);
         fill_with_outcome(&mut right_outcome, &mut last, &right);
         if outcome != right_outcome.as_slice() {
             let Some(entry) = &read_entry(line) else {
@@ -59,7 +59,7 @@ pub(crate) fn audit_entries<C: DeskCore>(core: &mut C, text: &[u8]) -> Result<u3
             return Err(Verdict::Wrong {
                 line: count + 2,
                 written: outcome_of(entry),
-                right: outcome_of(&right),
+                right: outcome_of(&right.to_entry()),
             });
         }
         count += 1;

@@ -3,7 +3,7 @@ ghost use Rattle.std.specs.Prelude.{◌≡◌, ◌≤◌, ◌<◌, ◌^◌};
 ghost use Rattle.desk_model.specs.histories.History.{opened};
 ghost use Rattle.day_gen.specs.Day.{day_opening};
 
-use day_gen::{DayGen, a_generated_day_grows};
+use day_gen::{DayGen, Due, a_generated_day_grows};
 use desk_model::{DeskCore, Edition, Entry};
 use fast_core::FastCore;
 use plain_core::PlainCore;
@@ -20,11 +20,11 @@ fn entries_of<C: DeskCore>(alloc: Global, core: &mut C, day: &mut DayGen) -> Opt
 {
     a_generated_day_grows();
     let mut entries = Vec::new(alloc);
-    let mut last: Option<Entry> = None;
-    while let Some(stated) = day.next(last.as_ref()) {
-        let entry = core.step(0, stated);
-        entries.push(entry).ok()?;
-        last = Some(entry);
+    let mut due = Due::Nothing;
+    while let Some(stated) = day.next(due) {
+        let entry = core.answer(0, &stated);
+        entries.push(entry.to_entry()).ok()?;
+        due = Due::after(&entry);
     }
     Some(entries)
 }

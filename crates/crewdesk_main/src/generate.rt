@@ -9,9 +9,9 @@ ghost use Rattle.day_gen.specs.Day.{day_opening, generated_day};
 ghost use Rattle.day_gen.specs.Generator.{generator_of, most_commands};
 
 use crate::write_text::write_text;
-use day_gen::{DayGen, SET_UP, a_generated_day_grows};
+use day_gen::{DayGen, Due, SET_UP, a_generated_day_grows};
 use desk_io::{Sink, Status};
-use desk_model::{DeskCore, Edition, Entry, Opening};
+use desk_model::{DeskCore, Edition, Opening};
 use fast_core::FastCore;
 use line_writer::Tally;
 use std::alloc::Global;
@@ -59,11 +59,11 @@ fn tally_of<C: DeskCore>(core: &mut C, day: &mut DayGen, opening: &Opening) -> T
 {
     a_generated_day_grows();
     let mut tally = Tally::new(opening);
-    let mut last: Option<Entry> = None;
-    while let Some(stated) = day.next(last.as_ref()) {
-        let entry = core.step(0, stated);
+    let mut due = Due::Nothing;
+    while let Some(stated) = day.next(due) {
+        let entry = core.answer(0, &stated);
         tally.count(&entry);
-        last = Some(entry);
+        due = Due::after(&entry);
     }
     tally
 }

@@ -72,9 +72,9 @@ turn-is g due keeps same =
     ∙ ap (λ k. turn_at g.edition day.course (slice_get set_up k) (job_due day.history (due_on day)) (due_on day)) (sym is.entries)
 
 -- what there is to do, where this is the last entry
-pub due-is : (g : Inside) (value : GeneratorValue) (last : Option EntryValue) (due : Due) → generator_value g ≡ value → due ≡ due_by last
-    → last ≡ last_entry (generated_day value.edition value.number value.given) → due ≡ due_by (last_entry (generated_day g.edition g.number g.given))
-due-is g value last due view is at_end = is ∙ ap due_by (at_end ∙ ap (λ v. last_entry (generated_day v.edition v.number v.given)) (sym view))
+pub due-is : (g : Inside) (value : GeneratorValue) (due : Due) → generator_value g ≡ value
+    → due ≡ due_by (last_entry (generated_day value.edition value.number value.given)) → due ≡ due_by (last_entry (generated_day g.edition g.number g.given))
+due-is g value due view is = is ∙ ap (λ v. due_by (last_entry (generated_day v.edition v.number v.given))) (sym view)
 
 -- what is stated at the end of the turn
 pub stated-is : (edition : Edition) (number n : ℕ) (turn : Turn) (course : Course) (cmd : Cmd) → turn ≡ next_turn edition (day_after edition number n)

@@ -1,6 +1,6 @@
 ghost use Rattle.std.specs.Prelude.{◌≡◌, ◌≤◌, ◌<◌, IfSome, IfNone};
-ghost use Rattle.std.specs.Option.{option_copied, option_or};
-ghost use Rattle.day_gen.specs.Due.{last_entry, plans};
+ghost use Rattle.std.specs.Option.{option_or};
+ghost use Rattle.day_gen.specs.Due.{due_by, last_entry, plans};
 ghost use Rattle.day_gen.specs.Day.{day_opening, generated_day, day_statement};
 ghost use Rattle.day_gen.specs.Generator.{generator_of, most_commands, one_more};
 
@@ -10,7 +10,7 @@ use crate::due::Due;
 use crate::laws::a_generated_day_is_legal;
 use crate::{ANSWER, FIRST_MONTH, MONTHS, SET_UP};
 use desk_base::{Month, Window};
-use desk_model::{Cmd, Edition, Entry, Job, Opening, Stated};
+use desk_model::{Cmd, Edition, Job, Opening, Stated};
 use std::marker::Model;
 
 /// A generator of the commands of a day, which a desk answers one after another: each follows from a number, from what the
@@ -64,10 +64,10 @@ impl DayGen {
         Opening::new(month.first(), window, ANSWER, self.edition).unwrap()
     }
 
-    /// What is stated next, by caller 0, where this is the last entry of the desk, which answered all that was stated so far and
-    /// nothing else; `None` where all commands were given.
-    pub fn next(&mut self, last: Option<&Entry>) -> Option<Stated>
-        requires { option_copied last ≡ last_entry (generated_day self.old.edition self.old.number self.old.given) }
+    /// What is stated next, by caller 0, where this is what the last entry of the desk leaves to do, or nothing before the first: it
+    /// answered all that was stated so far and nothing else. `None` where all commands were given.
+    pub fn next(&mut self, due: Due) -> Option<Stated>
+        requires { due ≡ due_by (last_entry (generated_day self.old.edition self.old.number self.old.given)) }
         ensures none { IfNone result ((self.old.given ≡ self.old.commands) × (self.new ≡ self.old)) }
         ensures some { IfSome result (λ stated. (self.old.given < self.old.commands)
             × (stated ≡ day_statement self.old.edition self.old.number self.old.given)
@@ -77,13 +77,9 @@ impl DayGen {
         if self.given == self.commands {
             return None;
         }
-        let cmd = self.course.turn(
-            &self.codes,
-            self.edition,
-            self.given,
-            &self.job,
-            Due::by(last),
-        );
+        let cmd = self
+            .course
+            .turn(&self.codes, self.edition, self.given, &self.job, due);
         keep_planned(&mut self.job, &cmd);
         self.given += 1;
         Some(Stated::new(self.course.minute, cmd).unwrap())

@@ -1,15 +1,14 @@
 ghost use Rattle.std.specs.Prelude.{◌≡◌, ℕ};
-ghost use Rattle.std.specs.Option.{option_copied};
 ghost use Rattle.desk_model.specs.offers.Offers.{asks_for, offer_in};
-ghost use Rattle.day_gen.specs.Due.{due_after_done, due_after_offer, due_after, due_by};
+ghost use Rattle.day_gen.specs.Due.{due_after_done, due_after_offer, due_after};
 
 use desk_base::{PersonNo, VacNo};
-use desk_model::{Cmd, Entry, Reply};
+use desk_model::{Cmd, EntryRef, Reply};
 use duty_events::Event;
 
 /// What the last entry leaves to do.
 #[derive(Clone, Copy, Debug)]
-pub(crate) enum Due {
+pub enum Due {
     /// The person is to answer the offer of the vacancy.
     Answer { vac: VacNo, person: PersonNo },
     /// The person, who accepted the vacancy, is to report for it.
@@ -23,18 +22,8 @@ pub(crate) enum Due {
 }
 
 impl Due {
-    /// What the last entry leaves to do, if there is one.
-    pub(crate) fn by(last: Option<&Entry>) -> Due
-        ensures { result ≡ due_by (option_copied last.entry) }
-    {
-        match last {
-            None => Due::Nothing,
-            Some(entry) => Due::after(entry),
-        }
-    }
-
-    // What an entry leaves to do.
-    fn after(entry: &Entry) -> Due
+    /// What an entry leaves to do.
+    pub fn after(entry: &EntryRef) -> Due
         ensures { result ≡ due_after entry.now }
     {
         match entry.accepted() {

@@ -11,6 +11,7 @@ mod plan;
 mod set_up;
 
 pub use day_gen::DayGen;
+pub use due::Due;
 pub use laws::{
     a_generated_day_grows, a_generated_day_is_legal, what_is_due_is_for_the_last_vacancy,
 };

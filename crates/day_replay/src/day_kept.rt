@@ -2,7 +2,7 @@
 ghost use Rattle.std.specs.Prelude.{◌≡◌, IfOk};
 
 use desk_base::NoMemory;
-use desk_model::{Entry, Opening};
+use desk_model::{EntryRef, Opening};
 use record_rows::LastMinute;
 use std::alloc::Global;
 
@@ -22,7 +22,7 @@ pub trait DayKept<'a>: Drop {
     /// Keeps the next entry, of caller 0. `line` is the text of its statement, where that is at hand, and `stated` the minute that was stated last.
     fn keep(
         &mut self,
-        entry: &Entry,
+        entry: &EntryRef,
         line: Option<&'a [u8]>,
         stated: &LastMinute,
     ) -> Result<(), NoMemory>

@@ -3,7 +3,7 @@ ghost use Rattle.line_writer.specs.Tally.{Counts};
 
 use crate::day_kept::DayKept;
 use desk_base::NoMemory;
-use desk_model::{Entry, Opening};
+use desk_model::{EntryRef, Opening};
 use line_writer::Tally;
 use record_rows::LastMinute;
 use std::alloc::Global;
@@ -17,7 +17,7 @@ impl<'a> DayKept<'a> for Tally {
 
     fn keep(
         &mut self,
-        entry: &Entry,
+        entry: &EntryRef,
         _line: Option<&'a [u8]>,
         _stated: &LastMinute,
     ) -> Result<(), NoMemory> {

@@ -15,7 +15,7 @@ use crate::held_line::{HeldLine, gather_all_held};
 use command_parser::{RECORD_LIMIT, SHORTEST_RECORD};
 use desk_base::NoMemory;
 use desk_io::{Sink, put_all};
-use desk_model::{Entry, Opening};
+use desk_model::{EntryRef, Opening};
 use line_writer::{LineText, add_outcome, fill_with_entry, write_opening};
 use record_rows::LastMinute;
 use std::alloc::Global;
@@ -69,14 +69,19 @@ impl HeldJournal<'_> {
     }
 
     // Adds what is held as text of the line of an entry: all of it, where no bytes of its statement are at hand.
-    fn add_text(&mut self, stated: &[u8], entry: &Entry) -> Result<(), NoMemory>
+    fn add_text(&mut self, stated: &[u8], entry: &EntryRef) -> Result<(), NoMemory>
         ensures added { IfOk result (λ _.
             AddsLine stated.now self.old.texts.items self.new.texts.items entry.now) }
         ensures opening { self.new.opening ≡ self.old.opening }
         ensures lines { self.new.lines ≡ self.old.lines }
     {
         if stated.is_empty() {
-            fill_with_entry(&mut self.line, &mut self.stated, &mut self.moment, entry);
+            fill_with_entry(
+                &mut self.line,
+                &mut self.stated,
+                &mut self.moment,
+                &entry.to_entry(),
+            );
             self.texts.extend_from_slice(self.line.as_slice())?;
             Ok(())
         } else {
@@ -106,7 +111,7 @@ impl<'a> DayKept<'a> for HeldJournal<'a> {
 
     fn keep(
         &mut self,
-        entry: &Entry,
+        entry: &EntryRef,
         line: Option<&'a [u8]>,
         stated: &LastMinute,
     ) -> Result<(), NoMemory> {

@@ -53,7 +53,7 @@ fn replay_records<'a, C: DeskCore, T: DayKept<'a>>(
     loop {
         match records.next() {
             Ok(true) => {
-                let entry = core.step(0, *records.stated());
+                let entry = core.answer(0, records.stated());
                 kept.keep(&entry, records.line(), records.last_minute())?;
             }
             Ok(false) => return Ok(()),

@@ -17,7 +17,7 @@ use crate::question_answers::{at_answer, explain_answer, hours_answer, vac_answe
 use crate::settle_answer::{accept_answer, decline_answer, no_answer};
 use crate::vacancy_answer::vacancy_answer;
 use desk_base::Minute;
-use desk_model::{Cmd, Entry, LAST_CALLER, Reply, Stated};
+use desk_model::{Cmd, EntryRef, LAST_CALLER, Reply, Stated};
 
 // The answer to a command at a moment. It stays a call: inlined, each reply is copied from place to place.
 #[inline(never)]
@@ -72,7 +72,12 @@ fn answer<R: Reads>(reads: &R, work: &mut R::Work, taken: Minute, stated: &State
 }
 
 /// The entry that the rules give for what caller 0 to 63 states.
-pub fn next_entry<R: Reads>(reads: &R, work: &mut R::Work, caller: u8, stated: &Stated) -> Entry
+pub fn next_entry<'s, R: Reads>(
+    reads: &R,
+    work: &mut R::Work,
+    caller: u8,
+    stated: &'s Stated,
+) -> EntryRef<'s>
     requires caller { caller ≤ LAST_CALLER }
     requires suits { R.suits reads.now work.old }
     ensures entry { (h : History) → R.tells reads.now h → result ≡ next h caller stated.now }
@@ -83,5 +88,5 @@ pub fn next_entry<R: Reads>(reads: &R, work: &mut R::Work, caller: u8, stated: &
 {
     let taken = moment(reads, stated.minute());
     let reply = answer(reads, work, taken, stated);
-    Entry::new(caller, *stated, taken, reply)
+    EntryRef::new(caller, stated, taken, reply)
 }

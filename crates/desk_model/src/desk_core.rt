@@ -1,6 +1,6 @@
 ghost use Rattle.std.specs.Prelude.{◌≡◌, ◌+◌, ◌<◌, ◌≤◌};
 
-use crate::{Entry, LAST_CALLER, Stated};
+use crate::{Entry, EntryRef, LAST_CALLER, Stated};
 
 /// What answers commands. It stands for the history of all that it was asked so far.
 pub trait DeskCore: Drop {
@@ -20,13 +20,25 @@ pub trait DeskCore: Drop {
 
     /// Answers what caller 0 to 63 states: the entry that the rules give after all entries before it. It takes no
     /// memory, and one of the steps that are left.
+    fn answer<'s>(&mut self, caller: u8, stated: &'s Stated) -> EntryRef<'s>
+        requires room { 0 < room self.old }
+        requires caller { caller ≤ LAST_CALLER }
+        ensures answer { (h : History) → stands self.old h → result ≡ next h caller stated.now }
+        ensures stands { (h : History) → stands self.old h → stands self.new (with_entry h result) }
+        ensures room { room self.new + 1 ≡ room self.old }
+        ensures opening { opening self.new ≡ opening self.old };
+
+    /// The same entry, with a statement of its own.
     fn step(&mut self, caller: u8, stated: Stated) -> Entry
         requires room { 0 < room self.old }
         requires caller { caller ≤ LAST_CALLER }
         ensures answer { (h : History) → stands self.old h → result ≡ next h caller stated }
         ensures stands { (h : History) → stands self.old h → stands self.new (with_entry h result) }
         ensures room { room self.new + 1 ≡ room self.old }
-        ensures opening { opening self.new ≡ opening self.old };
+        ensures opening { opening self.new ≡ opening self.old }
+    {
+        self.answer(caller, &stated).to_entry()
+    }
 
     /// How many further steps it takes.
     fn left(&self) -> u64

@@ -8,6 +8,7 @@ mod command;
 mod desk_core;
 mod edition;
 mod entry;
+mod entry_ref;
 mod job;
 mod laws;
 mod limits;
@@ -27,6 +28,7 @@ pub use command::Cmd;
 pub use desk_core::DeskCore;
 pub use edition::Edition;
 pub use entry::Entry;
+pub use entry_ref::EntryRef;
 pub use job::Job;
 pub use laws::answers::{
     a_place_stays_from_the_latest_minute_on, each_vacancy_ends_in_the_window, no_event_lies_ahead,

@@ -23,7 +23,7 @@ use crate::vacancies::Vacancies;
 use crate::vacancy_index::VacancyIndex;
 use desk_base::{NoMemory, PersonNo, VacNo};
 use desk_model::{
-    Cmd, Entry, Reply, VacState, a_vacancy_is_in_one_state, what_an_entry_makes_of_the_desk,
+    Cmd, EntryRef, Reply, VacState, a_vacancy_is_in_one_state, what_an_entry_makes_of_the_desk,
     what_is_done_rests_on,
 };
 use std::alloc::Global;
@@ -47,7 +47,7 @@ fn is_done(reply: Reply) -> bool
 }
 
 // The vacancy that the entry offers, and to whom.
-fn offered(entry: &Entry) -> Option<(VacNo, PersonNo)>
+fn offered(entry: &EntryRef) -> Option<(VacNo, PersonNo)>
     ensures some { IfSome result (λ x. (offered_vac entry.now ≡ Some x.0) × (offered_person entry.now ≡ Some x.1)) }
     ensures none { result ≡ None → offered_vac entry.now ≡ None }
 {
@@ -194,7 +194,7 @@ impl Register {
     }
 
     /// Keeps what an entry changes, the next one of a legal history; of any other entry nothing is promised.
-    pub fn keep(&mut self, entry: &Entry)
+    pub fn keep(&mut self, entry: &EntryRef)
         ensures { (h : History) → IsLegal h → IsNext h entry.now → Keeps self.old h → Keeps self.new (with_entry h entry.now) }
     {
         what_an_entry_makes_of_the_desk();

@@ -17,6 +17,7 @@ use crate::enrolled::Enrolled;
 use crate::find_in::{HINT_BITS, Indexed, find_in};
 use crate::kept_person::{KeptPerson, subject};
 use crate::person_index::PersonIndex;
+use crate::row_hasher::RowHasher;
 use desk_base::{IndexHints, NoMemory, PersonNo, VacNo};
 use desk_model::{
     Cmd, PERSON_LIMIT, a_vacancy_is_in_one_state, one_offer_to_a_person,
@@ -24,11 +25,12 @@ use desk_model::{
 };
 use indexmap::IndexMap;
 use std::alloc::Global;
+use std::hash::BuildHasherDefault;
 
 /// The enrolled persons, in the order in which they came, with room for 1,000.
 #[derive(Drop)]
 pub struct Roster {
-    pub(crate) kept: IndexMap<PersonNo, KeptPerson>,
+    pub(crate) kept: IndexMap<PersonNo, KeptPerson, BuildHasherDefault<RowHasher>>,
     pub(crate) hints: IndexHints,
     ghost room: { PERSON_LIMIT ≤ index_map_len kept + spare kept },
     ghost few: { index_map_len kept ≤ PERSON_LIMIT },
@@ -49,7 +51,11 @@ impl Roster {
         ensures under { IfOk result (λ r. (p : ℕ) → person_under r p ≡ None) }
         ensures keys { IfOk result (λ r. person_numbers r ≡ []) }
     {
-        let kept = IndexMap::with_capacity(alloc, PERSON_LIMIT)?;
+        let kept = IndexMap::with_capacity_and_hasher(
+            alloc,
+            PERSON_LIMIT,
+            BuildHasherDefault::new(),
+        )?;
         let hints = IndexHints::new(alloc, HINT_BITS)?;
         Ok(Roster { kept, hints })
     }
@@ -108,17 +114,6 @@ impl Roster {
         self.kept.len()
     }
 
-    /// Puts what is kept of this person at the index that they have among all.
-    fn put(&mut self, person: PersonNo, index: PersonIndex, kept: KeptPerson)
-        requires { index_among (person_numbers self.old) person ≡ Some index }
-        ensures under { (q : ℕ) → person_under self.new q ≡ (if nat_eq person q then Some kept else person_under self.old q) }
-        ensures keys { person_numbers self.new ≡ person_numbers self.old }
-    {
-        if let Some(here) = self.kept.get_index_mut(index.number()) {
-            *here = kept;
-        }
-    }
-
     pub(crate) fn add(&mut self, person: PersonNo, kept: KeptPerson)
         requires new { person_under self.old person ≡ None }
         requires few { length (person_numbers self.old) < PERSON_LIMIT }
@@ -158,11 +153,12 @@ impl Roster {
         let Some(person) = subject(cmd) else {
             return;
         };
-        if let Some(found) = self.find(person) {
-            let index = found.index;
-            let mut kept = *found.kept;
+        let Some(found) = self.found(person) else {
+            return;
+        };
+        let at = found.index;
+        if let Some(kept) = self.kept.get_index_mut(at) {
             kept.change(cmd);
-            self.put(person, index, kept);
         }
     }
 
@@ -174,11 +170,12 @@ impl Roster {
         let Some(person) = person else {
             return;
         };
-        if let Some(found) = self.find(person) {
-            let index = found.index;
-            let mut kept = *found.kept;
+        let Some(found) = self.found(person) else {
+            return;
+        };
+        let at = found.index;
+        if let Some(kept) = self.kept.get_index_mut(at) {
             kept.assigned = None;
-            self.put(person, index, kept);
         }
     }
 
@@ -190,11 +187,12 @@ impl Roster {
         let Some(person) = person else {
             return;
         };
-        if let Some(found) = self.find(person) {
-            let index = found.index;
-            let mut kept = *found.kept;
+        let Some(found) = self.found(person) else {
+            return;
+        };
+        let at = found.index;
+        if let Some(kept) = self.kept.get_index_mut(at) {
             kept.on_offer = on_offer;
-            self.put(person, index, kept);
         }
     }
 

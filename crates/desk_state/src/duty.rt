@@ -11,7 +11,7 @@ ghost use Rattle.desk_state.specs.DutyTold.{teller, home_of, told_event};
 
 use desk_base::{Code, NoMemory, Window};
 use desk_model::{
-    Cmd, Entry, PERSON_LIMIT, what_an_entry_makes_of_the_desk, what_is_done_rests_on,
+    Cmd, EntryRef, PERSON_LIMIT, what_an_entry_makes_of_the_desk, what_is_done_rests_on,
     what_is_told_may_follow,
 };
 use desk_register::{PersonIndex, who_is_enrolled_has_an_index};
@@ -27,7 +27,7 @@ pub struct Duty {
 }
 
 /// The home of whom the entry enrols.
-fn home_of(entry: &Entry) -> Option<Code>
+fn home_of(entry: &EntryRef) -> Option<Code>
     ensures { result ≡ said home_of entry.now }
 {
     let cmd = entry.accepted()?;
@@ -38,7 +38,7 @@ fn home_of(entry: &Entry) -> Option<Code>
 }
 
 /// The event that the entry tells of somebody.
-fn told_event(entry: &Entry) -> Option<Event>
+fn told_event(entry: &EntryRef) -> Option<Event>
     ensures { result ≡ said told_event entry.now }
 {
     let cmd = entry.accepted()?;
@@ -110,7 +110,7 @@ impl Duty {
 
     /// Keeps what the next entry of a legal history tells: a clock more of whom it enrols, and the event that it tells of
     /// somebody. `index` is the person's among all; it isn't looked at where the entry tells no event.
-    pub fn keep(&mut self, entry: &Entry, index: Option<PersonIndex>)
+    pub fn keep(&mut self, entry: &EntryRef, index: Option<PersonIndex>)
         ensures clocks { (h : History) → IsLegal h → IsNext h entry.now → window_of self.old ≡ h.opening.window
             → ((p : ℕ) → said teller entry.now ≡ Some p → index ≡ index_among (persons h) p)
             → AreClocks (clocks_of self.old) h → AreClocks (clocks_of self.new) (with_entry h entry.now) }

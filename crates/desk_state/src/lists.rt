@@ -18,7 +18,7 @@ use crate::listings::Listings;
 use crate::named_indexes::NamedIndexes;
 use crate::orders::Orders;
 use desk_base::{NoMemory, PersonNo};
-use desk_model::{Cmd, Entry, order_is_by_rank};
+use desk_model::{Cmd, EntryRef, order_is_by_rank};
 use desk_register::{BoardIndex, PersonIndex};
 use pool_board::Board;
 use std::alloc::Global;
@@ -129,7 +129,7 @@ impl Lists {
 
     /// Keeps what an entry changes, the next one of a legal history, where `named` has the indexes of its person and of its board; of
     /// any other entry nothing is promised.
-    pub fn keep(&mut self, entry: &Entry, named: &NamedIndexes)
+    pub fn keep(&mut self, entry: &EntryRef, named: &NamedIndexes)
         ensures { (h : History) → IsLegal h → IsNext h entry.now → Names h entry.now named.now
             → Keeps self.old h → Keeps self.new (with_entry h entry.now) }
     {

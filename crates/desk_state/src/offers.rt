@@ -15,7 +15,7 @@ ghost use Rattle.desk_state.specs.OfferTold.{decliner, offered_from, offered_per
 use crate::holds::Holds;
 use desk_base::{Minute, NoMemory, PersonNo, VacNo};
 use desk_model::{
-    Cmd, Entry, HOLD, Reply, each_moment_lies_in_the_window, what_an_entry_makes_of_the_desk,
+    Cmd, EntryRef, HOLD, Reply, each_moment_lies_in_the_window, what_an_entry_makes_of_the_desk,
     what_is_done_rests_on,
 };
 use desk_register::{BoardIndex, PersonIndex, who_is_enrolled_has_an_index};
@@ -56,7 +56,7 @@ fn later(moment: Minute, minutes: u64) -> Minute
 }
 
 /// The vacancy whose open offer the entry ends.
-fn settled(entry: &Entry) -> Option<VacNo>
+fn settled(entry: &EntryRef) -> Option<VacNo>
     ensures { result ≡ said settles entry.now }
 {
     let cmd = entry.accepted()?;
@@ -71,7 +71,7 @@ fn settled(entry: &Entry) -> Option<VacNo>
 }
 
 /// The person who declines by the entry.
-fn decliner(entry: &Entry) -> Option<PersonNo>
+fn decliner(entry: &EntryRef) -> Option<PersonNo>
     ensures { result ≡ said decliner entry.now }
 {
     let cmd = entry.accepted()?;
@@ -82,7 +82,7 @@ fn decliner(entry: &Entry) -> Option<PersonNo>
 }
 
 /// The vacancy that the entry's command asks to be offered.
-fn asked(entry: &Entry) -> Option<VacNo>
+fn asked(entry: &EntryRef) -> Option<VacNo>
     ensures { result ≡ asks_for entry.now.stated.cmd }
 {
     match entry.stated().cmd() {
@@ -92,7 +92,7 @@ fn asked(entry: &Entry) -> Option<VacNo>
 }
 
 /// The person to whom the entry offers a vacancy.
-fn offered_person(entry: &Entry) -> Option<PersonNo>
+fn offered_person(entry: &EntryRef) -> Option<PersonNo>
     ensures { result ≡ offered_person entry.now }
 {
     let Reply::Offered { person, .. } = entry.reply() else {
@@ -147,7 +147,7 @@ impl Offers {
     }
 
     // Ends the open offer of a vacancy, where it has one; who declines it is held by the board that it was made from.
-    fn settle(&mut self, vac: VacNo, entry: &Entry, person: Option<PersonIndex>)
+    fn settle(&mut self, vac: VacNo, entry: &EntryRef, person: Option<PersonIndex>)
         ensures { (h : History) → IsLegal h → IsNext h entry.now → said settles entry.now ≡ Some vac
             → ((p : ℕ) → said decliner entry.now ≡ Some p → person ≡ index_among (persons h) p)
             → Keeps self.old h → Keeps self.new (with_entry h entry.now) }
@@ -173,7 +173,7 @@ impl Offers {
     /// Keeps what the next entry of a legal history makes of offers and holds; of any other entry nothing is promised. `person`
     /// is the index of who declines by it, among all persons, and `board` that of the board which its offer is made from, among
     /// all boards; neither is looked at where the entry tells no such thing. It takes no memory.
-    pub fn keep(&mut self, entry: &Entry, person: Option<PersonIndex>, board: Option<BoardIndex>)
+    pub fn keep(&mut self, entry: &EntryRef, person: Option<PersonIndex>, board: Option<BoardIndex>)
         ensures { (h : History) → IsLegal h → IsNext h entry.now
             → ((p : ℕ) → said decliner entry.now ≡ Some p → person ≡ index_among (persons h) p)
             → ((b : List ℕ) → offered_from entry.now ≡ Some b → board ≡ board_index (boards h) b)

@@ -12,7 +12,7 @@ use crate::desk_reads::DeskReads;
 use crate::kept_desk::KeptDesk;
 use desk_answers::next_entry;
 use desk_base::{NoMemory, PersonNo, VacNo};
-use desk_model::{DeskCore, Entry, Opening, Stated, one_history_is_legal};
+use desk_model::{DeskCore, Entry, EntryRef, Opening, Stated, one_history_is_legal};
 use earliest_minute::{Earliest, earliest_clear};
 use slot_tree::Steps;
 use std::alloc::Global;
@@ -54,50 +54,55 @@ impl FastCore {
         })
     }
 
-    /// As `step`, and counts the nodes that its searches of boards read: for `next` and `offer` at most 44 for each board of the
+    /// As `answer`, and counts the nodes that its searches of boards read: for `next` and `offer` at most 44 for each board of the
     /// vacancy's chain, and 44 more for each of its members who is ready and has a bar; for all else none.
-    pub fn step_counted<L: Ledger>(
+    pub fn answer_counted<'s, L: Ledger>(
         &mut self,
         caller: u8,
-        stated: Stated,
+        stated: &'s Stated,
         steps: &mut Steps<L>,
-    ) -> Entry
+    ) -> EntryRef<'s>
         requires room { 0 < ⟦<FastCore as DeskCore>⟧.room self.old }
         requires caller { caller ≤ LAST_CALLER }
-        ensures answer { (h : History) → ⟦<FastCore as DeskCore>⟧.stands self.old h → result ≡ next h caller stated }
+        ensures answer { (h : History) → ⟦<FastCore as DeskCore>⟧.stands self.old h → result ≡ next h caller stated.now }
         ensures stands { (h : History) → ⟦<FastCore as DeskCore>⟧.stands self.old h
             → ⟦<FastCore as DeskCore>⟧.stands self.new (with_entry h result) }
         ensures room { ⟦<FastCore as DeskCore>⟧.room self.new + 1 ≡ ⟦<FastCore as DeskCore>⟧.room self.old }
         ensures opening { ⟦<FastCore as DeskCore>⟧.opening self.new ≡ ⟦<FastCore as DeskCore>⟧.opening self.old }
         ensures steps { (h : History) → ⟦<FastCore as DeskCore>⟧.stands self.old h
-            → steps.new ≤ steps.old + most_steps (search_steps h) h (moment h stated.minute) stated.cmd }
+            → steps.new ≤ steps.old + most_steps (search_steps h) h (moment h stated.now.minute) stated.now.cmd }
     {
         one_history_is_legal();
         let looks = DeskReads::<L> {
             desk: &self.desk,
             ledger: PhantomData,
         };
-        let entry = next_entry(&looks, steps, caller, &stated);
+        let entry = next_entry(&looks, steps, caller, stated);
         self.desk.keep(&entry);
         self.left -= 1;
         entry
     }
 
     // The same with a count of its own.
-    fn step_in<L: Ledger>(&mut self, blank: Blank, caller: u8, stated: Stated) -> Entry
+    fn answer_in<'s, L: Ledger>(
+        &mut self,
+        blank: Blank,
+        caller: u8,
+        stated: &'s Stated,
+    ) -> EntryRef<'s>
         requires name { blank.name ≡ L.name }
         requires parts { blank.parts ≡ L.parts }
         requires some { 0 < blank.parts }
         requires room { 0 < ⟦<FastCore as DeskCore>⟧.room self.old }
         requires caller { caller ≤ LAST_CALLER }
-        ensures answer { (h : History) → ⟦<FastCore as DeskCore>⟧.stands self.old h → result ≡ next h caller stated }
+        ensures answer { (h : History) → ⟦<FastCore as DeskCore>⟧.stands self.old h → result ≡ next h caller stated.now }
         ensures stands { (h : History) → ⟦<FastCore as DeskCore>⟧.stands self.old h
             → ⟦<FastCore as DeskCore>⟧.stands self.new (with_entry h result) }
         ensures room { ⟦<FastCore as DeskCore>⟧.room self.new + 1 ≡ ⟦<FastCore as DeskCore>⟧.room self.old }
         ensures opening { ⟦<FastCore as DeskCore>⟧.opening self.new ≡ ⟦<FastCore as DeskCore>⟧.opening self.old }
     {
         let mut steps = Steps::<L>::new(blank);
-        self.step_counted(caller, stated, &mut steps)
+        self.answer_counted(caller, stated, &mut steps)
     }
 
     /// The answer to a question: to `hours`, `at`, `explain` or `vac`, the entry that the rules would give for it next, as caller 0. It
@@ -125,7 +130,7 @@ impl FastCore {
         ensures { (h : History) → ⟦<FastCore as DeskCore>⟧.stands self.now h → result ≡ next h 0 stated.now }
     {
         let mut steps = Steps::<L>::new(blank);
-        next_entry(&self.looks(), &mut steps, 0, stated)
+        next_entry(&self.looks(), &mut steps, 0, stated).to_entry()
     }
 
     fn earliest_in<L: Ledger>(&self, blank: Blank, vac: VacNo, person: PersonNo) -> Earliest
@@ -165,8 +170,8 @@ impl DeskCore for FastCore {
 
     ghost stands = { λ core h. Tells core.desk h };
 
-    fn step(&mut self, caller: u8, stated: Stated) -> Entry {
-        self.step_in::<Brand>(Blank::new(1), caller, stated)
+    fn answer<'s>(&mut self, caller: u8, stated: &'s Stated) -> EntryRef<'s> {
+        self.answer_in::<Brand>(Blank::new(1), caller, stated)
     }
 
     fn left(&self) -> u64 {

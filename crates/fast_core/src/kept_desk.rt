@@ -16,7 +16,7 @@ use crate::people::People;
 use crate::unfilled::Unfilled;
 use desk_base::{Minute, NoMemory, PersonNo, VacNo, YEARS_BEGIN, YEARS_END};
 use desk_model::{
-    Cmd, Entry, Offer, Opening, Reply, a_legal_history_fits, a_refusal_changes_nothing,
+    Cmd, EntryRef, Offer, Opening, Reply, a_legal_history_fits, a_refusal_changes_nothing,
     one_history_is_legal, what_an_entry_makes_of_the_desk, what_is_done_rests_on,
 };
 use desk_register::Register;
@@ -49,7 +49,7 @@ fn before(minute: Minute, minutes: u8) -> Option<Minute>
 }
 
 /// The person whom the entry's command names, where that was done and may move them, or tells an event of theirs.
-pub(crate) fn mover(entry: &Entry) -> Option<PersonNo>
+pub(crate) fn mover(entry: &EntryRef) -> Option<PersonNo>
     ensures { result ≡ said mover entry.now }
 {
     let cmd = entry.accepted()?;
@@ -118,7 +118,7 @@ impl KeptDesk {
     /// Keeps what the next entry changes. It stays a call: inlined, the entry is copied twice more on its
     /// way to the caller.
     #[inline(never)]
-    pub(crate) fn keep(&mut self, entry: &Entry)
+    pub(crate) fn keep(&mut self, entry: &EntryRef)
         ensures tells { (h : History) → Tells self.old h → IsNext h entry.now → Tells self.new (with_entry h entry.now) }
         ensures opening { self.new.opening ≡ self.old.opening }
     {
@@ -130,7 +130,7 @@ impl KeptDesk {
     }
 
     // Keeps what the next entry changes, whatever it is.
-    fn change(&mut self, entry: &Entry)
+    fn change(&mut self, entry: &EntryRef)
         ensures tells { (h : History) → Tells self.old h → IsNext h entry.now → Tells self.new (with_entry h entry.now) }
         ensures opening { self.new.opening ≡ self.old.opening }
     {
@@ -152,7 +152,7 @@ impl KeptDesk {
     }
 
     // Keeps the moment of the next entry, which changes nothing else, and the vacancy that it tells to be unfilled.
-    fn stay(&mut self, entry: &Entry)
+    fn stay(&mut self, entry: &EntryRef)
         ensures tells { (h : History) → Tells self.old h → IsNext h entry.now → changes entry.now.reply ≡ false
             → Tells self.new (with_entry h entry.now) }
         ensures opening { self.new.opening ≡ self.old.opening }

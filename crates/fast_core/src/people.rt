@@ -16,7 +16,7 @@ ghost use Rattle.desk_state.specs.Lists.{mover, ready_minute};
 
 use crate::candidate::Candidate;
 use desk_base::{Minute, Month, NoMemory, PersonNo, Window};
-use desk_model::Entry;
+use desk_model::EntryRef;
 use desk_register::{PersonIndex, Register, who_is_enrolled_has_an_index};
 use desk_state::{Duty, NEVER};
 use duty_events::{Event, EventFault, Stage, allowed};
@@ -117,7 +117,7 @@ impl People {
 
     /// Keeps what the next entry of a legal history changes. `index` is that of the person among all whom it moves or of whom it
     /// tells an event.
-    pub(crate) fn keep(&mut self, entry: &Entry, index: Option<PersonIndex>)
+    pub(crate) fn keep(&mut self, entry: &EntryRef, index: Option<PersonIndex>)
         ensures { (h : History) → IsLegal h → IsNext h entry.now
             → ((p : ℕ) → said mover entry.now ≡ Some p → index ≡ index_among (persons h) p)
             → KeepsPeople self.old h → KeepsPeople self.new (with_entry h entry.now) }

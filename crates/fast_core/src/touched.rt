@@ -3,10 +3,10 @@ ghost use Rattle.std.specs.Prelude.{◌≡◌};
 ghost use Rattle.fast_core.specs.Touched.{touched};
 
 use desk_base::PersonNo;
-use desk_model::{Cmd, Entry, Reply};
+use desk_model::{Cmd, EntryRef, Reply};
 
 /// The one person whose bars, or whose boards, the entry may change; `None` where there may be others, or nobody.
-pub(crate) fn touched(entry: &Entry) -> Option<PersonNo>
+pub(crate) fn touched(entry: &EntryRef) -> Option<PersonNo>
     ensures { result ≡ touched entry.now }
 {
     if let Reply::Offered { person, .. } = entry.reply() {

@@ -8,7 +8,7 @@ ghost use Rattle.fast_core.specs.declared.unfilled.TheConstants.{TOUCHED};
 use crate::touched::touched;
 use desk_base::{IndexHints, Minute, NoMemory, PersonNo, VacNo};
 use desk_model::{
-    Cmd, Entry, Reply, VACANCY_LIMIT, a_refusal_changes_nothing, order_is_by_rank,
+    Cmd, EntryRef, Reply, VACANCY_LIMIT, a_refusal_changes_nothing, order_is_by_rank,
     what_an_entry_makes_of_the_desk, what_is_done_rests_on,
 };
 use std::alloc::Global;
@@ -135,7 +135,7 @@ impl Unfilled {
     }
 
     // The vacancy that the entry calls by `next` and tells to be unfilled.
-    fn found_by(entry: &Entry) -> Option<VacNo>
+    fn found_by(entry: &EntryRef) -> Option<VacNo>
         ensures { result ≡ found_by entry.now }
     {
         let Reply::Unfilled { .. } = entry.reply() else {
@@ -148,7 +148,7 @@ impl Unfilled {
     }
 
     /// Remembers the vacancy that the next entry of a legal history tells to be unfilled, if it does: an entry that changes nothing.
-    pub(crate) fn keep(&mut self, entry: &Entry)
+    pub(crate) fn keep(&mut self, entry: &EntryRef)
         ensures { (h : History) → IsLegal h → IsNext h entry.now → changes entry.now.reply ≡ false → KeepsUnfilled self.old h
             → KeepsUnfilled self.new (with_entry h entry.now) }
     {
@@ -171,7 +171,7 @@ impl Unfilled {
     }
 
     /// Remembers whom the next entry of a legal history touches, and forgets all where it may touch several.
-    pub(crate) fn change(&mut self, entry: &Entry)
+    pub(crate) fn change(&mut self, entry: &EntryRef)
         ensures { (h : History) → IsLegal h → IsNext h entry.now → KeepsUnfilled self.old h
             → KeepsUnfilled self.new (with_entry h entry.now) }
     {

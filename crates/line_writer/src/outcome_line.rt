@@ -10,7 +10,7 @@ use crate::line_text::{LineText, put, put_byte};
 use crate::reply_line::put_reply;
 use denial_rules::Bar;
 use desk_base::{Minute, NoMemory};
-use desk_model::{Entry, Reply};
+use desk_model::{EntryRef, Reply};
 use record_rows::LastMinute;
 
 /// The line `moment|reply`, with its line feed: when the desk took a command, and what it answered.
@@ -24,7 +24,7 @@ pub fn write_outcome(moment: Minute, reply: &Reply) -> LineText
 
 /// Makes a line that of the entry's outcome. What stood in it is gone. `last` is the moment that the lines before it named last:
 /// it only spares work.
-pub fn fill_with_outcome(line: &mut LineText, last: &mut LastMinute, entry: &Entry)
+pub fn fill_with_outcome(line: &mut LineText, last: &mut LastMinute, entry: &EntryRef)
     ensures { line.new.items ≡ outcome_line entry.now.moment entry.now.reply }
 {
     line.clear();
@@ -66,7 +66,7 @@ pub fn add_outcome(
     text: &mut Vec<u8>,
     line: &mut LineText,
     last: &mut LastMinute,
-    entry: &Entry,
+    entry: &EntryRef,
 ) -> Result<(), NoMemory>
     ensures { IfOk result (λ _. text.new.items
         ≡ text.old.items ++ 124 ∷ outcome_line entry.now.moment entry.now.reply) }

@@ -9,7 +9,7 @@ ghost use Rattle.line_writer.specs.Tally.{Counts, tally_text, count_line, count}
 use crate::line_text::{LineText, put, put_byte};
 use crate::reply_sort::ReplySort;
 use desk_base::Minute;
-use desk_model::{Entry, Opening, what_an_entry_makes_of_the_desk};
+use desk_model::{EntryRef, Opening, what_an_entry_makes_of_the_desk};
 use itoa::Buffer;
 
 /// How many commands a desk was given, how many it answered in each sort of way, and its last moment.
@@ -50,7 +50,7 @@ impl Tally {
     }
 
     /// Counts the next entry, unless there are 2^64 - 1 before it.
-    pub fn count(&mut self, entry: &Entry)
+    pub fn count(&mut self, entry: &EntryRef)
         ensures { (h : History) → length h.entries + 1 < 2 ^ 64 → Counts self.old h
             → Counts self.new (with_entry h entry.now) }
     {

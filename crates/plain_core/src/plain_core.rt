@@ -6,7 +6,7 @@ use crate::kept::Kept;
 use crate::lists::Lists;
 use desk_answers::next_entry;
 use desk_base::NoMemory;
-use desk_model::{DeskCore, Entry, Opening, Stated};
+use desk_model::{DeskCore, Entry, EntryRef, Opening, Stated};
 use std::alloc::Global;
 
 /// A desk that keeps its opening and its entries, and finds each answer by reading the entries from the first on. It has
@@ -56,9 +56,9 @@ impl DeskCore for PlainCore {
 
     ghost stands = { λ core h. IsKept core.kept.opening core.kept.entries.items h };
 
-    fn step(&mut self, caller: u8, stated: Stated) -> Entry {
-        let entry = next_entry(&self.kept, &mut self.lists, caller, &stated);
-        self.kept.entries.push_reserved(entry);
+    fn answer<'s>(&mut self, caller: u8, stated: &'s Stated) -> EntryRef<'s> {
+        let entry = next_entry(&self.kept, &mut self.lists, caller, stated);
+        self.kept.entries.push_reserved(entry.to_entry());
         self.left -= 1;
         entry
     }

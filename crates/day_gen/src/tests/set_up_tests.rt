@@ -1,7 +1,7 @@
 //! How a generated day sets the desk up.
 use super::commands::{at, board, enrol, list};
 use super::told::Told;
-use crate::{DayGen, a_generated_day_grows};
+use crate::{DayGen, Due, a_generated_day_grows};
 use desk_base::{Minute, Month};
 use desk_model::{Cmd, Edition, Reply, Stated};
 use qualifications::Craft;
@@ -50,7 +50,7 @@ fn a_generator_begins(rt: HostRuntime) -> Result<(), Fail> {
     assert_eq!(rt; opening.answer(), 15);
     assert_eq!(rt; opening.edition(), Edition::Two);
     assert_eq!(rt;
-        generator.next(None),
+        generator.next(Due::Nothing),
         at(b"2024-01-01 00:00", board(b"PE", false))
     );
     Ok(())

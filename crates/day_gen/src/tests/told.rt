@@ -9,7 +9,7 @@ use crate::course::Course;
 use crate::day_gen::keep_planned;
 use crate::due::Due;
 use desk_base::{YEARS_BEGIN, YEARS_END};
-use desk_model::{Cmd, Edition, Entry, Job, Reply, Stated};
+use desk_model::{Cmd, Edition, EntryRef, Job, Reply, Stated};
 use std::test::Fail;
 
 /// The minute and the command of a turn, and what is answered then.
@@ -30,7 +30,7 @@ pub(crate) struct Told {
     course: Course,
     given: u32,
     job: Option<Job>,
-    last: Option<Entry>,
+    due: Due,
 }
 
 impl Told {
@@ -40,7 +40,7 @@ impl Told {
             course: Course::first(number),
             given: 0,
             job: None,
-            last: None,
+            due: Due::Nothing,
         }
     }
 
@@ -49,14 +49,17 @@ impl Told {
         if !has_room(&self.course) {
             return None;
         }
-        let due = Due::by(self.last.as_ref());
-        let cmd = self
-            .course
-            .turn(&Codes::read(), self.edition, self.given, &self.job, due);
+        let cmd = self.course.turn(
+            &Codes::read(),
+            self.edition,
+            self.given,
+            &self.job,
+            self.due,
+        );
         keep_planned(&mut self.job, &cmd);
         self.given = self.given.saturating_add(1);
         let stated = Stated::new(self.course.minute, cmd)?;
-        self.last = Some(Entry::new(0, stated, stated.minute(), reply));
+        self.due = Due::after(&EntryRef::new(0, &stated, stated.minute(), reply));
         Some(stated)
     }
 

@@ -14,7 +14,7 @@ ghost use Rattle.desk_state.specs.Lists.{mover_board};
 
 use crate::kept_desk::KeptDesk;
 use desk_base::{Code, PersonNo};
-use desk_model::{Cmd, Entry, Reply, who_is_on_a_board_is_listed};
+use desk_model::{Cmd, EntryRef, Reply, who_is_on_a_board_is_listed};
 use desk_register::{BoardIndex, PersonIndex, who_is_enrolled_has_an_index};
 use desk_state::with_board;
 
@@ -107,7 +107,7 @@ impl KeptDesk {
 
     /// The index of the board that an accepted command names, or that the offer was made from which it declines, or that the board
     /// gets which it sets up.
-    pub(crate) fn named_board(&self, entry: &Entry) -> Option<BoardIndex>
+    pub(crate) fn named_board(&self, entry: &EntryRef) -> Option<BoardIndex>
         ensures named { (h : History) (b : List ℕ) → Tells self.now h → said (mover_board h) entry.now ≡ Some b
             → result ≡ board_index (boards h) b }
         ensures set_up { (h : History) (b : List ℕ) → Tells self.now h → said sets_up_any entry.now ≡ Some b
@@ -126,7 +126,7 @@ impl KeptDesk {
     }
 
     /// The index of the board which the entry's offer is made from.
-    pub(crate) fn offered_board(&self, entry: &Entry) -> Option<BoardIndex>
+    pub(crate) fn offered_board(&self, entry: &EntryRef) -> Option<BoardIndex>
         ensures { (h : History) (b : List ℕ) → Tells self.now h → offered_from entry.now ≡ Some b
             → result ≡ board_index (boards h) b }
     {

@@ -28,7 +28,7 @@ returns-then-ne-clause-found g c = λ h stands none.
     let line : IsEntryLine c.first_line.result.0.now c.in-Some-read_entry.entry = rw (c.in-Some-read_entry.is) at c.read_entry.ensures.some in
     let read : (c.put_statement.new.statement ≡ statement_of c.in-Some-read_entry.entry) × (c.in-Some.outcome.now ≡ outcome_line c.in-Some-read_entry.entry.moment c.in-Some-read_entry.entry.reply) =
     rw (c.in-Some.is) at (c.put_statement.ensures.only _ _ (IsEntryLine-begins _ c.in-Some-read_entry.entry line)) in
-    let answer = next-statement so.history c.in-Some-read_entry.entry c.step-right.result c.put_statement.new.statement read.0 (c.step-right.ensures.answer _ so.stands) in
+    let answer = next-statement so.history c.in-Some-read_entry.entry c.answer-right.result c.put_statement.new.statement read.0 (c.answer-right.ensures.answer _ so.stands) in
     record {
       history = so.history;
       entry = c.in-Some-read_entry.entry;
@@ -50,19 +50,19 @@ pub loop-statement-preserved : goal.loop-statement-preserved
 loop-statement-preserved g c =
     let shorter = c.first_line.ensures.shorter (some-left c.loop-statement.left.now c.loop-statement-test.ensures) in
     record {
-      left = omega (arith, c.step-right.ensures.room, c.loop-statement.invariant.left, shorter);
+      left = omega (arith, c.answer-right.ensures.room, c.loop-statement.invariant.left, shorter);
       few = omega (arith, c.loop-statement.invariant.few, shorter);
-      room = omega (arith, c.step-right.ensures.room, c.loop-statement.invariant.room, shorter);
+      room = omega (arith, c.answer-right.ensures.room, c.loop-statement.invariant.room, shorter);
       read = λ h stands none.
           let so = c.loop-statement.invariant.read h stands none in
           let begins : BeginsEntry c.first_line.result.0.now c.in-Some.outcome.now c.put_statement.new.statement = rw (c.in-Some.is) at c.put_statement.ensures.some in
           record {
-            history = with_entry so.history c.step-right.result;
-            stands = c.step-right.ensures.stands _ so.stands;
-            read = journal-goes_on so.history c.step-right.result _ c.loop-statement.left.now c.first_line.result.0.now c.first_line.result.1.now so.read c.first_line.ensures.parts
-                (entry_line-outcome _ _ c.put_statement.new.statement c.step-right.result begins
-                (statement-next so.history c.step-right.result c.put_statement.new.statement (c.step-right.ensures.answer _ so.stands))
+            history = with_entry so.history c.answer-right.result;
+            stands = c.answer-right.ensures.stands _ so.stands;
+            read = journal-goes_on so.history c.answer-right.result _ c.loop-statement.left.now c.first_line.result.0.now c.first_line.result.1.now so.read c.first_line.ensures.parts
+                (entry_line-outcome _ _ c.put_statement.new.statement c.answer-right.result begins
+                (statement-next so.history c.answer-right.result c.put_statement.new.statement (c.answer-right.ensures.answer _ so.stands))
                 (same-text _ _ c.if-ne.ensures ∙ c.as_slice.ensures.value ∙ c.fill_with_outcome.ensures));
-            count_is = omega (arith, so.count_is, length-append so.history.entries (c.step-right.result ∷ []));
+            count_is = omega (arith, so.count_is, length-append so.history.entries (c.answer-right.result ∷ []));
           };
     }

@@ -1,5 +1,5 @@
 use Rattle.std.proofs.Common.{◌≡◌, ◌≤◌, ◌+◌, ◌-◌}
-use Rattle.day_gen.specs.Due.{last_entry}
+use Rattle.day_gen.specs.Due.{due_by, last_entry}
 use Rattle.day_gen.specs.Day.{generated_day}
 use Rattle.core_tests.proofs.generated.entries_of.Given as goal
 
@@ -10,7 +10,7 @@ invariant-loop-stated g l = record {
   commands : l.day.commands ≡ l.fn.day.commands;
   few : l.day.given ≤ l.day.commands;
   room : l.day.commands ≤ l.day.given + g.C.DeskCore.room l.core;
-  last : l.last ≡ last_entry (generated_day l.day.edition l.day.number l.day.given);
+  due : l.due ≡ due_by (last_entry (generated_day l.day.edition l.day.number l.day.given));
   stands : g.C.DeskCore.stands l.core (generated_day l.day.edition l.day.number l.day.given);
 }
 

@@ -2,7 +2,7 @@ use Rattle.std.proofs.Common.{◌≡◌, ◌∙◌, ◌+◌, Some, sym, ap, refl
 use Rattle.desk_model.specs.histories.History.{opened, with_entry}
 use Rattle.desk_model.specs.histories.Legal.{next}
 use Rattle.line_writer.specs.Tally.{Counts}
-use Rattle.day_gen.specs.Due.{last_entry}
+use Rattle.day_gen.specs.Due.{due_by, last_entry}
 use Rattle.day_gen.specs.Day.{day_opening, generated_day}
 use Rattle.crewdesk_main.proofs.generate.tally_of.Goals as goal
 
@@ -17,7 +17,7 @@ loop-stated-init g c =
       commands = refl;
       few = omega (arith, c.requires.first);
       room = omega (arith, c.requires.room);
-      last = ap last_entry begins;
+      due = ap (λ h. due_by (last_entry h)) begins;
       stands = subst (g.C.DeskCore.stands c.args.core.now) begins c.requires.start;
       counts = subst (Counts c.new-tally.result) (ap opened c.requires.opening ∙ begins) c.new-tally.ensures;
     }
@@ -31,7 +31,7 @@ loop-stated-preserved g c =
     let k = c.loop-stated.day.given in
     let h = generated_day e n k in
     let law = c.a_generated_day_grows.ensures in
-    let answer = c.step-entry.ensures.answer h was.stands ∙ ap (next h 0) some.1 in
+    let answer = c.answer-entry.ensures.answer h was.stands ∙ ap (next h 0) some.1 in
     let at : generated_day e n (k + 1) ≡ generated_day c.next.new.self.edition c.next.new.self.number c.next.new.self.given =
     ap (λ day. generated_day day.edition day.number day.given) (sym some.2) in
     let later = ap (with_entry h) answer ∙ sym (law.grows e n k) ∙ at in
@@ -40,8 +40,8 @@ loop-stated-preserved g c =
       number = ap (λ day. day.number) some.2 ∙ was.number;
       commands = ap (λ day. day.commands) some.2 ∙ was.commands;
       few = omega (arith, some.0, ap (λ day. day.given) some.2, ap (λ day. day.commands) some.2);
-      room = omega (arith, was.room, c.step-entry.ensures.room, ap (λ day. day.given) some.2, ap (λ day. day.commands) some.2);
-      last = ap Some answer ∙ sym (law.last e n k) ∙ ap last_entry at;
-      stands = subst (g.C.DeskCore.stands c.step-entry.new.self) later (c.step-entry.ensures.stands h was.stands);
+      room = omega (arith, was.room, c.answer-entry.ensures.room, ap (λ day. day.given) some.2, ap (λ day. day.commands) some.2);
+      due = c.after-due.ensures ∙ ap due_by (ap Some answer ∙ sym (law.last e n k) ∙ ap last_entry at);
+      stands = subst (g.C.DeskCore.stands c.answer-entry.new.self) later (c.answer-entry.ensures.stands h was.stands);
       counts = subst (Counts c.count.new.self) later (c.count.ensures h (omega (arith, law.entries e n k, some.0, was.commands, c.requires.few)) was.counts);
     }

@@ -24,18 +24,18 @@ pub loop-core-preserved : goal.loop-core-preserved
 loop-core-preserved g c =
     let stated = last_stated c.next.new.self in
     record {
-      left = omega (arith, c.step-entry.ensures.room, c.loop-core.invariant.left, c.in-Ok-true.ensures.left c.in-Ok-true.field-0-test);
+      left = omega (arith, c.answer-entry.ensures.room, c.loop-core.invariant.left, c.in-Ok-true.ensures.left c.in-Ok-true.field-0-test);
       so_far = λ rest o read stands kept.
           let so = c.loop-core.invariant.so_far rest o read stands kept in
-          let answer = rw c.stated.ensures at (c.step-entry.ensures.answer _ so.stands) in
-          let next = goes_on-last (opened o) so.commands stated c.step-entry.result answer in
-          let text = IsTextOf-next _ stated c.line.result c.step-entry.result answer
+          let answer = rw c.stated.ensures at (c.answer-entry.ensures.answer _ so.stands) in
+          let next = goes_on-last (opened o) so.commands stated c.answer-entry.result answer in
+          let text = IsTextOf-next _ stated c.line.result c.answer-entry.result answer
           (subst (λ l. IfSome l (λ text. SpellsStated text.now stated)) (sym c.line.ensures) (c.in-Ok-true.ensures.spelled c.in-Ok-true.field-0-test)) in
           record {
             commands = so.commands ++ stated ∷ [];
             read = rw c.in-Ok-true.field-0-test at (c.in-Ok-true.ensures.reads 2 COMMAND_LIMIT rest so.commands so.read);
-            stands = subst (g.C.DeskCore.stands c.step-entry.new.self) next (c.step-entry.ensures.stands _ so.stands);
-            kept = subst (g.T.DayKept.kept_of c.keep.new.self) next (c.in_ok-keep-in-Ok-true.ensures _ so.kept (HasReplayed-few rest o so.commands _ so.read) (caller-next _ stated c.step-entry.result answer) text);
+            stands = subst (g.C.DeskCore.stands c.answer-entry.new.self) next (c.answer-entry.ensures.stands _ so.stands);
+            kept = subst (g.T.DayKept.kept_of c.keep.new.self) next (c.in_ok-keep-in-Ok-true.ensures _ so.kept (HasReplayed-few rest o so.commands _ so.read) (caller-next _ stated c.answer-entry.result answer) text);
           };
     }
 

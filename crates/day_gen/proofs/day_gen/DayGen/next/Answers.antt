@@ -1,5 +1,5 @@
 use Rattle.std.proofs.Common.{◌≡◌, ◌<◌, refl, sym, ap, subst, ◌∙◌, arith}
-use Rattle.std.specs.Option.{option_copied, option_or}
+use Rattle.std.specs.Option.{option_or}
 use Rattle.desk_model.specs.statements.Fits.{IsStated}
 use Rattle.desk_model.specs.statements.Statement.{stated_of}
 use Rattle.day_gen.specs.Due.{plans}
@@ -16,7 +16,7 @@ pub unwrap-requires : goal.unwrap-requires
 unwrap-requires c =
     let g = c.self.inside in
     let below : g.given < 20_000 = omega (arith, c.self.invariant.given, c.self.invariant.most, most_few g.edition, c.if-self.false) in
-    let turn = turn-is g c.by.result c.self.invariant (due-is g c.args.self.now (option_copied c.args.last) c.by.result c.self.view_is c.by.ensures c.requires) in
+    let turn = turn-is g c.args.due c.self.invariant (due-is g c.args.self.now c.args.due c.self.view_is c.requires) in
     let stated = stated-is g.edition g.number g.given _ c.turn-cmd.new.self c.turn-cmd.result turn c.turn-cmd.ensures.course c.turn-cmd.ensures.cmd in
     let fits : IsStated (stated_of c.turn-cmd.new.self.minute c.turn-cmd.result) =
     subst IsStated (sym stated) (c.a_generated_day_is_legal.ensures.stated g.edition g.number g.given below) in
@@ -25,7 +25,7 @@ unwrap-requires c =
 pub invariant_of-self : goal.invariant_of-self
 invariant_of-self c =
     let g = c.self.inside in
-    let turn = turn-is g c.by.result c.self.invariant (due-is g c.args.self.now (option_copied c.args.last) c.by.result c.self.view_is c.by.ensures c.requires) in
+    let turn = turn-is g c.args.due c.self.invariant (due-is g c.args.self.now c.args.due c.self.view_is c.requires) in
     kept-on g c.turn-cmd.new.self c.keep_planned.new.job c.self.invariant (omega (arith, c.self.invariant.given, c.if-self.false))
     (c.turn-cmd.ensures.course ∙ ap (λ t. t.course) turn)
     (c.keep_planned.ensures ∙ ap (λ cmd. option_or (plans cmd) g.job) (c.turn-cmd.ensures.cmd ∙ ap (λ t. t.cmd) turn))
@@ -33,7 +33,7 @@ invariant_of-self c =
 pub returns-clause-some : goal.returns-clause-some
 returns-clause-some c =
     let g = c.self.inside in
-    let turn = turn-is g c.by.result c.self.invariant (due-is g c.args.self.now (option_copied c.args.last) c.by.result c.self.view_is c.by.ensures c.requires) in
+    let turn = turn-is g c.args.due c.self.invariant (due-is g c.args.self.now c.args.due c.self.view_is c.requires) in
     let stated = stated-is g.edition g.number g.given _ c.turn-cmd.new.self c.turn-cmd.result turn c.turn-cmd.ensures.course c.turn-cmd.ensures.cmd in
     let same : c.unwrap.result ≡ stated_of c.turn-cmd.new.self.minute c.turn-cmd.result = grind (arith, c.unwrap.ensures, c.new.ensures) in
     rw (← c.self.view_is) (omega (arith, c.self.invariant.given, c.if-self.false), same ∙ stated, refl)
