@@ -1,4 +1,4 @@
-use Rattle.std.proofs.Common.{sym}
+use Rattle.std.proofs.Common.{sym, ◌∙◌}
 use Rattle.indexmap.proofs.CallerLemmas.{keys-with_value_at, index_map_len-with_value_at}
 use Rattle.desk_register.specs.Changes.{changed}
 use Rattle.desk_register.proofs.ValueLemmas.{get-changed_at}
@@ -12,8 +12,8 @@ invariant_of-self c = record {
 
 pub returns-in-Some-get_index_mut-clause-under : goal.returns-in-Some-get_index_mut-clause-under
 returns-in-Some-get_index_mut-clause-under c =
-    get-changed_at c.args.self.now.kept c.in-Some-found.found.index c.in-Some.person c.in-Some-get_index_mut.kept.now (changed c.args.cmd.now) c.get_index_mut.ensures.unique
-    (sym c.in-Some-found.ensures.index) c.in-Some-get_index_mut.ensures.value
+    rw (sym c.subject.ensures ∙ c.in-Some.is, c.change.ensures) (get-changed_at c.args.self.now.kept c.in-Some-found.found.index c.in-Some.person c.in-Some-get_index_mut.kept.now (changed c.args.cmd.now) c.get_index_mut.ensures.unique
+    (sym c.in-Some-found.ensures.index) c.in-Some-get_index_mut.ensures.value)
 
 pub returns-in-Some-get_index_mut-clause-keys : goal.returns-in-Some-get_index_mut-clause-keys
 returns-in-Some-get_index_mut-clause-keys c = keys-with_value_at c.args.self.now.kept _ _

@@ -12,8 +12,8 @@ invariant_of-self c = record {
 
 pub returns-in-Some-get_index_mut-clause-under : goal.returns-in-Some-get_index_mut-clause-under
 returns-in-Some-get_index_mut-clause-under c =
-    get-changed_at c.args.self.now.kept c.in-Some-found.found.index c.in-Some.person c.in-Some-get_index_mut.kept.now (with_offer c.args.on_offer) c.get_index_mut.ensures.unique
-    (sym c.in-Some-found.ensures.index) c.in-Some-get_index_mut.ensures.value
+    rw c.in-Some.is (get-changed_at c.args.self.now.kept c.in-Some-found.found.index c.in-Some.person c.in-Some-get_index_mut.kept.now (with_offer c.args.on_offer) c.get_index_mut.ensures.unique
+    (sym c.in-Some-found.ensures.index) c.in-Some-get_index_mut.ensures.value)
 
 pub returns-in-Some-get_index_mut-clause-keys : goal.returns-in-Some-get_index_mut-clause-keys
 returns-in-Some-get_index_mut-clause-keys c = keys-with_value_at c.args.self.now.kept _ _
