@@ -21,8 +21,9 @@ const PIECE: usize = 4_096;
 const LONGEST: usize = 16_777_216;
 
 /// A line over a reader and a writer, which tells nothing of content. It reads a piece at a time, and lets texts wait while it holds
-/// more bytes of its caller, so that they are written together: all of them before it reads again. Bytes at the end without a line feed are a line; a line of more than 16,777,216 bytes is a fault, as is
-/// each error of the reader or the writer; and without either of them each call is a fault. There is no other.
+/// more bytes of its caller, so that they are written together: all of them before it reads again. Bytes at the end without a line
+/// feed are a line; a line of more than 16,777,216 bytes is a fault, as is each error of the reader or the writer; and without either
+/// of them each call is a fault. There is no other.
 #[derive(Drop)]
 pub struct FileLine<R, W> {
     reader: Option<R>,

@@ -22,20 +22,20 @@ impl EventWord {
         ensures only { (word : EventWordValue) → text.now ≡ event_word_text word
             → result ≡ Some word }
     {
-        if text == b"ride".as_slice() {
-            Some(EventWord::Ride)
-        } else if text == b"duty".as_slice() {
+        if text == b"duty".as_slice() {
             Some(EventWord::Duty)
+        } else if text == b"final".as_slice() {
+            Some(EventWord::Final)
         } else if text == b"interim".as_slice() {
             Some(EventWord::Interim)
         } else if text == b"resume".as_slice() {
             Some(EventWord::Resume)
         } else if text == b"relieve".as_slice() {
             Some(EventWord::Relieve)
+        } else if text == b"ride".as_slice() {
+            Some(EventWord::Ride)
         } else if text == b"ridehome".as_slice() {
             Some(EventWord::RideHome)
-        } else if text == b"final".as_slice() {
-            Some(EventWord::Final)
         } else if text == b"other".as_slice() {
             Some(EventWord::Other)
         } else {

@@ -37,7 +37,7 @@ pub(crate) fn stated_in_row(last: &mut LastMinute, row: &Row) -> Option<Stated>
 }
 
 /// Puts the command that a record states, and the minute at which it was stated, in place of what `stated` has; false where it states
-/// none, and then nothing changes. Where the record's fields stand in its line they are put in place of those that `fields` has.
+/// none. Where the record's fields stand in its line they are put in place of those that `fields` has.
 pub(crate) fn put_stated_in_row<'a>(
     stated: &mut Stated,
     last: &mut LastMinute,

@@ -24,7 +24,8 @@ use desk_state::{Duty, Lists, NamedIndexes, Offers};
 use std::alloc::Global;
 
 /// All that a desk keeps: how it was opened, its last moment, its persons with their clocks, its boards and vacancies, the open
-/// offers and holds, who is on which board in which order, and which vacancies were unfilled since anything changed.
+/// offers and holds, who is on which board in which order, and which vacancies were unfilled and when, with whom anything touched
+/// since.
 #[derive(Drop)]
 pub(crate) struct KeptDesk {
     pub opening: Opening,
