@@ -11,7 +11,9 @@ const PAGE: usize = 4_096;
 /// and is written to, 4,096 at a time, up to the last that is set.
 #[derive(Debug, Drop)]
 pub struct IndexHints {
+    // How many there are, as a power of two, and the bits of a number that tell which is its own.
     bits: u32,
+    mask: u32,
     indexes: Vec<u16>,
     ghost some: { 12 ≤ bits },
     ghost few: { bits ≤ 18 },
@@ -26,6 +28,7 @@ impl IndexHints {
     {
         Ok(IndexHints {
             bits: k,
+            mask: (1 << k) - 1,
             indexes: Vec::with_capacity(alloc, 1 << k)?,
         })
     }
@@ -34,7 +37,7 @@ impl IndexHints {
     fn slot_of(&self, number: u32) -> usize
         ensures { result < 2 ^ 32 }
     {
-        (number & ((1 << self.bits) - 1)) as usize
+        (number & self.mask) as usize
     }
 
     /// The index to look at first.
@@ -65,6 +68,7 @@ impl IndexHints {
         indexes.extend_from_slice(&self.indexes)?;
         Ok(IndexHints {
             bits: self.bits,
+            mask: self.mask,
             indexes,
         })
     }

@@ -8,18 +8,13 @@ use std::hash::{BuildHasher, Hash};
 /// The hints of each map are 2^12.
 pub(crate) const HINT_BITS: u32 = 12;
 
-// What the map has under a key. It stays a call, so that the way by the hint is short where it is inlined.
+// The index that the map has for a key. It stays a call, so that the way by the hint is short where it is inlined.
 #[inline(never)]
-fn search_in<'a, K: Eq + Hash, V, S: BuildHasher>(
-    map: &'a IndexMap<K, V, S>,
-    key: &K,
-) -> Option<Indexed<'a, V>>
-    ensures index { option_map (λ x. x.index) result ≡ index_of K.eq map.now key.now }
-    ensures value { option_map (λ x. x.value.now) result ≡ get K.eq map.now key.now }
-    ensures within { IfSome result (λ x. x.index < index_map_len map.now) }
+fn search_in<K: Eq + Hash, V, S: BuildHasher>(map: &IndexMap<K, V, S>, key: &K) -> Option<usize>
+    ensures index { result ≡ index_of K.eq map.now key.now }
+    ensures within { IfSome result (λ index. index < index_map_len map.now) }
 {
-    let (index, _, value) = map.get_full(key)?;
-    Some(Indexed { index, value })
+    map.get_index_of(key)
 }
 
 /// What is kept under a key, with its index among all; `None` exactly where nothing is. It is looked for at the hint first.
@@ -39,7 +34,9 @@ pub(crate) fn find_in<'a, K: Eq + Hash, V, S: BuildHasher>(
             return Some(Indexed { index: hint, value });
         }
     }
-    search_in(map, key)
+    let index = search_in(map, key)?;
+    let (_, value) = map.get_index(index)?;
+    Some(Indexed { index, value })
 }
 
 /// What is kept in a map, and its index among all, from 0.

@@ -1,4 +1,4 @@
-ghost use Rattle.std.specs.Prelude.{◌≡◌, ◌+◌, ◌-◌, ◌<◌, ◌≤◌, ◌^◌};
+ghost use Rattle.std.specs.Prelude.{◌≡◌, ◌+◌, ◌-◌, ◌<◌, ◌≤◌, ◌^◌, IsTrue};
 ghost use Rattle.desk_base.specs.Minute.{month_of};
 ghost use Rattle.desk_base.specs.Month.{first_minute};
 ghost use Rattle.month_hours.specs.Plan.{end_of};
@@ -21,6 +21,19 @@ pub struct PlanMonths {
     plan: Plan,
     shares: [MonthShare; MOST_MONTHS],
     many: usize,
+}
+
+// How many minutes each month has at least: those of 28 days.
+const SHORTEST_MONTH: u64 = 40_320;
+
+// The plan has a minute, and all of them lie in the month of its report; it may be false for such a plan, too, that ends late in the month.
+fn lies_in(plan: &Plan, first: Month) -> bool
+    requires { end_of plan.now < 2 ^ 28 }
+    ensures some { IsTrue result → plan.now.report < end_of plan.now }
+    ensures over { IsTrue result → end_of plan.now ≤ first_minute (first + 1) }
+{
+    let end = plan.end();
+    plan.report.number() < end && end <= first.first().number() + SHORTEST_MONTH
 }
 
 // The month behind that of the plan's last minute; the first is that of its report.
@@ -58,6 +71,13 @@ impl PlanMonths {
         ensures { result ≡ plan.now }
     {
         let first = Month::of(plan.report);
+        if lies_in(plan, first) {
+            return PlanMonths {
+                plan: *plan,
+                shares: [MonthShare::whole(plan, first); MOST_MONTHS],
+                many: 1,
+            };
+        }
         let none = MonthShare {
             month: first,
             planned: 0,

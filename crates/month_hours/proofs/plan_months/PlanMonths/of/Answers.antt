@@ -4,7 +4,9 @@ use Rattle.std.proofs.lemmas.List.FromFn.{map-range_with_len_more}
 use Rattle.std.proofs.Math.ListN.{length-set}
 use Rattle.std.specs.List.{range_with_len}
 use Rattle.std.specs.Option.{SomeIff}
+use Rattle.desk_base.specs.Day.{day_of}
 use Rattle.desk_base.specs.Minute.{month_of}
+use Rattle.desk_base.proofs.MonthLemmas.{month_of_day-unique}
 use Rattle.month_hours.specs.Plan.{end_of}
 use Rattle.month_hours.specs.Shares.{share_of}
 use Rattle.month_hours.proofs.ShareLemmas.{months-few}
@@ -45,8 +47,22 @@ loop-number-preserved c =
           ∙ sym (map-range_with_len_more (share_of p) first i c.loop-number.number here);
     }
 
+-- a plan that lies in the month of its report has that month's share alone
 pub invariant_of-result : goal.invariant_of-result
 invariant_of-result c =
+    let p = c.args.plan.now in
+    let first = c.of-first.result in
+    let some = c.lies_in.ensures.some c.if-lies_in.true in
+    let over = c.lies_in.ensures.over c.if-lies_in.true in
+    let last : month_of (end_of p - 1) ≡ first = month_of_day-unique (day_of (end_of p - 1)) first (record { begun = omega (arith, some, c.of-first.ensures.begun); not_over = omega (arith, some, over) }) in
+    let one : month_of (end_of p - 1) + 1 - month_of p.report ≡ 1 = omega (arith, last, c.of-first.ensures.value) in
+    record {
+      most = omega arith;
+      are = ap (λ s. s ∷ []) c.whole.ensures ∙ rw (one, sym c.of-first.ensures.value) refl;
+    }
+
+pub invariant_of-result-2 : goal.invariant_of-result-2
+invariant_of-result-2 c =
     let p = c.args.plan.now in
     let few = months-few p c.requires.few in
     let all : c.loop-number.many ≡ month_of (end_of p - 1) + 1 - month_of p.report = omega (arith, c.of-first.ensures.value, c.number-number.ensures.value, c.end_month-number-end.ensures.value, c.loop-number.invariant.many, c.loop-number.invariant.from, c.loop-number.invariant.to, c.loop-number-test.false) in
