@@ -42,7 +42,8 @@ fn reader_of<'a>(alloc: Global, text: &'a [u8]) -> Reader<&'a [u8]>
         .from_reader(alloc, text)
 }
 
-// Reads the next record. It is false where none is left.
+// Reads the next record. It is false where none is left. It stays a call, so that the way of a plain line is short.
+#[inline(never)]
 fn read_next(rdr: &mut Reader<&[u8]>, row: &mut ByteRecord) -> Result<bool, NoMemory>
     ensures { IfOk result (λ found. (left : List (List (List ℕ))) → ReaderHas rdr.old left
         → MatchBool found (ReaderTook left (fields_of row.new) rdr.new) (left ≡ [])) }
@@ -66,6 +67,14 @@ impl<'a> Rows<'a> {
         Rows { source }
     }
 
+    // Lets the text go for one of no lines. It stays a call, since it is done behind the last record.
+    #[inline(never)]
+    fn end(&mut self)
+        ensures { HasLeft self.new [] }
+    {
+        self.source = Source::Lines(&[]);
+    }
+
     /// Reads the next record into `row`. It is false where none is left, and then at each later call; `NoMemory` where there is none
     /// for what `csv` reads, behind which nothing is said of it any more.
     pub fn next(&mut self, row: &mut Row<'a>) -> Result<bool, NoMemory>
@@ -87,7 +96,7 @@ impl<'a> Rows<'a> {
                 if read_next(rdr, &mut row.read)? {
                     return Ok(true);
                 }
-                self.source = Source::Lines(&[]);
+                self.end();
                 Ok(false)
             }
         }
