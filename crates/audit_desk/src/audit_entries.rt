@@ -7,7 +7,6 @@ ghost use Rattle.audit_desk.specs.Resumed.{Resumes};
 
 use crate::lines::first_line;
 use crate::{Outcome, Verdict};
-use command_parser::some_statement;
 use desk_model::{DeskCore, Entry};
 use desk_text::{Statement, each_line_ends_once, put_statement, read_entry};
 use line_writer::{LineText, fill_with_outcome};
@@ -41,10 +40,7 @@ pub(crate) fn audit_entries<C: DeskCore>(core: &mut C, text: &[u8]) -> Result<u3
     let mut right_outcome = LineText::new();
     let mut last = LastMinute::new();
     let mut fields = Fields::new();
-    let mut statement = Statement {
-        caller: 0,
-        stated: some_statement(),
-    };
+    let mut statement = Statement::new();
     while !left.is_empty() {
         let (line, behind) = first_line(left);
         let Some(outcome) = put_statement(&mut statement, &mut fields, &mut last, line) else {

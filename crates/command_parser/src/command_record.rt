@@ -1,5 +1,5 @@
 //! Commands, read from the fields of a record, and the law that a record states one.
-ghost use Rattle.std.specs.Prelude.{◌≡◌, ◌∷◌, IfSome, IfOk, IfErr, IsTrue, false, map, ℕ, List};
+ghost use Rattle.std.specs.Prelude.{◌≡◌, IfSome, IfOk, IfErr, IsTrue, false, map, ℕ, List};
 ghost use Rattle.desk_model.specs.declared.command.Cmd.{Cmd as CmdValue};
 ghost use Rattle.desk_model.specs.statements.Statement.{StatedValue};
 ghost use Rattle.command_parser.specs.Spelled.{SpellsCommand, StatesCommand};
@@ -54,15 +54,6 @@ pub(crate) fn read_stated(last: &mut LastMinute, fields: &[&[u8]]) -> Option<Sta
     let [minute, command @ ..] = fields else {
         return None;
     };
-    stated_by(last, minute, command)
-}
-
-/// What the text of a minute and the fields of a command state; `None` where they state nothing.
-pub fn stated_by(last: &mut LastMinute, minute: &[u8], command: &[&[u8]]) -> Option<Stated>
-    ensures some { IfSome result (StatesCommand (minute.now ∷ map (λ field. field.now) command.now)) }
-    ensures only { (s : StatedValue) → StatesCommand (minute.now ∷ map (λ field. field.now) command.now) s
-        → result ≡ Some s }
-{
     let minute = last.read(minute)?;
     match read_cmd(last, command) {
         Some(cmd) => Stated::new(minute, cmd),
@@ -72,7 +63,7 @@ pub fn stated_by(last: &mut LastMinute, minute: &[u8], command: &[&[u8]]) -> Opt
 
 /// Puts what a record's fields state in place of what `stated` has, which spares its being moved about; false where they state nothing, and
 /// then it stays.
-pub(crate) fn put_stated_by(stated: &mut Stated, last: &mut LastMinute, fields: &[&[u8]]) -> bool
+pub fn put_stated(stated: &mut Stated, last: &mut LastMinute, fields: &[&[u8]]) -> bool
     ensures some { IsTrue result → StatesCommand (map (λ field. field.now) fields.now) stated.new }
     ensures only { (s : StatedValue) → StatesCommand (map (λ field. field.now) fields.now) s → IsTrue result }
     ensures same { result ≡ false → stated.new ≡ stated.old }
@@ -80,20 +71,6 @@ pub(crate) fn put_stated_by(stated: &mut Stated, last: &mut LastMinute, fields: 
     let [minute, command @ ..] = fields else {
         return false;
     };
-    put_stated(stated, last, minute, command)
-}
-
-/// The same of what the text of a minute and the fields of a command state.
-pub fn put_stated(
-    stated: &mut Stated,
-    last: &mut LastMinute,
-    minute: &[u8],
-    command: &[&[u8]],
-) -> bool
-    ensures some { IsTrue result → StatesCommand (minute.now ∷ map (λ field. field.now) command.now) stated.new }
-    ensures only { (s : StatedValue) → StatesCommand (minute.now ∷ map (λ field. field.now) command.now) s → IsTrue result }
-    ensures same { result ≡ false → stated.new ≡ stated.old }
-{
     let Some(minute) = last.read(minute) else {
         return false;
     };

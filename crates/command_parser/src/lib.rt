@@ -28,7 +28,7 @@ mod table_of_records;
 mod word;
 
 pub use command_line::{read_command, read_next_command};
-pub use command_record::{a_record_states_one_command, put_stated, read_record, stated_by};
+pub use command_record::{a_record_states_one_command, put_stated, read_record};
 pub use command_records::CommandRecords;
 pub use day_fault::DayFault;
 pub use day_file::{DayFile, bytes_are_one_day_file, read_day};

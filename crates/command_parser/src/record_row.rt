@@ -7,7 +7,7 @@ ghost use Rattle.command_parser.specs.OpeningRecord.{StatesOpening};
 ghost use Rattle.command_parser.specs.RecordForms.{IsWrongAt};
 ghost use Rattle.command_parser.specs.Spelled.{StatesCommand};
 
-use crate::command_record::{put_stated_by, read_stated};
+use crate::command_record::{put_stated, read_stated};
 use crate::first_wrong::wrong_field;
 use crate::opening_record::opening_of;
 use desk_model::{Opening, Stated};
@@ -50,12 +50,12 @@ pub(crate) fn put_stated_in_row<'a>(
     match row.line() {
         Some(line) => {
             fill_with_line(fields, line);
-            put_stated_by(stated, last, fields.as_slice())
+            put_stated(stated, last, fields.as_slice())
         }
         None => {
             let mut fields = Fields::new();
             row.fill_fields(&mut fields);
-            put_stated_by(stated, last, fields.as_slice())
+            put_stated(stated, last, fields.as_slice())
         }
     }
 }

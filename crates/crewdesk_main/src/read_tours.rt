@@ -7,9 +7,9 @@ ghost use Rattle.crewdesk_main.specs.Records.{KeepsJournal, IsUnread, StartsWith
 ghost use Rattle.audit_desk.specs.Found.{HasNoOpening};
 
 use audit_desk::{JOURNAL_BYTES, Verdict, first_line};
-use desk_text::{each_line_ends_once, read_next_entry, read_opening};
+use desk_text::{Statement, each_line_ends_once, read_next_entry, read_opening};
 use duty_record::DutyRecords;
-use record_rows::LastMinute;
+use record_rows::{Fields, LastMinute};
 use std::alloc::Global;
 
 /// What a journal of at most 268,435,456 bytes tells of tours, whether or not it is legal; or which line is the first that is no
@@ -39,11 +39,19 @@ fn read_entries(alloc: Global, text: &[u8]) -> Result<DutyRecords, Verdict>
     let mut records = DutyRecords::new(alloc);
     let mut left = text;
     let mut count: u32 = 0;
+    let mut statement = Statement::new();
+    let mut fields = Fields::new();
     let mut stated_last = LastMinute::new();
     let mut moment_last = LastMinute::new();
     while !left.is_empty() {
         let (line, behind) = first_line(left);
-        let Some(entry) = &read_next_entry(&mut stated_last, &mut moment_last, line) else {
+        let Some(entry) = &read_next_entry(
+            &mut statement,
+            &mut fields,
+            &mut stated_last,
+            &mut moment_last,
+            line,
+        ) else {
             return Err(Verdict::Unreadable(count + 2));
         };
         match records.read(entry) {

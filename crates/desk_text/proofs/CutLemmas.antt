@@ -12,7 +12,7 @@ use Rattle.std.proofs.lemmas.Slice.Eq.{slice_eq-Decides}
 use Rattle.desk_base.specs.Parts.{parts_by}
 
 -- a part and others, with the mark between them
-pub joined : (mark : ℕ) (front : List ℕ) (parts : List (List ℕ)) → 0 < length parts
+joined : (mark : ℕ) (front : List ℕ) (parts : List (List ℕ)) → 0 < length parts
     → join_with_byte mark (front ∷ parts) ≡ front ++ mark ∷ join_with_byte mark parts
 joined mark front [] some = absurd (omega arith)
 joined mark front (part ∷ parts) some = refl

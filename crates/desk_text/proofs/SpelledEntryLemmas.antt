@@ -1,11 +1,11 @@
 -- The parts of an entry's line, and the fields of what it states.
-use Rattle.std.proofs.Common.{◌≡◌, ◌∙◌, ℕ, suc, ◌<◌, ◌≤◌, ◌==◌, Bool, true, false, not, List, [], ◌∷◌, ◌++◌, length, get_or, take, drop, decimal, refl, sym, ap, arith, append_assoc}
-use Rattle.std.specs.List.{All, IsSplitAt, join_with_byte}
+use Rattle.std.proofs.Common.{◌≡◌, ◌∙◌, ℕ, suc, ◌<◌, ◌≤◌, ◌==◌, Bool, true, false, not, List, [], ◌∷◌, ◌++◌, length, get_or, take, decimal, refl, sym, ap, arith, append_assoc}
+use Rattle.std.specs.List.{All, join_with_byte}
 use Rattle.std.proofs.lemmas.Bool.Decides.{nat_tests}
 use Rattle.std.proofs.lemmas.List.{take_all, append_cancel_right}
 use Rattle.std.proofs.lemmas.List.Splits.{join_with_byte-slice_split}
 use Rattle.std.proofs.lemmas.List.Sums.{AllPass-from_list_all}
-use Rattle.desk_base.specs.Minute.{minute_text}
+use Rattle.desk_base.specs.Minute.{IsInYears, minute_text}
 use Rattle.desk_base.specs.Parts.{parts_by}
 use Rattle.desk_base.proofs.PartsLemmas.{AreUnmarked, parts_by-join}
 use Rattle.duty_events.specs.declared.event.Event.{Event}
@@ -17,15 +17,15 @@ use Rattle.desk_model.specs.texts.ReplyTexts.{reply_text}
 use Rattle.desk_model.specs.texts.StatedTexts.{event_fields, command_fields, stated_fields}
 use Rattle.desk_model.specs.statements.Statement.{StatedValue}
 use Rattle.desk_model.specs.declared.limits.TheConstants.{LAST_CALLER}
+use Rattle.desk_model.specs.declared.reply.Reply.{Reply}
 use Rattle.desk_text.specs.declared.statement.Statement.{Statement}
 use Rattle.line_writer.specs.Line.{outcome_line}
 use Rattle.command_parser.specs.Spelled.{SpellsStated}
-use Rattle.desk_text.specs.SpelledEntry.{IsEntryLine, SpellsEntry, BeginsEntry, statement_of}
+use Rattle.desk_text.specs.SpelledEntry.{IsEntryLine, BeginsEntry, statement_of}
+use Rattle.desk_text.specs.SpelledReply.{SpellsReply}
 use Rattle.desk_text.proofs.FirstFieldsLemmas.{take-short}
 use Rattle.desk_text.proofs.PlainLemmas.{Passes, IsInner, is_inner, join, weaker, number, minute_in}
 use Rattle.desk_text.proofs.LineLemmas.{stated_inner}
-use Rattle.desk_text.proofs.CutLemmas.{joined}
-use Rattle.desk_text.proofs.PartLemmas.{with_mark}
 
 -- ---- the fields of what is stated
 
@@ -61,35 +61,8 @@ pub fields-of-text : (text : List ℕ) (front : List (List ℕ)) (first : List �
 fields-of-text text front first fields all is e few =
     is ∙ ap (λ l. take 12 l) (ap (parts_by 44) e ∙ fields-split first fields all) ∙ take_all 12 (first ∷ fields) (omega (arith, few))
 
-some_command : (c : Cmd) → 0 < length (command_fields c)
-some_command c = grind arith
-
--- what stands behind the minute: a comma, and the command's fields with commas between them
-abbrev pub behind_minute : StatedValue → List ℕ
-behind_minute s = 44 ∷ join_with_byte 44 (command_fields s.cmd)
-
-pub stated-text : (s : StatedValue) → join_with_byte 44 (stated_fields s) ≡ minute_text s.minute ++ behind_minute s
-stated-text s = joined 44 (minute_text s.minute) (command_fields s.cmd) (some_command s.cmd)
-
--- where the text of 16 bytes and the first fields behind the comma are the minute's and the command's, the whole text is what is stated
-pub text-of-stated : (text minute rest back : List ℕ) (fields : List (List ℕ)) (s : StatedValue) → IsSplitAt text 16 minute rest → rest ≡ 44 ∷ back
-    → fields ≡ take 12 (parts_by 44 back) → minute ∷ fields ≡ stated_fields s → text ≡ join_with_byte 44 (stated_fields s)
-text-of-stated text minute rest back fields s split behind is are =
-    let few : length (command_fields s.cmd) < 12 = omega (arith, few_command s.cmd) in
-    with_mark 44 text minute rest (minute_text s.minute) (join_with_byte 44 (command_fields s.cmd)) split (ap (λ fs. get_or fs 0 []) are)
-    (behind ∙ ap (λ t. 44 ∷ t) (text-of-fields back fields (command_fields s.cmd) is (ap (drop 1) are) few))
-    ∙ sym (stated-text s)
-
-fields-of : (text : List ℕ) (front fields : List (List ℕ)) → 0 < length fields → All IsInner fields
-    → front ≡ take 12 (parts_by 44 text) → text ≡ join_with_byte 44 fields → length fields < 12 → front ≡ fields
-fields-of text front [] some all is e few = absurd (omega (arith, some))
-fields-of text front (first ∷ fields) some all is e few = fields-of-text text front first fields all is e few
-
--- and behind the comma of what is stated these are the first fields
-pub fields-of-command : (back : List ℕ) (fields : List (List ℕ)) (s : StatedValue) → IsStated s → fields ≡ take 12 (parts_by 44 back)
-    → back ≡ join_with_byte 44 (command_fields s.cmd) → fields ≡ command_fields s.cmd
-fields-of-command back fields s valid is e =
-    fields-of back fields (command_fields s.cmd) (some_command s.cmd) (λ k d within. stated_inner s valid (suc k) d (omega (arith, within))) is e (omega (arith, few_command s.cmd))
+pub few_stated : (s : StatedValue) → length (stated_fields s) < 12
+few_stated s = omega (arith, few_command s.cmd)
 
 -- ---- the parts of a line
 
@@ -114,11 +87,8 @@ unbarred xs is k d within = other (get_or xs k d) (AllPass-from_list_all no_bar 
 inner_no_bar : (xs : List ℕ) → IsInner xs → Passes no_bar xs
 inner_no_bar xs is = weaker no_bar xs (λ b h. grind (arith, nat_tests, h)) is
 
-pub number-unbarred : (caller : ℕ) → caller ≤ LAST_CALLER → All (λ b. (b == 124) ≡ false) (decimal caller)
-number-unbarred caller within = unbarred _ (inner_no_bar _ (number caller (omega (arith, within))))
-
 pub caller-unbarred : (e : EntryValue) → Fits e → All (λ b. (b == 124) ≡ false) (decimal e.caller)
-caller-unbarred e is = number-unbarred e.caller is.caller
+caller-unbarred e is = unbarred _ (inner_no_bar _ (number e.caller (omega (arith, is.caller))))
 
 pub joined-unbarred : (fields : List (List ℕ)) → All IsInner fields → All (λ b. (b == 124) ≡ false) (join_with_byte 44 fields)
 joined-unbarred fields all = unbarred _ (join 44 refl fields (λ k d within. inner_no_bar _ (all k d within)))
@@ -135,15 +105,6 @@ moment-unbarred e is = unbarred _ (inner_no_bar _ (minute_in e.moment is.moment)
 -- what stands before a line's line feed
 pub before-line_feed : (line front text : List ℕ) → line ≡ front ++ 10 ∷ [] → line ≡ text ++ 10 ∷ [] → front ≡ text
 before-line_feed line front text is same = append_cancel_right front text (10 ∷ []) (sym is ∙ same)
-
--- four parts that spell an entry make its line
-pub line-of-parts : (line front caller stated moment reply rest more : List ℕ) (e : EntryValue)
-    → line ≡ front ++ 10 ∷ [] → front ≡ caller ++ 124 ∷ rest → rest ≡ stated ++ 124 ∷ more → more ≡ moment ++ 124 ∷ reply
-    → SpellsEntry caller stated moment reply e → IsEntryLine line e
-line-of-parts line front caller stated moment reply rest more e a b c d spells = record {
-  valid = spells.valid;
-  line_is = rw (a, b, c, d, spells.caller_is, spells.stated_is, spells.moment_is, spells.reply_is) (sym (entry_line-parts e));
-}
 
 -- a caller and what is stated, spelled in a line's first parts, are who stated what by it
 pub BeginsEntry-parts : (line caller rest stated outcome : List ℕ) (s : Statement) → s.caller ≤ LAST_CALLER → line ≡ caller ++ 124 ∷ rest → rest ≡ stated ++ 124 ∷ outcome
@@ -167,3 +128,16 @@ pub entry_line-outcome : (line outcome : List ℕ) (s : Statement) (e : EntryVal
 entry_line-outcome line outcome s e begins same is =
     begins.line_is ∙ ap (λ t. decimal t.caller ++ 124 ∷ (join_with_byte 44 (stated_fields t.stated) ++ 124 ∷ outcome)) same
     ∙ ap (λ x. decimal e.caller ++ 124 ∷ (join_with_byte 44 (stated_fields e.stated) ++ 124 ∷ x)) is ∙ sym (entry_line-parts-outcome e)
+
+-- an outcome's line is its moment, and behind a bar its reply
+pub outcome_line-parts : (moment : ℕ) (reply : Reply) → outcome_line moment reply ≡ minute_text moment ++ 124 ∷ (reply_text reply ++ 10 ∷ [])
+outcome_line-parts moment reply = append_assoc (minute_text moment) (124 ∷ reply_text reply) (10 ∷ [])
+
+-- a line that begins with who stated what by an entry, behind which its moment and its reply are spelled, is that entry's
+pub IsEntryLine-parts : (line outcome moment back reply : List ℕ) (e : EntryValue) → BeginsEntry line outcome (statement_of e) → outcome ≡ moment ++ 124 ∷ back
+    → IsInYears e.moment × (moment ≡ minute_text e.moment) → back ≡ reply ++ 10 ∷ [] → SpellsReply reply e.reply → IsEntryLine line e
+IsEntryLine-parts line outcome moment back reply e begins outcome_is moment_is back_is spells = record {
+  valid = record { caller = begins.caller_in; stated = begins.valid; moment = moment_is.0; reply = spells.valid };
+  line_is = entry_line-outcome line outcome (statement_of e) e begins refl
+      (rw (outcome_is, moment_is.1, back_is, spells.text_is) (sym (outcome_line-parts e.moment e.reply)));
+}

@@ -1,11 +1,9 @@
 -- What lines of a journal, and their parts, say.
 use Rattle.std.specs.Prelude.{◌≡◌, ℕ, ◌≤◌, List, ◌∷◌, ◌++◌, decimal}
 use Rattle.std.specs.List.{join_with_byte}
-use Rattle.desk_base.specs.Minute.{minute_text}
 use Rattle.desk_model.specs.statements.Entry.{EntryValue}
 use Rattle.desk_model.specs.statements.Fits.{IsStated, Fits}
 use Rattle.desk_model.specs.texts.Journal.{entry_line}
-use Rattle.desk_model.specs.texts.ReplyTexts.{reply_text}
 use Rattle.desk_model.specs.texts.StatedTexts.{stated_fields}
 use Rattle.desk_model.specs.declared.limits.TheConstants.{LAST_CALLER}
 use Rattle.desk_text.specs.declared.statement.Statement.{Statement}
@@ -14,14 +12,6 @@ use Rattle.desk_text.specs.declared.statement.Statement.{Statement}
 pub record IsEntryLine (line : List ℕ) (e : EntryValue) : Type 0 where
   pub valid : Fits e
   pub line_is : line ≡ entry_line e
-
--- the four parts of a line are this entry's
-pub record SpellsEntry (caller stated moment reply : List ℕ) (e : EntryValue) : Type 0 where
-  pub valid : Fits e
-  pub caller_is : caller ≡ decimal e.caller
-  pub stated_is : stated ≡ join_with_byte 44 (stated_fields e.stated)
-  pub moment_is : moment ≡ minute_text e.moment
-  pub reply_is : reply ≡ reply_text e.reply
 
 -- who stated what by an entry
 abbrev pub statement_of : EntryValue → Statement

@@ -1,6 +1,7 @@
 //! Texts taken apart.
 ghost use Rattle.std.specs.Prelude.{◌≡◌, ◌≢◌, ◌==◌, ◌∷◌, ◌++◌, ℕ, List, false, IfSome, IfNone, IsSomeAnd};
 ghost use Rattle.std.specs.List.{All};
+ghost use Rattle.desk_base.specs.Minute.{minute_text};
 
 use desk_base::split_once;
 use memchr::memchr;
@@ -25,6 +26,16 @@ pub(crate) fn cut_near(text: &[u8], mark: u8) -> Option<(&[u8], &[u8])>
 {
     let (front, back) = split_once(text, mark);
     Some((front, back?))
+}
+
+/// What stands before a mark behind a minute's text, which has 16 bytes, and what stands behind the mark; `None` where it isn't there.
+pub(crate) fn cut_minute(text: &[u8], mark: u8) -> Option<(&[u8], &[u8])>
+    ensures some { IfSome result (λ parts. text.now ≡ parts.0.now ++ mark ∷ parts.1.now) }
+    ensures only { (minute : ℕ) (back : List ℕ) → text.now ≡ minute_text minute ++ mark ∷ back
+        → IsSomeAnd result (λ parts. (parts.0.now ≡ minute_text minute) × (parts.1.now ≡ back)) }
+{
+    let (minute, rest) = text.split_at_checked(16)?;
+    Some((minute, behind(rest, &[mark])?))
 }
 
 /// What stands behind the head of a text; `None` where the text begins otherwise.

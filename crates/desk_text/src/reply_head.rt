@@ -35,24 +35,27 @@ impl ReplyHead {
         ensures none { IfNone result ((head : ReplyHeadValue) (rest : List ℕ)
             → text.now ≢ reply_head_text head ++ rest) }
     {
+        // Those that most journals have most of come first.
         if let Some(rest) = behind(text, b"offered ") {
             Some((ReplyHead::Offered, rest))
-        } else if let Some(rest) = behind(text, b"unfilled ") {
-            Some((ReplyHead::Unfilled, rest))
         } else if let Some(rest) = behind(text, b"hours ") {
             Some((ReplyHead::Hours, rest))
-        } else if let Some(rest) = behind(text, b"seen ") {
-            Some((ReplyHead::Seen, rest))
-        } else if let Some(rest) = behind(text, b"no one ") {
-            Some((ReplyHead::NoOne, rest))
         } else if let Some(rest) = behind(text, b"state ") {
             Some((ReplyHead::State, rest))
-        } else if let Some(rest) = behind(text, b"run around ") {
-            Some((ReplyHead::RunAround, rest))
-        } else if let Some(rest) = behind(text, b"denied ") {
-            Some((ReplyHead::Denied, rest))
         } else if let Some(rest) = behind(text, b"clear ") {
             Some((ReplyHead::Clear, rest))
+        } else if let Some(rest) = behind(text, b"seen ") {
+            Some((ReplyHead::Seen, rest))
+        } else if let Some(rest) = behind(text, b"closed ") {
+            Some((ReplyHead::Closed, rest))
+        } else if let Some(rest) = behind(text, b"denied ") {
+            Some((ReplyHead::Denied, rest))
+        } else if let Some(rest) = behind(text, b"no one ") {
+            Some((ReplyHead::NoOne, rest))
+        } else if let Some(rest) = behind(text, b"unfilled ") {
+            Some((ReplyHead::Unfilled, rest))
+        } else if let Some(rest) = behind(text, b"run around ") {
+            Some((ReplyHead::RunAround, rest))
         } else if let Some(rest) = behind(text, b"frozen ") {
             Some((ReplyHead::Frozen, rest))
         } else if let Some(rest) = behind(text, b"event ahead ") {
@@ -63,8 +66,6 @@ impl ReplyHead {
             Some((ReplyHead::BadChain, rest))
         } else if let Some(rest) = behind(text, b"report past ") {
             Some((ReplyHead::ReportPast, rest))
-        } else if let Some(rest) = behind(text, b"closed ") {
-            Some((ReplyHead::Closed, rest))
         } else if let Some(rest) = behind(text, b"offer open ") {
             Some((ReplyHead::OfferOpen, rest))
         } else if let Some(rest) = behind(text, b"lapsed ") {

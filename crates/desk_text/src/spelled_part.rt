@@ -7,7 +7,7 @@ ghost use Rattle.desk_base.specs.Minute.{IsInYears, minute_text};
 ghost use Rattle.desk_base.specs.Month.{IsMonthInYears, month_text};
 ghost use Rattle.desk_model.specs.texts.BarTexts.{late_text};
 
-use crate::cut::{behind, cut};
+use crate::cut::{cut_minute, cut_near};
 use command_parser::read_position;
 use desk_base::{Code, Minute, Month, YEARS_END, read_decimal};
 
@@ -37,8 +37,8 @@ pub(crate) fn read_since(text: &[u8]) -> Option<(Minute, &[u8])>
         → text.now ≡ minute_text minute ++ 32 ∷ rest
         → IsSomeAnd result (λ found. (found.0 ≡ minute) × (found.1.now ≡ rest)) }
 {
-    let (minute, rest) = text.split_at_checked(16)?;
-    Some((Minute::read(minute)?, behind(rest, b" ")?))
+    let (minute, rest) = cut_minute(text, b' ')?;
+    Some((Minute::read(minute)?, rest))
 }
 
 /// Two numbers below 2^32.
@@ -47,7 +47,7 @@ pub(crate) fn read_numbers(text: &[u8]) -> Option<(u32, u32)>
     ensures only { (first second : ℕ) → first < 2 ^ 32 → second < 2 ^ 32
         → text.now ≡ decimal first ++ 32 ∷ decimal second → result ≡ Some (first, second) }
 {
-    let (first, second) = cut(text, b' ')?;
+    let (first, second) = cut_near(text, b' ')?;
     Some((read_decimal(first)?, read_decimal(second)?))
 }
 
@@ -58,7 +58,7 @@ pub(crate) fn read_total(text: &[u8]) -> Option<(Month, u32)>
     ensures only { (month total : ℕ) → IsMonthInYears month → total < 2 ^ 32
         → text.now ≡ month_text month ++ 32 ∷ decimal total → result ≡ Some (month, total) }
 {
-    let (month, total) = cut(text, b' ')?;
+    let (month, total) = cut_near(text, b' ')?;
     Some((Month::read(month)?, read_decimal(total)?))
 }
 
@@ -70,6 +70,6 @@ pub(crate) fn read_board_position(text: &[u8]) -> Option<(Code, u16)>
         → position ≤ POSITION_LIMIT → text.now ≡ board ++ 32 ∷ decimal position
         → result ≡ Some (board, position) }
 {
-    let (board, position) = cut(text, b' ')?;
+    let (board, position) = cut_near(text, b' ')?;
     Some((Code::read(board)?, read_position(position)?))
 }

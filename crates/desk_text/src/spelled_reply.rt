@@ -4,7 +4,7 @@ ghost use Rattle.desk_model.specs.declared.reply.Reply.{Reply as ReplyValue};
 ghost use Rattle.desk_text.specs.declared.reply_head.ReplyHead.TheVariants as head;
 ghost use Rattle.desk_text.specs.SpelledReply.{SpellsReply, TellsReply, HasNoReplyHead};
 
-use crate::cut::cut;
+use crate::cut::cut_near;
 use crate::reply_head::ReplyHead;
 use crate::spelled_bar::read_bar;
 use crate::spelled_part::{read_board_position, read_late, read_numbers};
@@ -68,7 +68,7 @@ fn read_offered(kept: &[u8]) -> Option<Reply>
     ensures only { (reply : ReplyValue) → TellsReply head.Offered kept.now reply
         → result ≡ Some reply }
 {
-    let (person, place) = cut(kept, b' ')?;
+    let (person, place) = cut_near(kept, b' ')?;
     let person = read_person(person)?;
     let (board, position) = read_board_position(place)?;
     Some(Reply::Offered {

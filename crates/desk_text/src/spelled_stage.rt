@@ -5,7 +5,7 @@ ghost use Rattle.duty_events.specs.declared.event_fault.EventFault.{EventFault a
 ghost use Rattle.desk_model.specs.declared.vac_state.VacState.{VacState as StateValue};
 ghost use Rattle.desk_text.specs.SpelledReply.{SpellsState, SpellsStage, SpellsFault};
 
-use crate::cut::{behind, cut};
+use crate::cut::{behind, cut_near};
 use crate::spelled_part::read_since;
 use command_parser::{read_kind, read_person};
 use desk_base::{Code, Minute, read_decimal};
@@ -60,7 +60,7 @@ fn read_interim(text: &[u8]) -> Option<Stage>
     ensures only { (stage : StageValue) → SpellsStage (codes "interim " ++ text.now) stage
         → result ≡ Some stage }
 {
-    let (kind, rest) = cut(text, b' ')?;
+    let (kind, rest) = cut_near(text, b' ')?;
     let Some((since, place)) = read_since(rest) else {
         return None;
     };
