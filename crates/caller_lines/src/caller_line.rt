@@ -17,7 +17,7 @@ pub trait CallerLine: Drop {
     /// Its calls in their order, where the line tells them: what `next` answered, and the texts that were put.
     ghost calls: { Self → Option (List LineCall) };
 
-    /// All that was put on it is written.
+    /// Nothing that was put on it waits to be written: where no call had a fault, all of it is written.
     ghost settled: { Self → Type 0 };
 
     /// Gives the caller's next line, without its line feed, if it has 512 bytes at most.

@@ -23,7 +23,7 @@ const LONGEST: usize = 16_777_216;
 /// A line over a reader and a writer, which tells nothing of content. It reads a piece at a time, and lets texts wait while it holds
 /// more bytes of its caller, so that they are written together: all of them before it reads again. Bytes at the end without a line
 /// feed are a line; a line of more than 16,777,216 bytes is a fault, as is each error of the reader or the writer; and without either
-/// of them each call is a fault. There is no other.
+/// of them each line that is asked for, and each text that is put, is a fault. There is no other.
 #[derive(Drop)]
 pub struct FileLine<R, W> {
     reader: Option<R>,
@@ -276,6 +276,23 @@ impl<R: Read, W: Write> FileLine<R, W> {
         if !self.out.write_waiting(&mut self.errors) {
             return false;
         }
+        self.ask()
+    }
+
+    // Reads a piece in place of what was held, where nothing waits: this is the one place where the reader is asked. It says whether the
+    // reader did it without an error.
+    fn ask(&mut self) -> bool
+        requires { self.old.waiting ≡ [] }
+        ensures error { OnFalse result (Rose self.old.errors self.new.errors ⊎ HasNoFile self.old) }
+        ensures no_error { OnTrue result (self.new.errors ≡ self.old.errors) }
+        ensures errors_grow { self.old.errors ≤ self.new.errors }
+        ensures there { HasNoFile self.new → HasNoFile self.old }
+        ensures kept { self.old.held ≡ [] → Consumes (left_of R.remaining self.old) (left_of R.remaining self.new) [] }
+        ensures end { OnTrue result (self.new.held ≡ [] → IsAtEnd (left_of R.remaining self.new)) }
+        ensures writer { self.new.writer ≡ self.old.writer }
+        ensures waiting { self.new.waiting ≡ [] }
+        ensures faults { self.new.faults ≡ self.old.faults }
+    {
         self.from = 0;
         self.to = 0;
         let Some(reader) = &mut self.reader else {
