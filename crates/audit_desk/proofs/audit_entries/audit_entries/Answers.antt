@@ -10,21 +10,21 @@ use Rattle.audit_desk.proofs.audit_entries.audit_entries.Goals as goal
 
 pub returns-in_default-clause-found : goal.returns-in_default-clause-found
 returns-in_default-clause-found g c = λ h stands none.
-    let so = c.loop-statement.invariant.read h stands none in
-    HasUnreadable-line _ c.loop-statement.left.now c.first_line.result.0.now c.first_line.result.1.now so.history _ (g.met.C.DeskCore.legal _ _ so.stands) so.read
-    (some-left c.loop-statement.left.now c.loop-statement-test.ensures) c.each_line_ends_once.ensures.entry c.first_line.ensures.line
+    let so = c.loop-left.invariant.read h stands none in
+    HasUnreadable-line _ c.loop-left.left.now c.first_line.result.0.now c.first_line.result.1.now so.history _ (g.met.C.DeskCore.legal _ _ so.stands) so.read
+    (some-left c.loop-left.left.now c.loop-left-test.ensures) c.each_line_ends_once.ensures.entry c.first_line.ensures.line
     (λ e is. rw (c.in_default.is) at (c.put_statement.ensures.only _ _ (IsEntryLine-begins _ e is))) (omega (arith, so.count_is))
 
 pub returns-in_default-read_entry-clause-found : goal.returns-in_default-read_entry-clause-found
 returns-in_default-read_entry-clause-found g c = λ h stands none.
-    let so = c.loop-statement.invariant.read h stands none in
-    HasUnreadable-line _ c.loop-statement.left.now c.first_line.result.0.now c.first_line.result.1.now so.history _ (g.met.C.DeskCore.legal _ _ so.stands) so.read
-    (some-left c.loop-statement.left.now c.loop-statement-test.ensures) c.each_line_ends_once.ensures.entry c.first_line.ensures.line
+    let so = c.loop-left.invariant.read h stands none in
+    HasUnreadable-line _ c.loop-left.left.now c.first_line.result.0.now c.first_line.result.1.now so.history _ (g.met.C.DeskCore.legal _ _ so.stands) so.read
+    (some-left c.loop-left.left.now c.loop-left-test.ensures) c.each_line_ends_once.ensures.entry c.first_line.ensures.line
     (λ e is. let found = c.read_entry.ensures.only e is in let missing = c.in_default-read_entry.is in cc) (omega (arith, so.count_is))
 
 pub returns-then-ne-clause-found : goal.returns-then-ne-clause-found
 returns-then-ne-clause-found g c = λ h stands none.
-    let so = c.loop-statement.invariant.read h stands none in
+    let so = c.loop-left.invariant.read h stands none in
     let line : IsEntryLine c.first_line.result.0.now c.in-Some-read_entry.entry = rw (c.in-Some-read_entry.is) at c.read_entry.ensures.some in
     let read : (c.put_statement.new.statement ≡ statement_of c.in-Some-read_entry.entry) × (c.in-Some.outcome.now ≡ outcome_line c.in-Some-read_entry.entry.moment c.in-Some-read_entry.entry.reply) =
     rw (c.in-Some.is) at (c.put_statement.ensures.only _ _ (IsEntryLine-begins _ c.in-Some-read_entry.entry line)) in
@@ -40,26 +40,26 @@ returns-then-ne-clause-found g c = λ h stands none.
       fits = line.valid;
       line_is = omega (arith, so.count_is);
       written_is = c.outcome_of.ensures;
-      right_is = c.outcome_of-then-ne.ensures ∙ ap outcome_of answer;
+      right_is = c.outcome_of-then-ne.ensures ∙ ap outcome_of (c.to_entry.ensures ∙ answer);
       differ = λ same. other-text _ _ c.if-ne.ensures (
-          read.1 ∙ ap (λ o. outcome_line o.moment o.reply) (sym c.outcome_of.ensures ∙ same ∙ c.outcome_of-then-ne.ensures)
+          read.1 ∙ ap (λ o. outcome_line o.moment o.reply) (sym c.outcome_of.ensures ∙ same ∙ c.outcome_of-then-ne.ensures ∙ ap outcome_of c.to_entry.ensures)
           ∙ sym (c.as_slice.ensures.value ∙ c.fill_with_outcome.ensures));
     }
 
-pub loop-statement-preserved : goal.loop-statement-preserved
-loop-statement-preserved g c =
-    let shorter = c.first_line.ensures.shorter (some-left c.loop-statement.left.now c.loop-statement-test.ensures) in
+pub loop-left-preserved : goal.loop-left-preserved
+loop-left-preserved g c =
+    let shorter = c.first_line.ensures.shorter (some-left c.loop-left.left.now c.loop-left-test.ensures) in
     record {
-      left = omega (arith, c.answer-right.ensures.room, c.loop-statement.invariant.left, shorter);
-      few = omega (arith, c.loop-statement.invariant.few, shorter);
-      room = omega (arith, c.answer-right.ensures.room, c.loop-statement.invariant.room, shorter);
+      left = omega (arith, c.answer-right.ensures.room, c.loop-left.invariant.left, shorter);
+      few = omega (arith, c.loop-left.invariant.few, shorter);
+      room = omega (arith, c.answer-right.ensures.room, c.loop-left.invariant.room, shorter);
       read = λ h stands none.
-          let so = c.loop-statement.invariant.read h stands none in
+          let so = c.loop-left.invariant.read h stands none in
           let begins : BeginsEntry c.first_line.result.0.now c.in-Some.outcome.now c.put_statement.new.statement = rw (c.in-Some.is) at c.put_statement.ensures.some in
           record {
             history = with_entry so.history c.answer-right.result;
             stands = c.answer-right.ensures.stands _ so.stands;
-            read = journal-goes_on so.history c.answer-right.result _ c.loop-statement.left.now c.first_line.result.0.now c.first_line.result.1.now so.read c.first_line.ensures.parts
+            read = journal-goes_on so.history c.answer-right.result _ c.loop-left.left.now c.first_line.result.0.now c.first_line.result.1.now so.read c.first_line.ensures.parts
                 (entry_line-outcome _ _ c.put_statement.new.statement c.answer-right.result begins
                 (statement-next so.history c.answer-right.result c.put_statement.new.statement (c.answer-right.ensures.answer _ so.stands))
                 (same-text _ _ c.if-ne.ensures ∙ c.as_slice.ensures.value ∙ c.fill_with_outcome.ensures));
