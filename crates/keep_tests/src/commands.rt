@@ -1,6 +1,6 @@
 //! Minutes, numbers and commands of the cases, each of a text or a number that may be none.
 use desk_base::{Code, Minute, PersonNo, VacNo};
-use desk_model::{Cmd, Reply};
+use desk_model::{Cmd, EntryRef, Reply, Stated};
 
 /// The minute of 2024-03-04 at this time, `HH:MM`.
 pub(crate) fn at(time: &[u8]) -> Option<Minute> {
@@ -53,4 +53,9 @@ pub(crate) fn offered(person: u32) -> Option<Reply> {
         board: Code::read(b"P1")?,
         position: 1,
     })
+}
+
+// The entry of caller 0 by which this was taken at the minute at which it was stated, and answered so.
+pub(crate) fn entry_of(stated: &Stated, reply: Reply) -> EntryRef<'_> {
+    EntryRef::new(0, stated, stated.minute(), reply)
 }

@@ -1,6 +1,5 @@
 //! Cases of what a desk keeps in place of entries: persons, boards and vacancies, clocks, offers and holds, and the boards' orders.
-//! Nothing else is here: these tests need no second proof of `desk_register`, `desk_duty`, `desk_offers` and `desk_lists`, as they
-//! would in them.
+//! Nothing else is here: these tests need no second proof of `desk_register` and `desk_state`, as they would in them.
 #![tactic(auto)]
 
 #[cfg(test)]
