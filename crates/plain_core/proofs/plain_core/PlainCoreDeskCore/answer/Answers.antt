@@ -14,7 +14,7 @@ pub invariant_of-self : goal.invariant_of-self
 invariant_of-self c =
     let kept = c.args.self.now.kept in
     let legal = known-next kept.opening kept.entries.items c.next_entry-entry.result c.args.caller c.args.stated.now kept.legal (may (goal.at.invariant_of-self c).After-push_reserved) c.next_entry-entry.ensures.entry in
-    (subst (λ es. ∥ IsLegal (history_of kept.opening es) ∥₁) (sym c.push_reserved.ensures.items) legal, tt)
+    (subst (λ es. ∥ IsLegal (history_of kept.opening es) ∥₁) (sym (rw c.to_entry.ensures at c.push_reserved.ensures.items)) legal, tt)
 
 pub invariant_of-self-2 : goal.invariant_of-self-2
 invariant_of-self-2 c = record {
@@ -25,5 +25,5 @@ invariant_of-self-2 c = record {
 pub returns-clause-stands : goal.returns-clause-stands
 returns-clause-stands c h kept =
     let core = c.args.self.now.kept in
-    subst (λ es. IsKept core.opening es (with_entry h c.next_entry-entry.result)) (sym c.push_reserved.ensures.items)
+    subst (λ es. IsKept core.opening es (with_entry h c.next_entry-entry.result)) (sym (rw c.to_entry.ensures at c.push_reserved.ensures.items))
     (kept-next core.opening core.entries.items h c.next_entry-entry.result c.args.caller c.args.stated.now kept (may (goal.at.returns-clause-stands c).After-push_reserved) (c.next_entry-entry.ensures.entry h kept))
