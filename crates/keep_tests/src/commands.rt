@@ -1,6 +1,6 @@
 //! Minutes, numbers and commands of the cases, each of a text or a number that may be none.
 use desk_base::{Code, Minute, PersonNo, VacNo};
-use desk_model::{Cmd, EntryRef, Reply, Stated};
+use desk_model::{Cmd, Entry, EntryRef, Reply};
 
 /// The minute of 2024-03-04 at this time, `HH:MM`.
 pub(crate) fn at(time: &[u8]) -> Option<Minute> {
@@ -55,7 +55,12 @@ pub(crate) fn offered(person: u32) -> Option<Reply> {
     })
 }
 
-// The entry of caller 0 by which this was taken at the minute at which it was stated, and answered so.
-pub(crate) fn entry_of(stated: &Stated, reply: Reply) -> EntryRef<'_> {
-    EntryRef::new(0, stated, stated.minute(), reply)
+// The entry, which refers to its statement.
+pub(crate) fn ref_of(entry: &Entry) -> EntryRef<'_> {
+    EntryRef::new(
+        entry.caller(),
+        entry.stated(),
+        entry.moment(),
+        entry.reply(),
+    )
 }

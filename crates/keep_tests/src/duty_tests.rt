@@ -1,7 +1,7 @@
 //! The clocks of two persons, by a day worked by hand.
-use crate::commands::{at, entry_of};
+use crate::commands::{at, ref_of};
 use desk_base::{Code, Minute, Month, PersonNo, Window};
-use desk_model::{Cmd, Reply, Stated};
+use desk_model::{Cmd, Entry, Reply, Stated};
 use desk_register::PersonIndex;
 use desk_state::Duty;
 use duty_events::{Event, Stage};
@@ -17,11 +17,17 @@ fn enrol(number: u32, home: &[u8]) -> Option<Cmd> {
     })
 }
 
+// An entry of this command, answered so.
+fn entry_of(cmd: Option<Cmd>, reply: Reply) -> Option<Entry> {
+    let stated = Stated::new(at(b"23:00")?, cmd?)?;
+    Some(Entry::new(0, stated, at(b"23:00")?, reply))
+}
+
 // The clocks keep this command, answered so, of the person at this place; whether there is such a command.
 fn keep(duty: &mut Duty, cmd: Option<Cmd>, reply: Reply, place: Option<usize>) -> Option<()> {
-    let stated = Stated::new(at(b"23:00")?, cmd?)?;
+    let entry = entry_of(cmd, reply)?;
     duty.keep(
-        &entry_of(&stated, reply),
+        &ref_of(&entry),
         place.and_then(|place| PersonIndex::new(place)),
     );
     Some(())

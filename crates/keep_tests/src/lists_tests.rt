@@ -1,7 +1,7 @@
 //! The boards of two persons, by a day worked by hand.
-use crate::commands::entry_of;
+use crate::commands::ref_of;
 use desk_base::{Code, Minute, PersonNo, VacNo};
-use desk_model::{Cmd, Reply, Stated};
+use desk_model::{Cmd, Entry, Reply, Stated};
 use desk_register::{BoardIndex, PersonIndex};
 use desk_state::{Lists, NEVER, NamedIndexes};
 use duty_events::Event;
@@ -87,15 +87,21 @@ struct Told {
     ready: u64,
 }
 
+// An entry of this command, answered so.
+fn entry_of(cmd: Option<Cmd>, reply: Reply) -> Option<Entry> {
+    let stated = Stated::new(noon()?, cmd?)?;
+    Some(Entry::new(0, stated, noon()?, reply))
+}
+
 // The lists keep it; whether there is such a command.
 fn keep(lists: &mut Lists, told: Told) -> Option<()> {
-    let stated = Stated::new(noon()?, cmd_of(told.act, told.who, told.board)?)?;
+    let entry = entry_of(cmd_of(told.act, told.who, told.board), told.reply)?;
     let named = NamedIndexes {
         person: PersonIndex::new(told.who),
         board: BoardIndex::new(told.board),
         ready: Minute::new(told.ready)?,
     };
-    lists.keep(&entry_of(&stated, told.reply), &named);
+    lists.keep(&ref_of(&entry), &named);
     Some(())
 }
 

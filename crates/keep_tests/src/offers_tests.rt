@@ -1,15 +1,16 @@
 //! What is kept, entry by entry, of offers and declines worked by hand, and of as many offers as there is room for.
-use crate::commands::{accept, annul, at, decline, entry_of, next, of_person, of_vacancy, offered};
+use crate::commands::{accept, annul, at, decline, next, of_person, of_vacancy, offered, ref_of};
 use desk_base::Minute;
-use desk_model::{Cmd, Reply, Stated};
+use desk_model::{Cmd, Entry, Reply, Stated};
 use desk_register::{BoardIndex, PersonIndex};
 use desk_state::Offers;
 use offer_flight::InFlight;
 use std::test::Fail;
 
-// This command, stated then.
-fn stated_at(cmd: Option<Cmd>, time: &[u8]) -> Option<Stated> {
-    Stated::new(at(time)?, cmd?)
+// An entry of this command, taken then and answered so.
+fn entry_of(cmd: Option<Cmd>, time: &[u8], reply: Option<Reply>) -> Option<Entry> {
+    let stated = Stated::new(at(time)?, cmd?)?;
+    Some(Entry::new(0, stated, at(time)?, reply?))
 }
 
 fn offer(vac: u32, person: u32) -> Option<Cmd> {
@@ -73,13 +74,8 @@ fn is_seen(offers: &Offers, step: &Step) -> Option<bool> {
 // The place of the first step, from 0, after which something else is seen; `None` where none is.
 fn first_wrong(offers: &mut Offers, steps: &[Step]) -> Result<Option<usize>, Fail> {
     for (i, step) in steps.iter().enumerate() {
-        let stated = stated_at(step.cmd, step.time).ok_or("not stated")?;
-        let reply = step.reply.ok_or("no reply")?;
-        offers.keep(
-            &entry_of(&stated, reply),
-            person_at(step.place),
-            board_at(step.place),
-        );
+        let entry = entry_of(step.cmd, step.time, step.reply).ok_or("not stated")?;
+        offers.keep(&ref_of(&entry), person_at(step.place), board_at(step.place));
         if !is_seen(offers, step).ok_or("no numbers")? {
             return Ok(Some(i));
         }
@@ -175,13 +171,8 @@ fn offers_open_and_end_and_a_decline_holds(rt: HostRuntime) -> Result<(), Fail> 
 fn a_thousand_persons_have_offers(rt: HostRuntime) -> Result<(), Fail> {
     let mut offers = Offers::new(rt.alloc(), 60)?;
     for vac in 1..=1_001 {
-        let stated = stated_at(next(vac), b"12:00").ok_or("no call")?;
-        let reply = offered(1_002 - vac).ok_or("no offer")?;
-        offers.keep(
-            &entry_of(&stated, reply),
-            None,
-            BoardIndex::new(vac as usize % 64),
-        );
+        let entry = entry_of(next(vac), b"12:00", offered(1_002 - vac)).ok_or("no offer")?;
+        offers.keep(&ref_of(&entry), None, BoardIndex::new(vac as usize % 64));
     }
     for vac in 1..=1_001 {
         let vacancy = of_vacancy(vac).ok_or("no number")?;
@@ -192,12 +183,10 @@ fn a_thousand_persons_have_offers(rt: HostRuntime) -> Result<(), Fail> {
             of_person(1_002 - vac)
         };
         assert_eq!(rt; person, wanted);
-        let stated = stated_at(decline(vac, 1_002 - vac), b"12:30").ok_or("no decline")?;
-        offers.keep(
-            &entry_of(&stated, Reply::Done),
-            PersonIndex::new(vac as usize - 1),
-            None,
-        );
+        let entry = entry_of(decline(vac, 1_002 - vac), b"12:30", Some(Reply::Done)).ok_or(
+            "no decline",
+        )?;
+        offers.keep(&ref_of(&entry), PersonIndex::new(vac as usize - 1), None);
         assert!(rt; offers.offer(vacancy).is_none());
     }
     for person in 0..1_000_usize {

@@ -1,7 +1,7 @@
 //! What is kept, entry by entry, of a day worked by hand.
-use crate::commands::{accept, annul, decline, entry_of, next, of_person, of_vacancy, offered};
+use crate::commands::{accept, annul, decline, next, of_person, of_vacancy, offered, ref_of};
 use desk_base::{Code, Minute, VacNo};
-use desk_model::{Chain, Cmd, Job, Reply, Stated, VacState};
+use desk_model::{Chain, Cmd, Entry, Job, Reply, Stated, VacState};
 use desk_register::Register;
 use duty_events::Event;
 use qualifications::{Craft, Quals};
@@ -16,10 +16,16 @@ fn code(text: &[u8]) -> Option<Code> {
     Code::read(text)
 }
 
+// An entry of this command, answered so.
+fn entry_of(cmd: Option<Cmd>, reply: Reply) -> Option<Entry> {
+    let stated = Stated::new(noon()?, cmd?)?;
+    Some(Entry::new(0, stated, noon()?, reply))
+}
+
 // The register keeps this command, answered so; whether there is such a command.
 fn keep(register: &mut Register, cmd: Option<Cmd>, reply: Reply) -> Option<()> {
-    let stated = Stated::new(noon()?, cmd?)?;
-    register.keep(&entry_of(&stated, reply));
+    let entry = entry_of(cmd, reply)?;
+    register.keep(&ref_of(&entry));
     Some(())
 }
 
