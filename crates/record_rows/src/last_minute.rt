@@ -152,6 +152,14 @@ impl LastMinute {
         }
     }
 
+    /// Whether a text is that of the minute.
+    pub fn is_text_of(&mut self, minute: Minute, text: &[u8; 16]) -> bool
+        ensures { IsTrue result → text.now ≡ minute_text minute }
+    {
+        self.take(minute);
+        are_same(text, &self.text)
+    }
+
     /// The text `YYYY-MM-DD HH:MM` of the minute: its civil date and time of day.
     pub fn write(&mut self, minute: Minute) -> [u8; 16]
         ensures { result ≡ minute_text minute }

@@ -1,4 +1,4 @@
-ghost use Rattle.std.specs.Prelude.{◌≡◌, [], map, take, IfSome};
+ghost use Rattle.std.specs.Prelude.{◌≡◌, [], take, IfSome};
 ghost use Rattle.desk_base.specs.Parts.{parts_by};
 ghost use Rattle.record_rows.specs.declared.fields.TheConstants.{FIELD_LIMIT};
 
@@ -42,7 +42,7 @@ impl<'a> Row<'a> {
 
     /// Puts the record's fields, the first 12 of more, in place of those that stand there.
     pub fn fill_fields<'r>(&'r self, fields: &mut Fields<'r>)
-        ensures { map (λ field. field.now) fields.new.items ≡ take FIELD_LIMIT (row_fields self.now) }
+        ensures { fields.new ≡ take FIELD_LIMIT (row_fields self.now) }
     {
         match self.line {
             Some(line) => fill_with_line(fields, line),

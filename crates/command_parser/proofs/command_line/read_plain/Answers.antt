@@ -1,4 +1,4 @@
-use Rattle.std.proofs.Common.{◌∙◌, map, inr, ap, subst, rules}
+use Rattle.std.proofs.Common.{◌∙◌, inr, subst, rules}
 use Rattle.desk_base.specs.Parts.{parts_by}
 use Rattle.command_parser.specs.RecordForms.{IsWrongAt}
 use Rattle.command_parser.proofs.FormLemmas.{wrong-take}
@@ -7,7 +7,7 @@ use Rattle.command_parser.proofs.command_line.read_plain.Goals as goal
 pub returns-in-Err-clause-fail : goal.returns-in-Err-clause-fail
 returns-in-Err-clause-fail c = λ told.
     let parts = parts_by 44 c.args.line.now in
-    let fields = ap (map (λ field. field.now)) c.as_slice.ensures.value ∙ c.fill_with_line.ensures in
+    let fields = c.as_slice.ensures ∙ c.fill_with_line.ensures in
     inr record {
       fields = parts;
       one = c.requires;

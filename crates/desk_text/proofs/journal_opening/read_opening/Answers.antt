@@ -1,4 +1,4 @@
-use Rattle.std.proofs.Common.{◌∙◌, ◌++◌, ◌∷◌, [], map, ap, sym, codes, decimal}
+use Rattle.std.proofs.Common.{◌∙◌, ◌++◌, ◌∷◌, [], ap, sym, codes, decimal}
 use Rattle.std.proofs.lemmas.Option.{IfSome_then}
 use Rattle.desk_base.specs.Minute.{minute_text}
 use Rattle.desk_base.specs.Month.{month_text}
@@ -13,7 +13,7 @@ returns-in_err-before-clause-only c = λ o is. absurd (c.in_err-before.ensures.n
 
 pub returns-clause-some : goal.returns-clause-some
 returns-clause-some c =
-    let front = ap (map (λ field. field.now)) c.as_slice.ensures.value ∙ c.fill_with_line.ensures in
+    let front = c.as_slice.ensures ∙ c.fill_with_line.ensures in
     IfSome_then c.opening_of.result c.opening_of.ensures.some (λ o fields. record {
       valid = fields.valid;
       line_is = c.in_ok-before.ensures.some ∙ ap (λ t. t ++ 10 ∷ []) (text-of-fields _ _ (opening_fields o) front fields.fields_are (few_opening o)) ∙ sym (opening_line-fields o);
@@ -21,7 +21,7 @@ returns-clause-some c =
 
 pub returns-clause-only : goal.returns-clause-only
 returns-clause-only c = λ o is.
-    let front = ap (map (λ field. field.now)) c.as_slice.ensures.value ∙ c.fill_with_line.ensures in
+    let front = c.as_slice.ensures ∙ c.fill_with_line.ensures in
     let text = before-line_feed _ _ _ c.in_ok-before.ensures.some (is.line_is ∙ opening_line-fields o) in
     c.opening_of.ensures.only o record {
       valid = is.valid;

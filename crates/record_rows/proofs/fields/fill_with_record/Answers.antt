@@ -1,5 +1,5 @@
 use Rattle.std.proofs.Common.{◌∙◌, [], ◌∷◌, sym, arith}
-use Rattle.std.proofs.lemmas.List.{map-append}
+use Rattle.std.proofs.lemmas.List.{length-append}
 use Rattle.csv.specs.Records.{fields_of}
 use Rattle.record_rows.specs.declared.fields.TheConstants.{FIELD_LIMIT}
 use Rattle.record_rows.proofs.FieldLemmas.{field-there, field-none}
@@ -11,7 +11,7 @@ returns-in-None c =
 
 pub loop-index-preserved : goal.loop-index-preserved
 loop-index-preserved c = (
-  rw (c.push.ensures.items, map-append (λ field. field.now) c.loop-index.fields.items (c.in-Some.field ∷ []), c.loop-index.invariant.0)
+  rw (c.push.ensures, c.loop-index.invariant.0)
       (sym (field-there (fields_of c.args.row.now) c.loop-index.index c.in-Some.field.now (rw c.in-Some.is at c.get.ensures.value))),
-  omega (arith, c.loop-index.invariant.1, c.push.ensures.len),
+  rw c.push.ensures (omega (arith, c.loop-index.invariant.1, length-append c.loop-index.fields (c.in-Some.field.now ∷ []))),
 )
