@@ -1,9 +1,6 @@
 -- What is found, as lines are read one after another.
 use Rattle.std.proofs.Common.{◌≡◌, ◌≢◌, ◌∙◌, ℕ, ◌==◌, Bool, true, false, not, nat_eq, List, [], ◌∷◌, ◌++◌, length, refl, sym, ap, subst, arith, append_assoc}
 use Rattle.std.proofs.lemmas.Bool.{false≢true}
-use Rattle.std.proofs.lemmas.Bool.Decides.{Decides-eqb}
-use Rattle.std.proofs.lemmas.Slice.Eq.{slice_eq-Decides}
-use Rattle.std.specs.Cmp.Lexicographic.{pointwise}
 use Rattle.desk_model.specs.statements.Entry.{EntryValue}
 use Rattle.desk_model.specs.histories.History.{History, with_entry}
 use Rattle.desk_model.specs.statements.Fits.{Fits}
@@ -30,21 +27,6 @@ next-statement h e right s same is = subst (λ t. right ≡ next h t.caller t.st
 pub statement-next : (h : History) (right : EntryValue) (s : Statement) → right ≡ next h s.caller s.stated → s ≡ statement_of right
 unfolding next
 statement-next h right s is = sym (ap statement_of is)
-
--- texts that a comparison finds the same, or not
-pub same-text : (a b : List ℕ) → false ≡ not (pointwise nat_eq a b) → a ≡ b
-same-text a b e = (slice_eq-Decides Decides-eqb _ _ _ refl).0 (go (pointwise nat_eq a b) e)
-  where
-    go : (t : Bool) → false ≡ not t → t ≡ true
-    go true e = refl
-    go false e = absurd (false≢true e)
-
-pub other-text : (a b : List ℕ) → true ≡ not (pointwise nat_eq a b) → a ≢ b
-other-text a b e same = go (pointwise nat_eq a b) e ((slice_eq-Decides Decides-eqb a b (pointwise nat_eq a b) refl).1 same)
-  where
-    go : (t : Bool) → true ≡ not t → t ≡ true → ⊥
-    go true e is = false≢true (sym e)
-    go false e is = false≢true is
 
 -- what isn't empty has a byte
 pub some-left : (left : List ℕ) → false ≡ (length left == 0) → left ≢ []

@@ -9,7 +9,7 @@ use crate::lines::first_line;
 use crate::{Outcome, Verdict};
 use desk_model::{DeskCore, Entry};
 use desk_text::{Statement, each_line_ends_once, put_statement, read_entry};
-use line_writer::{LineText, fill_with_outcome};
+use line_writer::{LineText, is_outcome};
 use record_rows::{Fields, LastMinute};
 
 // What the desk answered by an entry.
@@ -47,8 +47,7 @@ pub(crate) fn audit_entries<C: DeskCore>(core: &mut C, text: &[u8]) -> Result<u3
             return Err(Verdict::Unreadable(count + 2));
         };
         let right = core.answer(statement.caller, &statement.stated);
-        fill_with_outcome(&mut right_outcome, &mut last, &right);
-        if outcome != right_outcome.as_slice() {
+        if !is_outcome(outcome, &mut right_outcome, &mut last, &right) {
             let Some(entry) = &read_entry(line) else {
                 return Err(Verdict::Unreadable(count + 2));
             };

@@ -22,8 +22,7 @@ pub use laws::{
     different_replies_have_different_texts, each_line_ends_once, no_line_begins_another,
 };
 pub use line_writer::{
-    LineText, fill_with_entry, fill_with_outcome, write_bar, write_entry, write_opening,
-    write_outcome,
+    LineText, fill_with_entry, write_bar, write_entry, write_opening, write_outcome,
 };
 pub use spelled_entry::{put_statement, read_entry, read_next_entry};
 pub use statement::Statement;

@@ -16,6 +16,6 @@ pub use bar_line::{put_bar, put_late};
 pub use entry_line::{fill_with_entry, write_entry};
 pub use line_text::{LineText, put, put_byte};
 pub use opening_line::write_opening;
-pub use outcome_line::{add_outcome, fill_with_outcome, write_bar, write_outcome};
+pub use outcome_line::{add_outcome, done_at, is_outcome, write_bar, write_outcome};
 pub use tally::{Tally, a_tally_adds_up, put_count};
 pub use wrong_line::write_wrong;

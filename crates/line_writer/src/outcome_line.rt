@@ -1,5 +1,6 @@
 //! What the desk answered, and bars, as texts of their own.
-ghost use Rattle.std.specs.Prelude.{◌≡◌, ◌≤◌, ◌+◌, ◌∷◌, ◌++◌, [], IfOk, codes};
+ghost use Rattle.std.specs.Prelude.{◌≡◌, ◌≢◌, ◌≤◌, ◌+◌, ◌∷◌, ◌++◌, [], IfOk, codes};
+ghost use Rattle.std.specs.Bool.{OnTrue, OnFalse};
 ghost use Rattle.arrayvec.specs.ArrayVec.{array_vec_len};
 ghost use Rattle.desk_model.specs.texts.BarTexts.{bar_text};
 ghost use Rattle.desk_model.specs.texts.ReplyTexts.{reply_text};
@@ -22,13 +23,30 @@ pub fn write_outcome(moment: Minute, reply: &Reply) -> LineText
     line
 }
 
-/// Makes a line that of the entry's outcome. What stood in it is gone. `last` is the moment that the lines before it named last:
-/// it only spares work.
-pub fn fill_with_outcome(line: &mut LineText, last: &mut LastMinute, entry: &EntryRef)
-    ensures { line.new.items ≡ outcome_line entry.now.moment entry.now.reply }
+// Whether a text is plainly the line of a command that was done at this moment; of any text it may be false.
+fn is_done_at(text: &[u8], last: &mut LastMinute, moment: Minute) -> bool
+    ensures { OnTrue result (text.now ≡ outcome_line moment Reply.Done) }
 {
+    match text.first_chunk() {
+        Some(chunk) if last.is_text_of(moment, chunk) => {
+            matches!(&text[16..], [b'|', b'd', b'o', b'n', b'e', b'\n'])
+        }
+        _ => false,
+    }
+}
+
+/// Whether a text is the line of the entry's outcome, `moment|reply` with its line feed. `line` is for that line to be written into where it
+/// has to be, and `last` is the moment that the lines before it named last: it only spares work.
+pub fn is_outcome(text: &[u8], line: &mut LineText, last: &mut LastMinute, entry: &EntryRef) -> bool
+    ensures same { OnTrue result (text.now ≡ outcome_line entry.now.moment entry.now.reply) }
+    ensures other { OnFalse result (text.now ≢ outcome_line entry.now.moment entry.now.reply) }
+{
+    if matches!(entry.reply(), Reply::Done) && is_done_at(text, last, entry.moment()) {
+        return true;
+    }
     line.clear();
     put_outcome(line, last, entry.moment(), &entry.reply());
+    text == line.as_slice()
 }
 
 /// Adds that line, 66 bytes at most.
@@ -51,8 +69,8 @@ fn between_bars(moment: [u8; 16]) -> [u8; 18]
     text
 }
 
-// What stands behind the statement on the line of an entry that was done at this moment.
-fn done_at(moment: [u8; 16]) -> [u8; 23]
+/// What stands behind the statement on the line of an entry that was done at the moment of this text, with the line feed.
+pub fn done_at(moment: [u8; 16]) -> [u8; 23]
     ensures { result ≡ 124 ∷ moment ++ codes "|done\n" }
 {
     let mut text = *b"|YYYY-MM-DD HH:MM|done\n";

@@ -5,7 +5,7 @@ use Rattle.desk_text.specs.SpelledEntry.{IsEntryLine, BeginsEntry, statement_of}
 use Rattle.line_writer.specs.Line.{outcome_line}
 use Rattle.desk_text.proofs.SpelledEntryLemmas.{IsEntryLine-begins, entry_line-outcome}
 use Rattle.audit_desk.specs.Found.{outcome_of}
-use Rattle.audit_desk.proofs.FoundLemmas.{journal-goes_on, next-statement, statement-next, same-text, other-text, some-left, HasUnreadable-line}
+use Rattle.audit_desk.proofs.FoundLemmas.{journal-goes_on, next-statement, statement-next, some-left, HasUnreadable-line}
 use Rattle.audit_desk.proofs.audit_entries.audit_entries.Goals as goal
 
 pub returns-in_default-clause-found : goal.returns-in_default-clause-found
@@ -22,8 +22,8 @@ returns-in_default-read_entry-clause-found g c = λ h stands none.
     (some-left c.loop-left.left.now c.loop-left-test.ensures) c.each_line_ends_once.ensures.entry c.first_line.ensures.line
     (λ e is. let found = c.read_entry.ensures.only e is in let missing = c.in_default-read_entry.is in cc) (omega (arith, so.count_is))
 
-pub returns-then-ne-clause-found : goal.returns-then-ne-clause-found
-returns-then-ne-clause-found g c = λ h stands none.
+pub returns-then-not-is_outcome-clause-found : goal.returns-then-not-is_outcome-clause-found
+returns-then-not-is_outcome-clause-found g c = λ h stands none.
     let so = c.loop-left.invariant.read h stands none in
     let line : IsEntryLine c.first_line.result.0.now c.in-Some-read_entry.entry = rw (c.in-Some-read_entry.is) at c.read_entry.ensures.some in
     let read : (c.put_statement.new.statement ≡ statement_of c.in-Some-read_entry.entry) × (c.in-Some.outcome.now ≡ outcome_line c.in-Some-read_entry.entry.moment c.in-Some-read_entry.entry.reply) =
@@ -40,10 +40,9 @@ returns-then-ne-clause-found g c = λ h stands none.
       fits = line.valid;
       line_is = omega (arith, so.count_is);
       written_is = c.outcome_of.ensures;
-      right_is = c.outcome_of-then-ne.ensures ∙ ap outcome_of (c.to_entry.ensures ∙ answer);
-      differ = λ same. other-text _ _ c.if-ne.ensures (
-          read.1 ∙ ap (λ o. outcome_line o.moment o.reply) (sym c.outcome_of.ensures ∙ same ∙ c.outcome_of-then-ne.ensures ∙ ap outcome_of c.to_entry.ensures)
-          ∙ sym (c.as_slice.ensures.value ∙ c.fill_with_outcome.ensures));
+      right_is = c.outcome_of-then-not-is_outcome.ensures ∙ ap outcome_of (c.to_entry.ensures ∙ answer);
+      differ = λ same. c.if-not-is_outcome.ensures.other (
+          read.1 ∙ ap (λ o. outcome_line o.moment o.reply) (sym c.outcome_of.ensures ∙ same ∙ c.outcome_of-then-not-is_outcome.ensures ∙ ap outcome_of c.to_entry.ensures));
     }
 
 pub loop-left-preserved : goal.loop-left-preserved
@@ -62,7 +61,7 @@ loop-left-preserved g c =
             read = journal-goes_on so.history c.answer-right.result _ c.loop-left.left.now c.first_line.result.0.now c.first_line.result.1.now so.read c.first_line.ensures.parts
                 (entry_line-outcome _ _ c.put_statement.new.statement c.answer-right.result begins
                 (statement-next so.history c.answer-right.result c.put_statement.new.statement (c.answer-right.ensures.answer _ so.stands))
-                (same-text _ _ c.if-ne.ensures ∙ c.as_slice.ensures.value ∙ c.fill_with_outcome.ensures));
+                c.if-not-is_outcome.ensures.same);
             count_is = omega (arith, so.count_is, length-append so.history.entries (c.answer-right.result ∷ []));
           };
     }
