@@ -1,8 +1,9 @@
 -- The journal of a day grows by the lines of the entries, one after another.
-use Rattle.std.proofs.Common.{◌≡◌, ◌≢◌, ℕ, ◌+◌, ◌<◌, ◌≤◌, ◌-◌, Option, None, Some, List, [], ◌∷◌, ◌++◌, length, get_or, map, take, drop, take-append-drop, refl, sym, ap, subst, ◌∙◌, arith, append-nil, length-append, append_assoc, codes, decimal}
+use Rattle.std.proofs.Common.{◌≡◌, ◌≢◌, ℕ, ◌+◌, ◌<◌, ◌≤◌, ◌-◌, ◌==◌, true, false, Option, None, Some, List, [], ◌∷◌, ◌++◌, length, get_or, map, take, drop, take-append-drop, refl, sym, ap, subst, ◌∙◌, arith, append-nil, length-append, append_assoc, codes, decimal, ◌⊎◌, inl, inr}
 use Rattle.std.specs.Io.KnownBytes.{Appends, Keeps}
 use Rattle.std.proofs.KnownBytes.{Appends-trans, Appends-nil}
-use Rattle.std.proofs.lemmas.List.{take-append-le, drop-append-le, drop_more, drop_all, take_all, take_more, length-drop, nil_from_length, flat_map_more}
+use Rattle.std.proofs.lemmas.Bool.{cond-true, cond-false, lt-ltb, le-ltb, eqb-true, false≢true}
+use Rattle.std.proofs.lemmas.List.{take_at, take-append-le, drop-append-le, drop_more, drop_all, take_all, take_more, length-drop, nil_from_length, flat_map_more}
 use Rattle.std.specs.List.{join_with_byte}
 use Rattle.std.proofs.lemmas.Fmt.{decimal_digit}
 use Rattle.std.proofs.lemmas.Grind.{flat_map-append}
@@ -17,10 +18,14 @@ use Rattle.desk_model.specs.histories.Legal.{next, history_from}
 use Rattle.desk_model.specs.texts.Journal.{opening_line, entry_line, entry_lines, journal}
 use Rattle.day_replay.specs.declared.held_line.HeldLine.{HeldLine}
 use Rattle.day_replay.specs.Gathered.{Gathers}
-use Rattle.desk_model.specs.texts.StatedTexts.{stated_fields}
+use Rattle.desk_base.specs.Minute.{minute_text}
+use Rattle.desk_model.specs.declared.reply.Reply.TheVariants.{Done}
+use Rattle.desk_model.specs.texts.ReplyTexts.{reply_text}
+use Rattle.desk_model.specs.texts.StatedTexts.{stated_fields, command_fields}
+use Rattle.record_rows.proofs.MinuteLemmas.{length-minute_text}
 use Rattle.line_writer.specs.Line.{outcome_line}
 use Rattle.command_parser.specs.Spelled.{SpellsStated}
-use Rattle.day_replay.specs.Held.{AddsLine, held_bytes, held_line, held_lines}
+use Rattle.day_replay.specs.Held.{AddsLine, done_when_stated, held_behind, held_bytes, held_line, held_lines}
 use Rattle.day_replay.specs.Replay.{by_the_day_file, goes_on}
 use Rattle.day_replay.proofs.HistoryLemmas.{goes_on-behind}
 
@@ -288,10 +293,32 @@ spelled-line text e zero spelled =
     let caller : decimal e.caller ≡ 48 ∷ [] = ap decimal zero ∙ decimal_digit 0 (omega arith) in
     rw (spelled, caller) (simp append_assoc)
 
+-- whether a text has bytes, by its length
+pub some-bytes : (text : List ℕ) → false ≡ (length text == 0) → text ≢ []
+some-bytes [] e none = false≢true e
+some-bytes (byte ∷ text) e none = omega (arith, ap length none)
+
+pub no-bytes : (text : List ℕ) → true ≡ (length text == 0) → text ≡ []
+no-bytes text e = nil_from_length text (eqb-true _ _ (sym e))
+
 -- the line of a statement that has bytes
-pub held_line-stated : (stated text : List ℕ) → stated ≢ [] → held_line stated text ≡ codes "0|" ++ stated ++ text
+pub held_line-stated : (stated text : List ℕ) → stated ≢ [] → held_line stated text ≡ codes "0|" ++ stated ++ held_behind stated text
 held_line-stated [] text some = absurd (some refl)
 held_line-stated (byte ∷ stated) text some = refl
+
+-- where something is held of what stands behind it, or it has fewer than 16 bytes, that stands there
+pub held_line-text : (stated text : List ℕ) → stated ≢ [] → (length stated < 16) ⊎ (text ≢ []) → held_line stated text ≡ codes "0|" ++ stated ++ text
+held_line-text stated [] some (inl short) = held_line-stated stated [] some ∙ ap (λ t. codes "0|" ++ stated ++ t) (cond-true _ [] (done_when_stated stated) (lt-ltb _ _ short))
+held_line-text stated [] some (inr text) = absurd (text refl)
+held_line-text stated (byte ∷ text) some is = held_line-stated stated (byte ∷ text) some
+
+-- and where nothing is, it was done when it was stated
+pub held_line-done : (stated text minute : List ℕ) → stated ≢ [] → text ≡ [] → 16 ≤ length stated → minute ≡ take 16 stated
+    → held_line stated text ≡ codes "0|" ++ stated ++ (124 ∷ minute ++ codes "|done\n")
+held_line-done stated text minute some none long is =
+    ap (held_line stated) none ∙ held_line-stated stated [] some
+    ∙ ap (λ t. codes "0|" ++ stated ++ t) (cond-false _ [] (done_when_stated stated) (le-ltb _ _ long))
+    ∙ ap (λ m. codes "0|" ++ stated ++ (124 ∷ m ++ codes "|done\n")) (sym is)
 
 -- so what stands behind the statement may be held of it
 pub AddsLine-outcome : (stated before after : List ℕ) (e : EntryValue) → stated ≢ []
@@ -300,6 +327,41 @@ AddsLine-outcome stated before after e some added = record {
   text = 124 ∷ outcome_line e.moment e.reply;
   added = added;
   line = λ zero spelled. held_line-stated stated _ some ∙ spelled-line stated e zero (spelled some).text_is;
+}
+
+-- the text of a statement begins with that of its minute
+stated-begins : (text : List ℕ) (s : StatedValue) → text ≡ join_with_byte 44 (stated_fields s) → (take 16 text ≡ minute_text s.minute) × (16 ≤ length text)
+stated-begins text s spelled = go (command_fields s.cmd) spelled
+  where
+    begins : (rest : List ℕ) → text ≡ minute_text s.minute ++ rest → (take 16 text ≡ minute_text s.minute) × (16 ≤ length text)
+    begins rest is = (
+      ap (take 16) is ∙ take_at (minute_text s.minute) rest 16 (length-minute_text s.minute),
+      omega (arith, ap length is, length-append (minute_text s.minute) rest, length-minute_text s.minute),
+    )
+
+    go : (fields : List (List ℕ)) → text ≡ join_with_byte 44 (minute_text s.minute ∷ fields) → (take 16 text ≡ minute_text s.minute) × (16 ≤ length text)
+    go [] is = begins [] (is ∙ sym (append-nil (minute_text s.minute)))
+    go (field ∷ fields) is = begins (44 ∷ join_with_byte 44 (field ∷ fields)) is
+
+-- the end of the line of what was done
+done-one : codes "|done\n" ≡ 124 ∷ reply_text Done ++ 10 ∷ []
+done-one = refl
+
+done-line : (m : ℕ) → 124 ∷ minute_text m ++ codes "|done\n" ≡ 124 ∷ outcome_line m Done
+done-line m = ap (λ t. 124 ∷ t) (ap (λ t. minute_text m ++ t) done-one ∙ sym (append_assoc (minute_text m) (124 ∷ reply_text Done) (10 ∷ [])))
+
+-- or nothing, where it was done when it was stated
+pub AddsLine-done : (stated before : List ℕ) (e : EntryValue) → stated ≢ [] → e.reply ≡ Done → e.moment ≡ e.stated.minute → AddsLine stated before before e
+AddsLine-done stated before e some done when = record {
+  text = [];
+  added = sym (append-nil before);
+  line = λ zero spelled.
+      let is = (spelled some).text_is in
+      let begins = stated-begins stated e.stated is in
+      held_line-done stated [] (minute_text e.moment) some refl begins.1 (ap minute_text when ∙ sym begins.0)
+      ∙ ap (λ t. codes "0|" ++ stated ++ t) (done-line e.moment)
+      ∙ ap (λ reply. codes "0|" ++ stated ++ (124 ∷ outcome_line e.moment reply)) (sym done)
+      ∙ spelled-line stated e zero is;
 }
 
 -- or its whole line, where no bytes of it are at hand

@@ -1,5 +1,5 @@
 -- The journal of a day file, held until it is written.
-use Rattle.std.specs.Prelude.{◌≡◌, ◌≢◌, ℕ, ◌+◌, List, [], ◌∷◌, ◌++◌, length, take, drop, codes}
+use Rattle.std.specs.Prelude.{◌≡◌, ◌≢◌, ℕ, ◌+◌, List, [], ◌∷◌, ◌++◌, nat_lt, if◌then◌else◌, length, take, drop, codes}
 use Rattle.desk_model.specs.statements.Entry.{EntryValue}
 use Rattle.desk_model.specs.histories.History.{History}
 use Rattle.desk_model.specs.texts.Journal.{entry_line, journal}
@@ -7,10 +7,19 @@ use Rattle.day_replay.specs.declared.held_line.HeldLine.{HeldLine}
 use Rattle.day_replay.specs.declared.held_journal.HeldJournal.{HeldJournal}
 use Rattle.command_parser.specs.Spelled.{SpellsStated}
 
+-- what stands behind these bytes of a statement on the line of an entry that was done at the minute with whose text they begin
+abbrev pub done_when_stated : List ℕ → List ℕ
+done_when_stated stated = 124 ∷ take 16 stated ++ codes "|done\n"
+
+-- what stands behind them: what is held as text; and where nothing is, it was done when it was stated
+abbrev pub held_behind : List ℕ → List ℕ → List ℕ
+held_behind stated [] = if nat_lt (length stated) 16 then [] else done_when_stated stated
+held_behind stated (byte ∷ text) = byte ∷ text
+
 -- the line of which this is held as text: the whole, where it has no bytes of a statement, or what stands behind caller 0 and these
 abbrev pub held_line : List ℕ → List ℕ → List ℕ
 held_line [] text = text
-held_line (byte ∷ stated) text = codes "0|" ++ (byte ∷ stated) ++ text
+held_line (byte ∷ stated) text = codes "0|" ++ (byte ∷ stated) ++ held_behind (byte ∷ stated) text
 
 -- how many bytes of these lines are held as text
 abbrev pub held_bytes : List HeldLine → ℕ

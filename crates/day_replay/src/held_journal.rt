@@ -1,5 +1,5 @@
 //! A journal, held until it is written.
-ghost use Rattle.std.specs.Prelude.{◌≡◌, ◌≢◌, ◌≤◌, [], IfOk, length, vec_capacity};
+ghost use Rattle.std.specs.Prelude.{◌≡◌, ◌≢◌, ◌≤◌, [], IfOk, IsTrue, length, vec_capacity};
 ghost use Rattle.std.specs.Bool.{OnTrue, OnFalse};
 ghost use Rattle.std.specs.Io.KnownBytes.{Appends};
 ghost use Rattle.desk_io.specs.Faults.{Rose};
@@ -15,7 +15,7 @@ use crate::held_line::{HeldLine, gather_all_held};
 use command_parser::{RECORD_LIMIT, SHORTEST_RECORD};
 use desk_base::NoMemory;
 use desk_io::{Sink, put_all};
-use desk_model::{EntryRef, Opening};
+use desk_model::{EntryRef, Opening, Reply};
 use line_writer::{LineText, add_outcome, fill_with_entry, write_opening};
 use record_rows::LastMinute;
 use std::alloc::Global;
@@ -32,6 +32,14 @@ fn bytes_or_none(line: Option<&[u8]>) -> &[u8]
         Some(bytes) => bytes,
         None => &[],
     }
+}
+
+// Whether the entry's command was done, at the minute at which it was stated.
+fn is_done_when_stated(entry: &EntryRef) -> bool
+    ensures done { IsTrue result → entry.now.reply ≡ Reply.Done }
+    ensures when { IsTrue result → entry.now.moment ≡ entry.now.stated.minute }
+{
+    matches!(entry.reply(), Reply::Done) && entry.moment() == entry.stated().minute()
 }
 
 /// The journal of a day, held until all of the day file was read: of each line the record's own bytes, and what stands behind them as text.
@@ -68,8 +76,14 @@ impl HeldJournal<'_> {
         put_all(sink, buffer)
     }
 
-    // Adds what is held as text of the line of an entry: all of it, where no bytes of its statement are at hand.
-    fn add_text(&mut self, stated: &[u8], entry: &EntryRef) -> Result<(), NoMemory>
+    // Adds what is held as text of the line of an entry: all of it, where no bytes of its statement are at hand, and none, where it was
+    // done when it was stated. `last` is the minute that was stated last.
+    fn add_text(
+        &mut self,
+        stated: &[u8],
+        last: &LastMinute,
+        entry: &EntryRef,
+    ) -> Result<(), NoMemory>
         ensures added { IfOk result (λ _.
             AddsLine stated.now self.old.texts.items self.new.texts.items entry.now) }
         ensures opening { self.new.opening ≡ self.old.opening }
@@ -84,7 +98,10 @@ impl HeldJournal<'_> {
             );
             self.texts.extend_from_slice(self.line.as_slice())?;
             Ok(())
+        } else if is_done_when_stated(entry) {
+            Ok(())
         } else {
+            self.moment.follow(last, entry.moment());
             add_outcome(&mut self.texts, &mut self.line, &mut self.moment, entry)
         }
     }
@@ -115,12 +132,14 @@ impl<'a> DayKept<'a> for HeldJournal<'a> {
         line: Option<&'a [u8]>,
         stated: &LastMinute,
     ) -> Result<(), NoMemory> {
-        self.moment.follow(stated, entry.moment());
         let before = self.texts.len();
-        let stated = bytes_or_none(line);
-        self.add_text(stated, entry)?;
+        let bytes_stated = bytes_or_none(line);
+        self.add_text(bytes_stated, stated, entry)?;
         let bytes = self.texts.len() - before;
-        self.lines.push(HeldLine { stated, bytes })?;
+        self.lines.push(HeldLine {
+            stated: bytes_stated,
+            bytes,
+        })?;
         Ok(())
     }
 }

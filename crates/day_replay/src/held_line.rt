@@ -8,13 +8,15 @@ ghost use Rattle.day_replay.specs.Held.{held_bytes, held_line, held_lines};
 
 use crate::lines::gather_text;
 use desk_io::Sink;
+use line_writer::done_at;
 
 /// A line that is held.
 #[derive(Clone, Copy)]
 pub(crate) struct HeldLine<'a> {
     /// The bytes of its record, which are the text of its statement; empty where the whole line is held as text.
     pub(crate) stated: &'a [u8],
-    /// How many bytes of it are held as text: what stands behind the record, or the whole line.
+    /// How many bytes of it are held as text: what stands behind the record, or the whole line. None are where it was done when it was
+    /// stated.
     pub(crate) bytes: usize,
 }
 
@@ -51,6 +53,25 @@ fn gather_parts<K: Sink>(buffer: &mut Vec<u8>, stated: &[u8], text: &[u8], sink:
     gather_text(buffer, text, sink)
 }
 
+// Adds a line of caller 0, as `gather_parts` does, which is called where the buffer has no room for it.
+#[inline(always)]
+fn gather_line<K: Sink>(buffer: &mut Vec<u8>, stated: &[u8], text: &[u8], sink: &mut K) -> bool
+    ensures all { OnTrue result (Gathers (K.held sink.old) (K.held sink.new)
+        (buffer.old.items ++ (codes "0|" ++ stated.now ++ text.now)) buffer.new.items) }
+    ensures front { OnFalse result (AddsFront (K.held sink.old) (K.held sink.new)
+        (buffer.old.items ++ (codes "0|" ++ stated.now ++ text.now))) }
+
+    ensures faults_grow { K.faults sink.old ≤ K.faults sink.new }
+    ensures cause { OnFalse result (Rose (K.faults sink.old) (K.faults sink.new)) }
+    ensures no_fault { OnTrue result (K.faults sink.new ≡ K.faults sink.old) }
+{
+    if buffer.capacity() - buffer.len() <= 1 + stated.len() + text.len() {
+        return gather_parts(buffer, stated, text, sink);
+    }
+    add_line(buffer, stated, text);
+    true
+}
+
 /// Adds a line, of which this is held as text, to those that wait in the buffer. It says whether the sink took what was put, and stops at
 /// the first fault.
 #[inline(always)]
@@ -72,11 +93,10 @@ pub(crate) fn gather_held<K: Sink>(
     if stated.is_empty() {
         return gather_text(buffer, text, sink);
     }
-    if buffer.capacity() - buffer.len() <= 1 + stated.len() + text.len() {
-        return gather_parts(buffer, stated, text, sink);
+    match stated.first_chunk() {
+        Some(minute) if text.is_empty() => gather_line(buffer, stated, &done_at(*minute), sink),
+        _ => gather_line(buffer, stated, text, sink),
     }
-    add_line(buffer, stated, text);
-    true
 }
 
 /// Adds lines, of which this is held as text, to those that wait in the buffer. It says whether the sink took what was put, and stops at
