@@ -56,7 +56,9 @@ impl KeptDesk {
         }
     }
 
-    // The first bar that keeps an enrolled person from the job that is asked about, of all bars.
+    // The first bar that keeps an enrolled person from the job that is asked about, of all bars. It stays a call, so that whoever is
+    // busy is passed over in a few steps.
+    #[inline(never)]
     fn bar_by_facts(&self, asked: &JobAsked, person: &Candidate) -> Option<Bar>
         ensures { (h : History) (p : ℕ) (who : Person) → Tells self.now h → IsJobAsked asked.now h → IsCandidate person.now h p
             → person_of h p ≡ Some who → result ≡ bar_of h asked.now.moment asked.now.job.now p who }
@@ -71,6 +73,7 @@ impl KeptDesk {
 
     /// The first bar that keeps an enrolled person from the job that is asked about; `None` where nothing does. The bars that are
     /// told before all others are looked for first, by themselves.
+    #[inline(always)]
     pub(crate) fn bar_of(&self, asked: &JobAsked, person: &Candidate) -> Option<Bar>
         ensures { (h : History) (p : ℕ) (who : Person) → Tells self.now h → IsJobAsked asked.now h → IsCandidate person.now h p
             → person_of h p ≡ Some who → result ≡ bar_of h asked.now.moment asked.now.job.now p who }
