@@ -1,2 +1,4 @@
 pub mod Device
+pub mod JournalFile
 pub mod MemoryDevice
+pub mod NotOpened

@@ -2,7 +2,13 @@
 #![tactic(auto)]
 
 mod device;
+#[cfg(test)]
+mod device_tests;
+mod journal_file;
 mod memory_device;
+mod not_opened;
 
 pub use device::Device;
+pub use journal_file::JournalFile;
 pub use memory_device::MemoryDevice;
+pub use not_opened::NotOpened;
