@@ -1,6 +1,6 @@
-use Rattle.std.specs.Prelude.{Bool, true}
-use Rattle.std.specs.declared.fs.File.{File}
+use Rattle.std.specs.Prelude.{ℕ}
 
--- the lock of an open file is this run's, by the system's word: the one function that asks for the lock may say so, and no other
-unfoldable pub is_locked : File → Bool
-is_locked file = true
+-- an open file, and how many faults it had
+pub record Opened (F : Type 0) : Type 0 where
+  pub file : F
+  pub faults : ℕ

@@ -1,75 +1,68 @@
-ghost use Rattle.std.specs.Prelude.{◌≡◌, ◌↔◌, ◌≤◌, None, vec_len, if◌then◌else◌, IsTrue, IsOk, IsOkUnless, IsErrOf, IfOk, OnOk};
+ghost use Rattle.std.specs.Prelude.{◌≡◌, ◌≢◌, ◌↔◌, ◌≤◌, None, length, if◌then◌else◌, IsTrue, IsOk, IsOkUnless, IfOk};
 ghost use Rattle.std.specs.Bool.{OnTrue, OnFalse};
 ghost use Rattle.std.specs.Fs.{file_type, IsFile};
+ghost use Rattle.std.specs.Io.KnownBytes.{Appends};
 ghost use Rattle.desk_io.specs.Faults.{Rose, one_more};
+ghost use Rattle.desk_io.specs.Taking.{TakesPiece, Moves};
 ghost use Rattle.journal_device.specs.Device.{faults_after};
-ghost use Rattle.journal_device.specs.JournalFile.{is_locked};
 
-use crate::{Device, NotOpened};
-use desk_io::{InputFault, ReaderSource, WriterSink, put_all, take_all};
-use std::alloc::Global;
-use std::fs::{File, Files, Metadata, OpenOptions};
-use std::io::{self, ErrorKind, Seek, SeekFrom};
+use crate::{Device, NotOpened, SystemFile};
+use desk_io::{Source, Taking};
+use std::fs::{File, Files, Metadata, OpenFile, OpenOptions};
+use std::io::{self, ErrorKind};
 use std::marker::Model;
 
-/// A journal's file, which this run alone has open: its lock is held until the value is dropped. Nothing is claimed of its bytes. Its
-/// faults are the errors of the system, and after the first of them nothing is told as kept: of bytes that the system lost then it need
-/// not tell again. In clauses it is the count of its faults.
-#[derive(Debug, Drop)]
-pub struct JournalFile {
-    file: File,
+/// A journal's file, which this run alone has open: it has the lock until the value is dropped. What is there is read first, as from any
+/// source; then lines are appended. Its faults are the errors of the system, and after the first of them nothing is told as kept: of
+/// bytes that the system lost then it need not tell again.
+#[derive(Drop)]
+pub struct JournalFile<F: SystemFile> {
+    file: F,
     faults: u64,
 }
 
-impl Model for JournalFile {
-    ghost use Rattle.std.specs.Prelude.{ℕ, IsTrue};
-    ghost use Rattle.journal_device.specs.JournalFile.{is_locked};
+impl<F: SystemFile> Model for JournalFile<F> {
+    ghost use Rattle.journal_device.specs.JournalFile.{Opened};
 
-    ghost Value = { ℕ };
+    ghost Value = { Opened F };
 
-    ghost view = { λ s. s.faults };
-
-    ghost invariant = { λ s. IsTrue (is_locked s.file) };
+    ghost view = { λ s. record { file = s.file; faults = s.faults } };
 }
 
-impl JournalFile {
-    /// Opens the file of this name to read it and to append to it, makes it where there is none, and takes its lock at once. A thing
-    /// that is no file is refused, as is a file that another run has open.
-    pub fn open<R: Files<File = File>>(files: &R, name: &str) -> Result<JournalFile, NotOpened>
-        ensures { IfOk result (λ journal. journal ≡ 0) }
+impl JournalFile<File> {
+    /// Opens the file of this name to read it and to append to it, makes it where there is none, and takes its lock at once. What is
+    /// no file is refused, as is a file that another run has open.
+    pub fn open<R: Files<File = File>>(
+        files: &R,
+        name: &str,
+    ) -> Result<JournalFile<File>, NotOpened>
+        ensures { IfOk result (λ journal. journal.faults ≡ 0) }
     {
         let file = OpenOptions::new()
             .read(true)
             .append(true)
             .create(true)
             .open(files, name)?;
-        be_a_file(&file.metadata()?)?;
-        lock(&file)?;
-        Ok(JournalFile { file, faults: 0 })
+        JournalFile::over(file)
     }
+}
 
-    /// All that the file has, from its first byte on, at most `limit` bytes.
-    pub fn read_all(&mut self, alloc: Global, limit: usize) -> Result<Vec<u8>, InputFault>
-        ensures bounded { IfOk result (λ bytes. vec_len bytes ≤ limit) }
-        ensures read_fault { IsErrOf result InputFault.ReadFault → self.new ≡ one_more self.old }
-        ensures no_fault { ¬ IsErrOf result InputFault.ReadFault → self.new ≡ self.old }
+impl<F: SystemFile> JournalFile<F> {
+    /// A journal's file over an open one, whose lock it takes at once.
+    pub fn over(file: F) -> Result<JournalFile<F>, NotOpened>
+        ensures opened { IfOk result (λ journal. journal ≡ record { file = file; faults = 0 }) }
+        ensures locked { IfOk result (λ journal. IsTrue (F.is_locked journal.file)) }
     {
-        let mut file = &self.file;
-        let result = match file.seek(SeekFrom::Start(0)) {
-            Ok(_) => take_all(alloc, &mut ReaderSource::new(file), limit),
-            Err(_) => Err(InputFault::ReadFault),
-        };
-        if let Err(InputFault::ReadFault) = result {
-            self.faults = self.faults.saturating_add(1);
-        }
-        result
+        want_a_file(&file.metadata()?)?;
+        file.take_lock()?;
+        Ok(JournalFile { file, faults: 0 })
     }
 
     /// Cuts the file to its first `len` bytes, and has that kept. A file that has fewer is left as it is, and that is a fault too.
     pub fn cut(&mut self, len: u64) -> bool
-        ensures count { self.new ≡ faults_after result self.old }
-        ensures cause { OnFalse result (Rose self.old self.new) }
-        ensures sound { OnTrue result (self.old ≡ 0) }
+        ensures count { self.new.faults ≡ faults_after result self.old.faults }
+        ensures cause { OnFalse result (Rose self.old.faults self.new.faults) }
+        ensures sound { OnTrue result (self.old.faults ≡ 0) }
     {
         let done = self.faults == 0 && cut_file(&self.file, len).is_ok();
         self.count(done)
@@ -78,7 +71,8 @@ impl JournalFile {
     // Counts a fault where the call was not done.
     fn count(&mut self, done: bool) -> bool
         ensures same { result ≡ done }
-        ensures after { self.new ≡ faults_after done self.old }
+        ensures after { self.new ≡ record self.old { faults = faults_after done self.old.faults } }
+        ensures faults_grow { self.old.faults ≤ self.new.faults }
     {
         if !done {
             self.faults = self.faults.saturating_add(1);
@@ -87,26 +81,50 @@ impl JournalFile {
     }
 }
 
-impl Device for JournalFile {
+impl<F: SystemFile> Source for JournalFile<F> {
+    ghost left = { λ s. F.remaining s.file };
+
+    ghost faults = { λ s. s.faults };
+
+    fn read(&mut self, into: &mut [u8]) -> Taking {
+        match self.file.read(into) {
+            Ok(0) if !into.is_empty() => Taking::End,
+            Ok(count) => Taking::Got(count),
+            Err(_) => {
+                self.count(false);
+                Taking::Failed
+            }
+        }
+    }
+}
+
+impl<F: SystemFile> Device for JournalFile<F> {
     ghost written = { λ _. None };
 
     ghost kept = { λ _. None };
 
-    ghost faults = { λ s. s };
+    ghost faults = { λ s. s.faults };
 
     ghost begins = { λ _. tt };
 
-    fn append(&mut self, bytes: &[u8]) -> bool {
-        let mut sink = WriterSink::new(&self.file);
-        let done = put_all(&mut sink, bytes);
+    fn append(&mut self, bytes: &[u8]) -> bool
+        ensures count { self.new.faults ≡ faults_after result self.old.faults }
+        ensures faults_grow { self.old.faults ≤ self.new.faults }
+        ensures cause { OnFalse result (Rose self.old.faults self.new.faults) }
+
+        // A file that tells its bytes takes them all.
+        ensures bytes { OnTrue result (Appends (F.contents self.old.file) (F.contents self.new.file) bytes.now) }
+    {
+        let done = self.file.write_all(bytes).is_ok();
         self.count(done)
     }
 
     fn sync(&mut self) -> bool
-        ensures count { self.new ≡ faults_after result self.old }
-        ensures faults_grow { self.old ≤ self.new }
-        ensures cause { OnFalse result (Rose self.old self.new) }
-        ensures sound { OnTrue result (self.old ≡ 0) }
+        ensures count { self.new.faults ≡ faults_after result self.old.faults }
+        ensures faults_grow { self.old.faults ≤ self.new.faults }
+        ensures cause { OnFalse result (Rose self.old.faults self.new.faults) }
+        ensures sound { OnTrue result (self.old.faults ≡ 0) }
+        ensures file { self.new.file ≡ self.old.file }
     {
         let done = self.faults == 0 && self.file.sync_data().is_ok();
         self.count(done)
@@ -114,7 +132,7 @@ impl Device for JournalFile {
 }
 
 // Refuses what is no file.
-fn be_a_file(found: &Metadata) -> Result<(), NotOpened>
+fn want_a_file(found: &Metadata) -> Result<(), NotOpened>
     ensures file { IsOk result ↔ IsFile (file_type found.now) }
     ensures only { IsOkUnless result NotOpened.NotAFile }
 {
@@ -124,16 +142,8 @@ fn be_a_file(found: &Metadata) -> Result<(), NotOpened>
     Err(NotOpened::NotAFile)
 }
 
-// Takes the lock, which another run may have.
-fn lock(file: &File) -> Result<(), NotOpened>
-    ensures { OnOk result (IsTrue (is_locked file.now)) }
-{
-    file.try_lock()?;
-    Ok(())
-}
-
 // Cuts a file that has as many bytes, and waits until that is kept.
-fn cut_file(file: &File, len: u64) -> io::Result<()> {
+fn cut_file<F: OpenFile>(file: &F, len: u64) -> io::Result<()> {
     if file.metadata()?.len() < len {
         return Err(ErrorKind::InvalidInput.into());
     }

@@ -3,12 +3,18 @@
 
 mod device;
 #[cfg(test)]
-mod device_tests;
+mod failing_file;
+#[cfg(test)]
+mod file_tests;
 mod journal_file;
 mod memory_device;
+#[cfg(test)]
+mod memory_tests;
 mod not_opened;
+mod system_file;
 
 pub use device::Device;
 pub use journal_file::JournalFile;
 pub use memory_device::MemoryDevice;
 pub use not_opened::NotOpened;
+pub use system_file::SystemFile;
