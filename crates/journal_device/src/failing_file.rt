@@ -1,6 +1,7 @@
 ghost use Rattle.std.specs.Prelude.{true};
 
 use crate::SystemFile;
+use crate::system_file::cut_open_file;
 use std::fs::{Metadata, OpenFile, TryLockError};
 use std::io::{self, ErrorKind, Read, Write};
 
@@ -72,7 +73,17 @@ impl OpenFile for FailingFile {
 impl SystemFile for FailingFile {
     ghost is_locked = { λ _. true };
 
+    ghost is_synced = { λ _. true };
+
     fn take_lock(&self) -> Result<(), TryLockError> {
         self.answer(Call::Lock).map_err(TryLockError::Error)
+    }
+
+    fn sync(&mut self) -> io::Result<()> {
+        self.sync_data()
+    }
+
+    fn cut_to(&mut self, len: u64) -> io::Result<()> {
+        cut_open_file(self, len)
     }
 }

@@ -1,15 +1,15 @@
 ghost use Rattle.std.specs.Prelude.{◌≡◌, ◌≢◌, ◌↔◌, ◌≤◌, None, length, if◌then◌else◌, IsTrue, IsOk, IsOkUnless, IfOk};
 ghost use Rattle.std.specs.Bool.{OnTrue, OnFalse};
 ghost use Rattle.std.specs.Fs.{file_type, IsFile};
-ghost use Rattle.std.specs.Io.KnownBytes.{Appends};
+ghost use Rattle.std.specs.Io.KnownBytes.{Appends, Keeps};
 ghost use Rattle.desk_io.specs.Faults.{Rose, one_more};
 ghost use Rattle.desk_io.specs.Taking.{TakesPiece, Moves};
 ghost use Rattle.journal_device.specs.Device.{faults_after};
+ghost use Rattle.journal_device.specs.JournalFile.{CutsTo};
 
 use crate::{Device, NotOpened, SystemFile};
 use desk_io::{Source, Taking};
-use std::fs::{File, Files, Metadata, OpenFile, OpenOptions};
-use std::io::{self, ErrorKind};
+use std::fs::{File, Files, Metadata, OpenOptions};
 use std::marker::Model;
 
 /// A journal's file, which this run alone has open: it has the lock until the value is dropped. What is there is read first, as from any
@@ -63,8 +63,12 @@ impl<F: SystemFile> JournalFile<F> {
         ensures count { self.new.faults ≡ faults_after result self.old.faults }
         ensures cause { OnFalse result (Rose self.old.faults self.new.faults) }
         ensures sound { OnTrue result (self.old.faults ≡ 0) }
+
+        // A file that tells its bytes is cut to just so many, and these are kept.
+        ensures bytes { OnTrue result (CutsTo (F.contents self.old.file) (F.contents self.new.file) len) }
+        ensures synced { OnTrue result (IsTrue (F.is_synced self.new.file)) }
     {
-        let done = self.faults == 0 && cut_file(&self.file, len).is_ok();
+        let done = self.faults == 0 && self.file.cut_to(len).is_ok();
         self.count(done)
     }
 
@@ -124,9 +128,12 @@ impl<F: SystemFile> Device for JournalFile<F> {
         ensures faults_grow { self.old.faults ≤ self.new.faults }
         ensures cause { OnFalse result (Rose self.old.faults self.new.faults) }
         ensures sound { OnTrue result (self.old.faults ≡ 0) }
-        ensures file { self.new.file ≡ self.old.file }
+
+        // The file's bytes are kept, and stay as they were.
+        ensures synced { OnTrue result (IsTrue (F.is_synced self.new.file)) }
+        ensures bytes { Keeps (F.contents self.old.file) (F.contents self.new.file) }
     {
-        let done = self.faults == 0 && self.file.sync_data().is_ok();
+        let done = self.faults == 0 && self.file.sync().is_ok();
         self.count(done)
     }
 }
@@ -140,13 +147,4 @@ fn want_a_file(found: &Metadata) -> Result<(), NotOpened>
         return Ok(());
     }
     Err(NotOpened::NotAFile)
-}
-
-// Cuts a file that has as many bytes, and waits until that is kept.
-fn cut_file<F: OpenFile>(file: &F, len: u64) -> io::Result<()> {
-    if file.metadata()?.len() < len {
-        return Err(ErrorKind::InvalidInput.into());
-    }
-    file.set_len(len)?;
-    file.sync_all()
 }

@@ -1,4 +1,4 @@
-use Rattle.std.proofs.Common.{◌≡◌, rules}
+use Rattle.std.proofs.Common.{rules}
 use Rattle.journal_device.proofs.DiskLemmas.{kept_of-front, written-front}
 use Rattle.journal_device.proofs.memory_device.MemoryDevice.left.Goals as goal
 
