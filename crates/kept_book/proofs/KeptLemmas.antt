@@ -1,0 +1,121 @@
+-- What a device has of a journal, as the history goes on.
+use Rattle.std.proofs.Common.{◌≡◌, ℕ, Bool, true, false, None, Some, List, [], ◌∷◌, ◌++◌, length, take, drop, arith, refl, sym, ap, subst, ◌∙◌, append_assoc}
+use Rattle.std.specs.declared.option.Option.{Option}
+use Rattle.std.specs.Bool.{OnTrue, OnFalse}
+use Rattle.std.proofs.Props.{props}
+use Rattle.std.proofs.lemmas.List.{append-nil, take_all, take-append-drop}
+use Rattle.std.proofs.lemmas.Bool.{false≢true}
+use Rattle.std.specs.Io.KnownBytes.{append_known}
+use Rattle.std.proofs.Math.Logic.{∥∥₁_elim}
+use Rattle.desk_model.specs.statements.Entry.{EntryValue}
+use Rattle.desk_model.specs.histories.History.{History, with_entry}
+use Rattle.desk_model.specs.texts.Journal.{entry_line, journal}
+use Rattle.line_writer.proofs.JournalLemmas.{journal-next}
+use Rattle.journal_device.specs.Device.{AddsSome, Begins, Tells}
+use Rattle.kept_book.specs.Kept.{TellsFront, KeepsFront, Stands}
+
+-- what is known begins itself
+pub begins_same : (known : Option (List ℕ)) → Begins known known
+begins_same None = tt
+begins_same (Some known) = ([], append-nil known)
+
+-- and what it begins, with more bytes behind that
+pub begins_more : (front known : Option (List ℕ)) (bytes : List ℕ) → Begins front known → Begins front (append_known known bytes)
+begins_more None known bytes begins = tt
+begins_more (Some front) None bytes begins = absurd begins
+begins_more (Some front) (Some known) bytes begins = (begins.0 ++ bytes, sym (append_assoc front begins.0 bytes) ∙ ap (λ t. t ++ bytes) begins.1)
+
+-- nothing that is added is some of any bytes
+pub adds_none : (known : Option (List ℕ)) (bytes : List ℕ) → AddsSome known known bytes
+adds_none None bytes = record { count = 0; added = refl }
+adds_none (Some known) bytes = record { count = 0; added = ap Some (sym (append-nil known)) }
+
+-- all of them are
+pub adds_all : (known after : Option (List ℕ)) (bytes : List ℕ) → after ≡ append_known known bytes → AddsSome known after bytes
+adds_all known after bytes is = record { count = length bytes; added = is ∙ ap (append_known known) (sym (take_all (length bytes) bytes (omega arith))) }
+
+-- that a device tells just these bytes is a proposition
+tells-IsProp : (known : Option (List ℕ)) (bytes : List ℕ) → IsProp (Tells known bytes)
+tells-IsProp None bytes = hlevel props
+tells-IsProp (Some known) bytes = hlevel props
+
+pub whole-IsProp : (sound : Bool) (known : Option (List ℕ)) (bytes : List ℕ) → IsProp (OnTrue sound (Tells known bytes))
+whole-IsProp true known bytes = tells-IsProp known bytes
+whole-IsProp false known bytes = hlevel props
+
+-- the journal of one entry more
+tells-next : (known : Option (List ℕ)) (h : History) (e : EntryValue) → Tells known (journal h) → Tells (append_known known (entry_line e)) (journal (with_entry h e))
+tells-next None h e tells = tt
+tells-next (Some known) h e tells = ap (λ t. t ++ entry_line e) tells ∙ sym (journal-next h e)
+
+-- some bytes of its line behind it
+front-some : (known after : Option (List ℕ)) (h : History) (e : EntryValue) → Tells known (journal h) → AddsSome known after (entry_line e) → TellsFront after (with_entry h e)
+front-some None after h e tells some = subst (λ w. TellsFront w (with_entry h e)) (sym some.added) tt
+front-some (Some known) after h e tells some =
+    let line = entry_line e in
+    subst (λ w. TellsFront w (with_entry h e)) (sym some.added) (
+      drop some.count line,
+      append_assoc known (take some.count line) (drop some.count line) ∙ ap (λ t. known ++ t) (take-append-drop some.count line)
+          ∙ ap (λ t. t ++ line) tells ∙ sym (journal-next h e),
+    )
+
+-- a front of a journal is one of a longer journal
+front-next : (known : Option (List ℕ)) (h : History) (e : EntryValue) → TellsFront known h → TellsFront known (with_entry h e)
+front-next None h e front = tt
+front-next (Some known) h e front =
+    (front.0 ++ entry_line e, sym (append_assoc known front.0 (entry_line e)) ∙ ap (λ t. t ++ entry_line e) front.1 ∙ sym (journal-next h e))
+
+-- what is kept of the first entries is so of a longer history
+keeps-next : (known : Option (List ℕ)) (h : History) (e : EntryValue) → KeepsFront known h → KeepsFront known (with_entry h e)
+keeps-next known h e keeps = record {
+  entries = keeps.entries;
+  later = keeps.later ++ e ∷ [];
+  begins = sym (append_assoc keeps.entries keeps.later (e ∷ [])) ∙ ap (λ es. es ++ e ∷ []) keeps.begins;
+  tells = keeps.tells;
+}
+
+-- all of a history is its first entries
+pub keeps-all : (known : Option (List ℕ)) (h : History) → Tells known (journal h) → KeepsFront known h
+keeps-all known h tells = record { entries = h.entries; later = []; begins = append-nil h.entries; tells = tells }
+
+-- whatever came of the device, what it has stands so to the history with one entry more
+stands-next : (sound done : Bool) (written kept after later : Option (List ℕ)) (h : History) (e : EntryValue) → Stands sound written kept h
+    → OnTrue done (after ≡ append_known written (entry_line e)) → OnTrue done (later ≡ after)
+    → OnFalse done (AddsSome written after (entry_line e)) → OnFalse done (later ≡ kept)
+    → OnFalse sound (done ≡ false) → OnFalse sound (after ≡ written)
+    → Stands done after later (with_entry h e)
+stands-next true true written kept after later h e stands all synced front same unsound stays =
+    let whole = subst (λ w. Tells w (journal (with_entry h e))) (sym all) (tells-next written h e stands.0) in
+    (whole, subst (λ k. Tells k (journal (with_entry h e))) (sym synced) whole)
+stands-next true false written kept after later h e stands all synced front same unsound stays =
+    (front-some written after h e stands.0 front, keeps-next later h e (keeps-all later h (subst (λ k. Tells k (journal h)) (sym same) stands.1)))
+stands-next false true written kept after later h e stands all synced front same unsound stays = absurd (false≢true (sym unsound))
+stands-next false false written kept after later h e stands all synced front same unsound stays =
+    (subst (λ w. TellsFront w (with_entry h e)) (sym stays) (front-next written h e stands.0), keeps-next later h e (subst (λ k. KeepsFront k h) (sym same) stands.1))
+
+-- and the entries that are kept are a front of it
+keeps-first : (sound : Bool) (written kept : Option (List ℕ)) (h : History) → Stands sound written kept h → KeepsFront kept h
+keeps-first true written kept h stands = keeps-all kept h stands.1
+keeps-first false written kept h stands = stands.1
+
+pub keeps-front : (sound : Bool) (written kept : Option (List ℕ)) (h : History) → ∥ Stands sound written kept h ∥₁ → ∥ KeepsFront kept h ∥₁
+keeps-front sound written kept h stands = ∥∥₁_elim stands squash₁ (λ so. ∣ keeps-first sound written kept h so ∣₁)
+
+-- all of it, where the device had no fault
+all-kept : (sound : Bool) (written kept : Option (List ℕ)) (h : History) → Stands sound written kept h → OnTrue sound (Tells kept (journal h))
+all-kept true written kept h stands = stands.1
+all-kept false written kept h stands = tt
+
+pub keeps-whole : (sound : Bool) (written kept : Option (List ℕ)) (h : History) → ∥ Stands sound written kept h ∥₁ → OnTrue sound (Tells kept (journal h))
+keeps-whole sound written kept h stands = ∥∥₁_elim stands (whole-IsProp sound kept (journal h)) (all-kept sound written kept h)
+
+-- whatever came of the device, it stands so with one entry more, whose line was appended or was to be
+pub stands-after : (sound done : Bool) (written kept after later : Option (List ℕ)) (h g : History) (e : EntryValue) (line : List ℕ) → ∥ Stands sound written kept h ∥₁
+    → g ≡ with_entry h e → line ≡ entry_line e
+    → OnTrue done (after ≡ append_known written line) → OnTrue done (later ≡ after)
+    → OnFalse done (AddsSome written after line) → OnFalse done (later ≡ kept)
+    → OnFalse sound (done ≡ false) → OnFalse sound (after ≡ written)
+    → ∥ Stands done after later g ∥₁
+stands-after sound done written kept after later h g e line stands next is all synced front same unsound stays =
+    ∥∥₁_elim stands squash₁ (λ so. ∣ subst (Stands done after later) (sym next) (stands-next sound done written kept after later h e so
+    (subst (λ l. OnTrue done (after ≡ append_known written l)) is all) synced (subst (λ l. OnFalse done (AddsSome written after l)) is front) same unsound stays) ∣₁)

@@ -1,0 +1,155 @@
+ghost use Rattle.std.specs.Prelude.{◌≡◌, ◌↔◌, ◌≤◌, ◌<◌, ◌^◌, length, true, false, IfOk, IsErr};
+ghost use Rattle.std.specs.Bool.{OnTrue, OnFalse};
+ghost use Rattle.std.specs.Io.KnownBytes.{append_known};
+ghost use Rattle.desk_io.specs.Faults.{Rose};
+ghost use Rattle.desk_model.specs.declared.limits.TheConstants.{LAST_CALLER};
+ghost use Rattle.desk_model.specs.histories.History.{with_entry};
+ghost use Rattle.desk_model.specs.histories.Legal.{IsLegal, next};
+ghost use Rattle.desk_model.specs.texts.Journal.{journal};
+ghost use Rattle.journal_device.specs.Device.{AddsSome, Begins, Tells};
+ghost use Rattle.kept_book.specs.Kept.{KeepsFront};
+
+use crate::{Stepped, Steps};
+use call_history::Full;
+use desk_model::{Booked, Stated};
+use journal_device::Device;
+use line_writer::{LineText, fill_with_entry};
+use record_rows::LastMinute;
+use std::marker::Model;
+
+/// A book whose journal is on a device: the line of each entry is appended and synced before the entry is told as kept. After the first
+/// fault of the device nothing is appended any more, and no later entry is told as kept.
+#[derive(Drop)]
+pub struct KeptBook<B: Steps + Drop, D: Device> {
+    book: B,
+    device: D,
+    sound: bool,
+    // The line at hand, and the minutes that the lines before it named.
+    line: LineText,
+    stated: LastMinute,
+    moment: LastMinute,
+}
+
+impl<B: Steps + Drop, D: Device> Model for KeptBook<B, D> {
+    ghost use Rattle.kept_book.specs.Kept.{KeptValue, Stands};
+
+    ghost Value = { KeptValue B D };
+
+    ghost view = { λ k. record { book = k.book; device = k.device; sound = k.sound } };
+
+    ghost invariant = { λ k. ∥ Stands k.sound (D.written k.device) (D.kept k.device) (B.history k.book) ∥₁ };
+}
+
+impl<B: Steps + Drop, D: Device> KeptBook<B, D> {
+    /// A book whose journal so far was written to the device, all of it, and is kept.
+    pub fn new(book: B, device: D) -> KeptBook<B, D>
+        requires written { Tells (D.written device) (journal (B.history book)) }
+        requires kept { Tells (D.kept device) (journal (B.history book)) }
+        ensures { result ≡ record { book = book; device = device; sound = true } }
+    {
+        KeptBook {
+            book,
+            device,
+            sound: true,
+            line: LineText::new(),
+            stated: LastMinute::new(),
+            moment: LastMinute::new(),
+        }
+    }
+
+    /// The book and the device.
+    pub fn into_parts(self) -> (B, D)
+        ensures { result ≡ (self.book, self.device) }
+    {
+        let KeptBook {
+            book,
+            device,
+            sound: _,
+            line: _,
+            stated: _,
+            moment: _,
+        } = self;
+        (book, device)
+    }
+
+    /// Whether the device had no fault. What is kept is the journal of a front of the book's entries at all times, and of all of them
+    /// where it had none.
+    pub fn is_sound(&self) -> bool
+        ensures sound { result ≡ self.now.sound }
+        ensures whole { OnTrue result (Tells (D.kept self.now.device) (journal (B.history self.now.book))) }
+        ensures front { ∥ KeepsFront (D.kept self.now.device) (B.history self.now.book) ∥₁ }
+    {
+        self.sound
+    }
+}
+
+// Appends a line to a device that had no fault so far, and has it kept; and says whether both were done. One that had a fault is asked
+// nothing.
+fn keep_line<D: Device>(device: &mut D, sound: bool, line: &[u8]) -> bool
+    ensures done { OnTrue result (D.written device.new ≡ append_known (D.written device.old) line.now) }
+    ensures kept { OnTrue result (D.kept device.new ≡ D.written device.new) }
+    ensures front { OnFalse result (AddsSome (D.written device.old) (D.written device.new) line.now) }
+    ensures same { OnFalse result (D.kept device.new ≡ D.kept device.old) }
+    ensures unsound { OnFalse sound (result ≡ false) }
+    ensures stays { OnFalse sound (device.new ≡ device.old) }
+    ensures grows { Begins (D.kept device.old) (D.kept device.new) }
+    ensures faults_grow { D.faults device.old ≤ D.faults device.new }
+    ensures cause { OnTrue sound (OnFalse result (Rose (D.faults device.old) (D.faults device.new))) }
+    ensures no_fault { OnTrue result (D.faults device.new ≡ D.faults device.old) }
+{
+    if !sound {
+        return false;
+    }
+    if !device.append(line) {
+        return false;
+    }
+    device.sync()
+}
+
+impl<B: Steps + Drop, D: Device> Booked for KeptBook<B, D> {
+    ghost history = { λ k. B.history k.book };
+
+    ghost room = { λ k. B.room k.book };
+
+    ghost mark = { λ k. B.mark k.book };
+
+    fn count(&self) -> u32 {
+        self.book.count()
+    }
+
+    ghost within = { λ k. B.within k.book };
+}
+
+impl<B: Steps + Drop, D: Device> Steps for KeptBook<B, D> {
+    ghost kept = { λ k. D.kept k.device };
+
+    fn step(&mut self, caller: u8, stated: Stated) -> Result<Stepped, Full>
+        requires { caller ≤ LAST_CALLER }
+        ensures answer { IfOk result (λ s. s.entry ≡ next (B.history self.old.book) caller stated) }
+        ensures history { IfOk result (λ s. B.history self.new.book ≡ with_entry (B.history self.old.book) s.entry) }
+        ensures full { IsErr result ↔ (length (B.history self.old.book).entries ≡ B.room self.old.book) }
+        ensures same { IsErr result → B.history self.new.book ≡ B.history self.old.book }
+        ensures room { B.room self.new.book ≡ B.room self.old.book }
+        ensures mark { B.mark self.new.book ≡ B.mark self.old.book }
+        ensures kept { IfOk result (λ s. OnTrue s.kept (Tells (D.kept self.new.device) (journal (B.history self.new.book)))) }
+        ensures grows { Begins (D.kept self.old.device) (D.kept self.new.device) }
+
+        // An entry is told as kept exactly where the device has had no fault, and after a fault the device is asked nothing any more.
+        ensures sound { IfOk result (λ s. s.kept ≡ self.new.sound) }
+        ensures stays { OnFalse self.old.sound ((self.new.device ≡ self.old.device) × (self.new.sound ≡ self.old.sound)) }
+        ensures cause { OnTrue self.old.sound (IfOk result (λ s.
+            OnFalse s.kept (Rose (D.faults self.old.device) (D.faults self.new.device)))) }
+    {
+        let entry = self.book.step(caller, stated)?.entry;
+        fill_with_entry(&mut self.line, &mut self.stated, &mut self.moment, &entry);
+        self.sound = keep_line(&mut self.device, self.sound, self.line.as_slice());
+        Ok(Stepped {
+            entry,
+            kept: self.sound,
+        })
+    }
+
+    fn is_legal(&self) {
+        self.book.is_legal();
+    }
+}
