@@ -37,7 +37,7 @@ pub(crate) fn audit_entries<C: DeskCore>(core: &mut C, text: &[u8]) -> Result<u3
     each_line_ends_once();
     let mut left = text;
     let mut count: u32 = 0;
-    let mut right_outcome = LineText::new();
+    let mut room = LineText::new();
     let mut last = LastMinute::new();
     let mut fields = Fields::new();
     let mut statement = Statement::new();
@@ -47,7 +47,7 @@ pub(crate) fn audit_entries<C: DeskCore>(core: &mut C, text: &[u8]) -> Result<u3
             return Err(Verdict::Unreadable(count + 2));
         };
         let right = core.answer(statement.caller, &statement.stated);
-        if !is_outcome(outcome, &mut right_outcome, &mut last, &right) {
+        if !is_outcome(outcome, &mut room, &mut last, &right) {
             let Some(entry) = &read_entry(line) else {
                 return Err(Verdict::Unreadable(count + 2));
             };

@@ -11,12 +11,13 @@ use Rattle.command_parser.specs.Spelled.{SpellsStated}
 abbrev pub done_when_stated : List ℕ → List ℕ
 done_when_stated stated = 124 ∷ take 16 stated ++ codes "|done\n"
 
--- what stands behind them: what is held as text; and where nothing is, it was done when it was stated
+-- what stands behind them: what is held as text; and where nothing is, it was done when it was stated. No statement has fewer than 16 bytes
 abbrev pub held_behind : List ℕ → List ℕ → List ℕ
 held_behind stated [] = if nat_lt (length stated) 16 then [] else done_when_stated stated
 held_behind stated (byte ∷ text) = byte ∷ text
 
--- the line of which this is held as text: the whole, where it has no bytes of a statement, or what stands behind caller 0 and these
+-- the line of an entry of which these bytes of its statement and this text are held: the text, where there are no such bytes; else caller 0,
+-- these bytes, and what stands behind them
 abbrev pub held_line : List ℕ → List ℕ → List ℕ
 held_line [] text = text
 held_line (byte ∷ stated) text = codes "0|" ++ (byte ∷ stated) ++ held_behind (byte ∷ stated) text

@@ -34,7 +34,7 @@ fn bytes_or_none(line: Option<&[u8]>) -> &[u8]
     }
 }
 
-// Whether the entry's command was done, at the minute at which it was stated.
+// Whether the entry's command was done, at the minute at which it was stated. Where it says no, nothing is said: more is held then.
 fn is_done_when_stated(entry: &EntryRef) -> bool
     ensures done { IsTrue result → entry.now.reply ≡ Reply.Done }
     ensures when { IsTrue result → entry.now.moment ≡ entry.now.stated.minute }
@@ -42,7 +42,8 @@ fn is_done_when_stated(entry: &EntryRef) -> bool
     matches!(entry.reply(), Reply::Done) && entry.moment() == entry.stated().minute()
 }
 
-/// The journal of a day, held until all of the day file was read: of each line the record's own bytes, and what stands behind them as text.
+/// The journal of a day, held until all of the day file was read: of each line the record's own bytes, and what stands behind them as text,
+/// unless it was done when it was stated.
 #[derive(Drop)]
 pub(crate) struct HeldJournal<'a> {
     opening: LineText,
@@ -76,8 +77,8 @@ impl HeldJournal<'_> {
         put_all(sink, buffer)
     }
 
-    // Adds what is held as text of the line of an entry: all of it, where no bytes of its statement are at hand, and none, where it was
-    // done when it was stated. `last` is the minute that was stated last.
+    // Adds what is held as text of the line of an entry: all of it, where no bytes of its statement are at hand; none, where they are and it
+    // was done when it was stated. `last` is the minute that was stated last: it only spares work.
     fn add_text(
         &mut self,
         stated: &[u8],
@@ -133,11 +134,11 @@ impl<'a> DayKept<'a> for HeldJournal<'a> {
         stated: &LastMinute,
     ) -> Result<(), NoMemory> {
         let before = self.texts.len();
-        let bytes_stated = bytes_or_none(line);
-        self.add_text(bytes_stated, stated, entry)?;
+        let stated_bytes = bytes_or_none(line);
+        self.add_text(stated_bytes, stated, entry)?;
         let bytes = self.texts.len() - before;
         self.lines.push(HeldLine {
-            stated: bytes_stated,
+            stated: stated_bytes,
             bytes,
         })?;
         Ok(())

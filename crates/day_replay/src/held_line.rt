@@ -15,8 +15,8 @@ use line_writer::done_at;
 pub(crate) struct HeldLine<'a> {
     /// The bytes of its record, which are the text of its statement; empty where the whole line is held as text.
     pub(crate) stated: &'a [u8],
-    /// How many bytes of it are held as text: what stands behind the record, or the whole line. None are where it was done when it was
-    /// stated.
+    /// How many bytes of it are held as text: the whole line, or what stands behind the record; none, where the record's bytes are held and
+    /// it was done when it was stated.
     pub(crate) bytes: usize,
 }
 
