@@ -1,5 +1,5 @@
 -- What is written to a device, what of it is kept, and its faults.
-use Rattle.std.specs.Prelude.{◌≡◌, ℕ, Bool, true, false, List, take, ⊤, None, Some}
+use Rattle.std.specs.Prelude.{◌≡◌, ℕ, ◌≤◌, Bool, true, false, List, length, take, ⊤, None, Some}
 use Rattle.std.specs.declared.option.Option.{Option}
 use Rattle.std.specs.Io.KnownBytes.{append_known}
 use mathlib.Core.List.{IsPrefix}
@@ -25,3 +25,8 @@ pub record AddsSome (old new : Option (List ℕ)) (bytes : List ℕ) : Type 0 wh
 abbrev pub faults_after : Bool → ℕ → ℕ
 faults_after true faults = faults
 faults_after false faults = one_more faults
+
+-- of the bytes, where they are told, there are so many, and just these are left; where they are not told, no others are
+abbrev pub Leaves : Option (List ℕ) → Option (List ℕ) → ℕ → Type 0
+Leaves None left len = left ≡ None
+Leaves (Some bytes) left len = (len ≤ length bytes) × (left ≡ Some (take len bytes))

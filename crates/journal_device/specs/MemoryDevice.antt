@@ -80,3 +80,15 @@ after_sync disk answer = record disk {
   calls = one_more disk.calls;
   faults = faults_after answer disk.faults;
 }
+
+-- it cuts where the call is not listed and there are so many bytes
+abbrev pub cut_answer : Disk → ℕ → Bool
+cut_answer disk len = if fails disk then false else nat_le len (length disk.held)
+
+-- what it is after a cut to its first bytes, so many
+abbrev pub after_cut : Disk → ℕ → Disk
+after_cut disk len = record disk {
+  held = take len disk.held;
+  kept = len;
+  calls = one_more disk.calls;
+}

@@ -1,14 +1,16 @@
-ghost use Rattle.std.specs.Prelude.{◌≡◌, ◌≢◌, ◌↔◌, ◌≤◌, None, length, if◌then◌else◌, IsTrue, IsOk, IsOkUnless, IfOk};
+ghost use Rattle.std.specs.Prelude.{IfOk, IfErr, IsErrOf, vec_len, ◌≡◌, ◌≢◌, ◌↔◌, ◌≤◌, None, length, if◌then◌else◌, IsTrue, IsOk, IsOkUnless};
 ghost use Rattle.std.specs.Bool.{OnTrue, OnFalse};
 ghost use Rattle.std.specs.Fs.{file_type, IsFile};
 ghost use Rattle.std.specs.Io.KnownBytes.{Appends, Keeps};
 ghost use Rattle.desk_io.specs.Faults.{Rose, one_more};
+ghost use Rattle.desk_io.specs.Input.{TookAll, TookMore};
 ghost use Rattle.desk_io.specs.Taking.{TakesPiece, Moves};
 ghost use Rattle.journal_device.specs.Device.{faults_after};
 ghost use Rattle.journal_device.specs.JournalFile.{CutsTo};
 
-use crate::{Device, NotOpened, SystemFile};
-use desk_io::{Source, Taking};
+use crate::{Device, Found, NotOpened, SystemFile};
+use desk_io::{InputFault, Source, Taking, take_all};
+use std::alloc::Global;
 use std::fs::{File, Files, Metadata, OpenOptions};
 use std::marker::Model;
 
@@ -135,6 +137,41 @@ impl<F: SystemFile> Device for JournalFile<F> {
     {
         let done = self.faults == 0 && self.file.sync().is_ok();
         self.count(done)
+    }
+}
+
+impl<F: SystemFile> Found for JournalFile<F> {
+    ghost use Rattle.std.specs.Prelude.{None};
+
+    ghost there = { λ _. None };
+
+    fn read_all(&mut self, alloc: Global, limit: usize) -> Result<Vec<u8>, InputFault>
+        ensures bounded { IfOk result (λ text. vec_len text ≤ limit) }
+        ensures read_fault { IsErrOf result InputFault.ReadFault → Rose self.old.faults self.new.faults }
+        ensures no_fault { ¬ IsErrOf result InputFault.ReadFault → self.new.faults ≡ self.old.faults }
+        ensures faults_grow { self.old.faults ≤ self.new.faults }
+
+        // A file that tells its bytes is read to its end.
+        ensures all { IfOk result (λ text. TookAll (F.remaining self.old.file) (F.remaining self.new.file) text.items) }
+        ensures too_long { IsErrOf result InputFault.TooLong
+            → TookMore (F.remaining self.old.file) (F.remaining self.new.file) limit }
+    {
+        take_all(alloc, self, limit)
+    }
+
+    fn go_on(self, len: u64) -> Result<JournalFile<F>, JournalFile<F>>
+        ensures no_fault { IfOk result (λ journal. journal.faults ≡ self.faults) }
+        ensures cause { IfErr result (λ journal. Rose self.faults journal.faults) }
+
+        // A file that tells its bytes is cut to just so many, and these are kept.
+        ensures bytes { IfOk result (λ journal. CutsTo (F.contents self.file) (F.contents journal.file) len) }
+        ensures synced { IfOk result (λ journal. IsTrue (F.is_synced journal.file)) }
+    {
+        let mut journal = self;
+        if journal.cut(len) {
+            return Ok(journal);
+        }
+        Err(journal)
     }
 }
 

@@ -6,6 +6,7 @@ mod device;
 mod failing_file;
 #[cfg(test)]
 mod file_tests;
+mod found;
 mod journal_file;
 mod memory_device;
 #[cfg(test)]
@@ -14,6 +15,7 @@ mod not_opened;
 mod system_file;
 
 pub use device::Device;
+pub use found::Found;
 pub use journal_file::JournalFile;
 pub use memory_device::MemoryDevice;
 pub use not_opened::NotOpened;

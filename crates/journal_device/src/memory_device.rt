@@ -1,11 +1,12 @@
-ghost use Rattle.std.specs.Prelude.{◌≡◌, ◌≤◌, ◌++◌, length, take, if◌then◌else◌, false, IfOk};
+ghost use Rattle.std.specs.Prelude.{◌≡◌, ◌≤◌, ◌<◌, ◌++◌, length, take, if◌then◌else◌, false, IfOk, IfErr, IsOk, IsErrOf, IsTrue, ◌↔◌, vec_len};
 ghost use Rattle.std.specs.Bool.{OnTrue, OnFalse};
 ghost use Rattle.desk_io.specs.Faults.{Rose, one_more};
 ghost use Rattle.journal_device.specs.Device.{faults_after};
 ghost use mathlib.Core.List.{IsPrefix};
 
-use crate::Device;
+use crate::{Device, Found};
 use desk_base::NoMemory;
+use desk_io::InputFault;
 use std::alloc::Global;
 use std::marker::Model;
 
@@ -62,6 +63,28 @@ impl MemoryDevice {
             calls: 0,
             faults: 0,
         })
+    }
+
+    /// A device as a run finds it, with these bytes, all of which are kept, and room for so many in all, but not fewer than these; it fails as a
+    /// new one does.
+    pub fn holding(
+        alloc: Global,
+        bytes: &[u8],
+        room: usize,
+        torn: usize,
+        failing: Vec<u64>,
+    ) -> Result<MemoryDevice, NoMemory>
+        requires { length bytes.now ≤ room }
+        ensures { IfOk result (λ device. device ≡ record (new_disk room torn failing.items) {
+          held = bytes.now;
+          kept = length bytes.now;
+        }) }
+    {
+        let mut device = MemoryDevice::new(alloc, room, torn, failing)?;
+        let taken = device.bytes.extend_from_slice(bytes);
+        prove!(taken.is_ok());
+        device.kept = bytes.len();
+        Ok(device)
     }
 
     /// The bytes that were written.
@@ -155,5 +178,42 @@ impl Device for MemoryDevice {
             self.kept = self.bytes.len();
         }
         done
+    }
+}
+
+impl Found for MemoryDevice {
+    ghost use Rattle.std.specs.Prelude.{Some};
+    ghost use Rattle.journal_device.specs.MemoryDevice.{after_cut, cut_answer, kept_of};
+
+    ghost there = { λ s. Some s.held };
+
+    fn read_all(&mut self, alloc: Global, limit: usize) -> Result<Vec<u8>, InputFault>
+        ensures bounded { IfOk result (λ text. vec_len text ≤ limit) }
+        ensures whole { IfOk result (λ text. self.new.held ≡ text.items) }
+        ensures same { self.new ≡ self.old }
+        ensures never { ¬ IsErrOf result InputFault.ReadFault }
+        ensures too_long { IsErrOf result InputFault.TooLong → limit < length self.old.held }
+    {
+        if limit < self.bytes.len() {
+            return Err(InputFault::TooLong);
+        }
+        let mut text = Vec::new(alloc);
+        text.extend_from_slice(&self.bytes)?;
+        Ok(text)
+    }
+
+    fn go_on(self, len: u64) -> Result<MemoryDevice, MemoryDevice>
+        ensures answer { IsOk result ↔ IsTrue (cut_answer self len) }
+        ensures cut { IfOk result (λ device. (device ≡ after_cut self len) × (len ≤ length self.held)) }
+        ensures cause { IfErr result (λ device. (Rose self.faults device.faults) × (device.held ≡ self.held)) }
+    {
+        let mut device = self;
+        let there = device.bytes.len() as u64;
+        if !device.count_call(len <= there) {
+            return Err(device);
+        }
+        device.bytes.truncate(len as usize);
+        device.kept = len as usize;
+        Ok(device)
     }
 }
