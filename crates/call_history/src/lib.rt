@@ -1,8 +1,12 @@
-//! A desk that keeps all its entries.
+//! Books: a desk with all its entries, and what steps one.
 #![tactic(auto)]
 
 mod book;
 mod full;
+mod stepped;
+mod steps;
 
 pub use book::Book;
 pub use full::Full;
+pub use stepped::Stepped;
+pub use steps::Steps;

@@ -1,15 +1,16 @@
 -- What a device has of a journal, as the history goes on.
-use Rattle.std.proofs.Common.{◌≡◌, ℕ, Bool, true, false, None, Some, List, [], ◌∷◌, ◌++◌, length, take, drop, arith, refl, sym, ap, subst, ◌∙◌, append_assoc}
+use Rattle.std.proofs.Common.{◌≡◌, ℕ, ◌+◌, ◌<◌, get_or, Bool, true, false, None, Some, List, [], ◌∷◌, ◌++◌, length, take, drop, arith, refl, sym, ap, subst, ◌∙◌, append_assoc}
 use Rattle.std.specs.declared.option.Option.{Option}
 use Rattle.std.specs.Bool.{OnTrue, OnFalse}
 use Rattle.std.proofs.Props.{props}
-use Rattle.std.proofs.lemmas.List.{append-nil, take_all, take-append-drop}
+use Rattle.std.proofs.lemmas.List.{append-nil, take_all, take_more, take-append-drop}
 use Rattle.std.proofs.lemmas.Bool.{false≢true}
 use Rattle.std.specs.Io.KnownBytes.{append_known}
 use Rattle.std.proofs.Math.Logic.{∥∥₁_elim}
 use Rattle.desk_model.specs.statements.Entry.{EntryValue}
-use Rattle.desk_model.specs.histories.History.{History, with_entry}
-use Rattle.desk_model.specs.texts.Journal.{entry_line, journal}
+use Rattle.desk_model.specs.statements.Opening.{OpeningValue}
+use Rattle.desk_model.specs.histories.History.{History, history_of, with_entry}
+use Rattle.desk_model.specs.texts.Journal.{opening_line, entry_line, journal}
 use Rattle.line_writer.proofs.JournalLemmas.{journal-next}
 use Rattle.journal_device.specs.Device.{AddsSome, Begins, Tells}
 use Rattle.kept_book.specs.Kept.{TellsFront, KeepsFront, Stands}
@@ -119,3 +120,19 @@ pub stands-after : (sound done : Bool) (written kept after later : Option (List 
 stands-after sound done written kept after later h g e line stands next is all synced front same unsound stays =
     ∥∥₁_elim stands squash₁ (λ so. ∣ subst (Stands done after later) (sym next) (stands-next sound done written kept after later h e so
     (subst (λ l. OnTrue done (after ≡ append_known written l)) is all) synced (subst (λ l. OnFalse done (AddsSome written after l)) is front) same unsound stays) ∣₁)
+
+-- ---- a journal that is written as a whole
+
+-- that of an opening alone, behind nothing
+pub tells-opening : (known after : Option (List ℕ)) (o : OpeningValue) (line : List ℕ) → Tells known [] → after ≡ append_known known line → line ≡ opening_line o
+    → Tells after (journal (history_of o []))
+tells-opening None after o line tells is same = rw is tt
+tells-opening (Some known) after o line tells is same = rw is (ap (λ t. t ++ line) tells ∙ same ∙ sym (append-nil (opening_line o)))
+
+-- with the line of the entry that stands next
+pub tells-one-more : (known after : Option (List ℕ)) (o : OpeningValue) (entries : List EntryValue) (at : ℕ) (e : EntryValue) (line : List ℕ) → at < length entries → e ≡ get_or entries at e
+    → Tells known (journal (history_of o (take at entries))) → after ≡ append_known known line → line ≡ entry_line e → Tells after (journal (history_of o (take (at + 1) entries)))
+tells-one-more known after o entries at e line within item tells is same =
+    let front : take (at + 1) entries ≡ take at entries ++ e ∷ [] = take_more entries at e within ∙ ap (λ y. take at entries ++ y ∷ []) (sym item) in
+    subst (λ es. Tells after (journal (history_of o es))) (sym front)
+    (subst (λ a. Tells a (journal (with_entry (history_of o (take at entries)) e))) (sym (is ∙ ap (append_known known) same)) (tells-next known (history_of o (take at entries)) e tells))

@@ -1,19 +1,18 @@
-ghost use Rattle.std.specs.Prelude.{◌≡◌, ◌↔◌, ◌≤◌, ◌<◌, ◌^◌, length, true, false, IfOk, IsErr};
+ghost use Rattle.std.specs.Prelude.{◌≡◌, ◌↔◌, ◌≤◌, ◌<◌, ◌^◌, [], length, true, false, IfOk, IfErr, IsErr};
 ghost use Rattle.std.specs.Bool.{OnTrue, OnFalse};
 ghost use Rattle.std.specs.Io.KnownBytes.{append_known};
 ghost use Rattle.desk_io.specs.Faults.{Rose};
 ghost use Rattle.desk_model.specs.declared.limits.TheConstants.{LAST_CALLER};
-ghost use Rattle.desk_model.specs.histories.History.{with_entry};
+ghost use Rattle.desk_model.specs.histories.History.{history_of, with_entry};
 ghost use Rattle.desk_model.specs.histories.Legal.{IsLegal, next};
 ghost use Rattle.desk_model.specs.texts.Journal.{journal};
 ghost use Rattle.journal_device.specs.Device.{AddsSome, Begins, Tells};
 ghost use Rattle.kept_book.specs.Kept.{KeepsFront};
 
-use crate::{Stepped, Steps};
-use call_history::Full;
-use desk_model::{Booked, Stated};
+use call_history::{Full, Stepped, Steps};
+use desk_model::{Booked, Entry, Opening, Stated};
 use journal_device::Device;
-use line_writer::{LineText, fill_with_entry};
+use line_writer::{LineText, fill_with_entry, write_opening};
 use record_rows::LastMinute;
 use std::marker::Model;
 
@@ -57,6 +56,23 @@ impl<B: Steps + Drop, D: Device> KeptBook<B, D> {
         }
     }
 
+    /// A book whose journal so far is written to a device that has nothing yet, all of it, and kept there; where the device has a fault it is
+    /// given back.
+    pub fn begin(opening: &Opening, book: B, device: D) -> Result<KeptBook<B, D>, D>
+        requires opening { opening.now ≡ (B.history book).opening }
+        requires empty { Tells (D.written device) [] }
+        ensures book { IfOk result (λ kept. (kept.book ≡ book) × (kept.sound ≡ true)) }
+        ensures kept { IfOk result (λ kept. Tells (D.kept kept.device) (journal (B.history book))) }
+        ensures no_fault { IfOk result (λ kept. D.faults kept.device ≡ D.faults device) }
+        ensures cause { IfErr result (λ after. Rose (D.faults device) (D.faults after)) }
+    {
+        let mut device = device;
+        if put_history(&mut device, opening, book.entries()) {
+            return Ok(KeptBook::new(book, device));
+        }
+        Err(device)
+    }
+
     /// The book and the device.
     pub fn into_parts(self) -> (B, D)
         ensures { result ≡ (self.book, self.device) }
@@ -81,6 +97,30 @@ impl<B: Steps + Drop, D: Device> KeptBook<B, D> {
     {
         self.sound
     }
+}
+
+// Appends the journal of a history that was opened so and has these entries to a device that has nothing yet, and has it kept; and says
+// whether that was done.
+fn put_history<D: Device>(device: &mut D, opening: &Opening, entries: &[Entry]) -> bool
+    requires { Tells (D.written device.old) [] }
+    ensures written { OnTrue result (Tells (D.written device.new) (journal (history_of opening.now entries.now))) }
+    ensures kept { OnTrue result (D.kept device.new ≡ D.written device.new) }
+    ensures cause { OnFalse result (Rose (D.faults device.old) (D.faults device.new)) }
+    ensures no_fault { OnTrue result (D.faults device.new ≡ D.faults device.old) }
+{
+    if !device.append(write_opening(opening).as_slice()) {
+        return false;
+    }
+    let mut line = LineText::new();
+    let mut stated = LastMinute::new();
+    let mut moment = LastMinute::new();
+    for entry in entries {
+        fill_with_entry(&mut line, &mut stated, &mut moment, entry);
+        if !device.append(line.as_slice()) {
+            return false;
+        }
+    }
+    D::sync(device)
 }
 
 // Appends a line to a device that had no fault so far, and has it kept; and says whether both were done. One that had a fault is asked
@@ -121,7 +161,11 @@ impl<B: Steps + Drop, D: Device> Booked for KeptBook<B, D> {
 }
 
 impl<B: Steps + Drop, D: Device> Steps for KeptBook<B, D> {
+    ghost use Rattle.std.specs.Prelude.{false};
+
     ghost kept = { λ k. D.kept k.device };
+
+    ghost always = { false };
 
     fn step(&mut self, caller: u8, stated: Stated) -> Result<Stepped, Full>
         requires { caller ≤ LAST_CALLER }
@@ -147,6 +191,10 @@ impl<B: Steps + Drop, D: Device> Steps for KeptBook<B, D> {
             entry,
             kept: self.sound,
         })
+    }
+
+    fn entries(&self) -> &[Entry] {
+        self.book.entries()
     }
 
     fn is_legal(&self) {

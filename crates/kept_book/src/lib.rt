@@ -2,9 +2,5 @@
 #![tactic(auto)]
 
 mod kept_book;
-mod stepped;
-mod steps;
 
 pub use kept_book::KeptBook;
-pub use stepped::Stepped;
-pub use steps::Steps;

@@ -1,4 +1,4 @@
-ghost use Rattle.std.specs.Prelude.{◌≡◌, ◌↔◌, ◌<◌, ◌≤◌, ◌^◌, ℕ, List, length, true, IfOk, IsErr};
+ghost use Rattle.std.specs.Prelude.{◌≡◌, ◌↔◌, ◌<◌, ◌≤◌, ◌^◌, ℕ, Bool, List, length, true, IfOk, IsErr};
 ghost use Rattle.std.specs.Bool.{OnTrue};
 ghost use Rattle.std.specs.declared.option.Option.{Option};
 ghost use Rattle.desk_model.specs.declared.limits.TheConstants.{LAST_CALLER};
@@ -7,15 +7,17 @@ ghost use Rattle.desk_model.specs.histories.Legal.{IsLegal, next};
 ghost use Rattle.desk_model.specs.texts.Journal.{journal};
 ghost use Rattle.journal_device.specs.Device.{Begins, Tells};
 
-use crate::Stepped;
-use call_history::{Book, Full};
-use desk_model::{Booked, DeskCore, Stated};
+use crate::{Book, Full, Stepped};
+use desk_model::{Booked, DeskCore, Entry, Stated};
 
 /// A book that answers what is stated, one command after another.
 pub trait Steps: Booked {
     /// The bytes with which what is found of its journal begins, whenever the run stops from now on; `None` where it keeps no journal,
     /// or doesn't tell what is kept of it.
     ghost kept: { Self → Option (List ℕ) };
+
+    /// Whether each entry is told as kept, whatever happens: so tells a book that keeps no journal.
+    ghost always: { Bool };
 
     /// Answers what caller 0 to 63 states: the entry is the one that the rules give after all entries before it, and stands behind them.
     /// Where the book is full nothing is answered, and its history stays as it was.
@@ -30,7 +32,12 @@ pub trait Steps: Booked {
 
         // What is told as kept is: the journal up to the entry, with its line. And what was kept stays kept.
         ensures kept { IfOk result (λ s. OnTrue s.kept (Tells (kept self.new) (journal (Self.history self.new)))) }
-        ensures grows { Begins (kept self.old) (kept self.new) };
+        ensures grows { Begins (kept self.old) (kept self.new) }
+        ensures always { IfOk result (λ s. always ≡ true → s.kept ≡ true) };
+
+    /// All entries, in order.
+    fn entries(&self) -> &[Entry]
+        ensures { result.now ≡ (Self.history self.now).entries };
 
     /// What a book has is a legal history, and it has room for fewer than 2^32 entries in all. It only names the law that it rests on: its
     /// clauses are the laws.
@@ -40,9 +47,11 @@ pub trait Steps: Booked {
 }
 
 impl<C: DeskCore> Steps for Book<C> {
-    ghost use Rattle.std.specs.Prelude.{None};
+    ghost use Rattle.std.specs.Prelude.{None, true};
 
     ghost kept = { λ _. None };
+
+    ghost always = { true };
 
     fn step(&mut self, caller: u8, stated: Stated) -> Result<Stepped, Full>
         requires { caller ≤ LAST_CALLER }
@@ -56,6 +65,10 @@ impl<C: DeskCore> Steps for Book<C> {
     {
         let entry = Book::step(self, caller, stated)?;
         Ok(Stepped { entry, kept: true })
+    }
+
+    fn entries(&self) -> &[Entry] {
+        Book::entries(self)
     }
 
     fn is_legal(&self) {
