@@ -1,22 +1,24 @@
 //! What a desk with windows keeps.
 
-ghost use Rattle.std.specs.Prelude.{◌≡◌, ◌+◌, ◌<◌, ◌≤◌, length};
+ghost use Rattle.std.specs.Prelude.{◌≡◌, ◌≢◌, ◌+◌, ◌<◌, ◌≤◌, IfSome, IfNone, length, true};
 ghost use mathlib.Core.List.{IsPrefix};
 ghost use Rattle.desk_model.specs.histories.History.{with_entry};
 ghost use Rattle.desk_model.specs.histories.Legal.{IsLegal, next};
+ghost use Rattle.desk_model.specs.texts.Journal.{journal};
+ghost use Rattle.journal_device.specs.Device.{Begins, Tells};
 ghost use Rattle.desk_model.specs.declared.limits.TheConstants.{LAST_CALLER};
 ghost use Rattle.board_window.specs.declared.wall_name.WallName.{WallName as Name};
 ghost use Rattle.desk_shared.specs.Shown.{IsWallOf};
 ghost use Rattle.turn_gate.specs.Seats.{GateValue};
 
 use board_window::{Showing, Wall};
-use call_history::Book;
-use desk_model::{Booked, DeskCore, Entry, Stated};
+use call_history::Steps;
+use desk_model::{Booked, Entry, Stated};
 use std::marker::Model;
 use std::sync::Wait;
 
 /// A book with the wall of windows that shows its entries. It is not `Drop`: end it by `end`.
-pub struct ShownBook<B: Booked> {
+pub struct ShownBook<B: Steps> {
     pub(crate) book: B,
     pub(crate) wall: Wall,
 }
@@ -26,27 +28,40 @@ pub fn a_desk_has_one_wall()
     ensures { (desk : GateValue) (one other : Name) → IsWallOf desk one → IsWallOf desk other → one ≡ other }
 {}
 
-impl<C: DeskCore> ShownBook<Book<C>> {
-    /// Answers what caller 0 to 63 states, keeps the entry, and shows it. There is room for it.
-    pub(crate) fn step<R: Wait>(&mut self, rt: &R, caller: u8, stated: Stated) -> (Entry, Showing)
+impl<B: Steps> ShownBook<B> {
+    /// Answers what caller 0 to 63 states, keeps the entry, and shows it where it is told as kept; else nothing more is shown. There is room
+    /// for it.
+    pub(crate) fn step<R: Wait>(
+        &mut self,
+        rt: &R,
+        caller: u8,
+        stated: Stated,
+    ) -> (Entry, Option<Showing>)
         requires caller { caller ≤ LAST_CALLER }
         requires room { 0 < self.old.left }
         ensures answer { result.0 ≡ next self.old.history caller stated }
-        ensures kept { self.new.history ≡ with_entry self.old.history result.0 }
+        ensures history { self.new.history ≡ with_entry self.old.history result.0 }
         ensures left { self.new.left + 1 ≡ self.old.left }
         ensures wall { self.new.wall ≡ self.old.wall }
-        ensures note_wall { result.1.note.wall ≡ self.old.wall }
-        ensures note { IsPrefix result.1.note.entries self.new.history.entries }
-        ensures behind { length result.1.note.entries + result.1.behind ≡ length self.new.history.entries }
+        ensures note_wall { IfSome result.1 (λ showing. showing.note.wall ≡ self.old.wall) }
+        ensures note { IfSome result.1 (λ showing. IsPrefix showing.note.entries self.new.history.entries) }
+        ensures behind { IfSome result.1 (λ showing.
+            length showing.note.entries + showing.behind ≡ length self.new.history.entries) }
+        ensures always { IfNone result.1 (B.always ≢ true) }
+
+        // What is shown to be told is kept: the journal up to the entry, with its line. And what was kept stays kept.
+        ensures kept { IfSome result.1 (λ showing. Tells self.new.kept (journal self.new.history)) }
+        ensures grows { Begins self.old.kept self.new.kept }
     {
-        self.book.left();
-        let Ok(entry) = self.book.step(caller, stated) else {
+        let Ok(stepped) = self.book.step(caller, stated) else {
             unreachable!()
         };
         self.book.is_legal();
-        self.book.left();
+        if !stepped.kept {
+            return (stepped.entry, None);
+        }
         let showing = self.wall.show(rt, self.book.entries());
-        (entry, showing)
+        (stepped.entry, Some(showing))
     }
 
     /// What it keeps is a legal history, and its wall is of a desk that was opened so. It does nothing: its clauses are the laws.
@@ -58,18 +73,17 @@ impl<C: DeskCore> ShownBook<Book<C>> {
     }
 
     /// Ends the windows, and gives the book.
-    pub(crate) fn end<R: Wait>(self, rt: &R) -> Book<C>
-        ensures history { ⟦<Book<C> as Booked>⟧.history result ≡ self.history }
-        ensures room { ⟦<Book<C> as Booked>⟧.room result ≡ length self.history.entries + self.left }
+    pub(crate) fn end<R: Wait>(self, rt: &R) -> B
+        ensures history { B.history result ≡ self.history }
+        ensures room { B.room result ≡ length self.history.entries + self.left }
     {
-        self.book.left();
         let ShownBook { book, wall } = self;
         wall.end(rt);
         book
     }
 }
 
-impl<B: Booked> Model for ShownBook<B> {
+impl<B: Steps> Model for ShownBook<B> {
     ghost use Rattle.std.specs.Prelude.{◌≡◌, ◌-◌, length, take};
     ghost use Rattle.desk_shared.specs.Shown.{ShownValue};
 
@@ -78,6 +92,7 @@ impl<B: Booked> Model for ShownBook<B> {
     ghost view = { λ b. record {
       history = B.history b.book;
       left = B.room b.book - length (B.history b.book).entries;
+      kept = B.kept b.book;
       wall = b.wall.wall;
       shown = b.wall.shown;
       added = b.wall.added;
@@ -87,7 +102,7 @@ impl<B: Booked> Model for ShownBook<B> {
         × (b.wall.added ≡ take (length b.wall.added) (B.history b.book).entries) };
 }
 
-impl<B: Booked> Booked for ShownBook<B> {
+impl<B: Steps> Booked for ShownBook<B> {
     ghost use Rattle.std.specs.Prelude.{◌+◌, length};
     ghost use Rattle.std.proofs.Common.{arith};
     ghost use Rattle.desk_shared.specs.Shown.{mark_of};

@@ -1,4 +1,4 @@
-ghost use Rattle.std.specs.Prelude.{◌≡◌, ◌+◌, ◌*◌, ◌<◌, ◌≤◌, [], length, vec_len, IfOk, IfErr, IfSome, IfNone};
+ghost use Rattle.std.specs.Prelude.{◌≡◌, ◌≢◌, ◌+◌, ◌*◌, ◌<◌, ◌≤◌, [], length, vec_len, IfOk, IfErr, IfSome, IfNone, true};
 ghost use Rattle.std.specs.List.{All};
 ghost use Rattle.turn_gate.specs.Told.{told, start_of, IsBookOf};
 ghost use Rattle.turn_gate.specs.Seats.{IsSeatOf, new_seats};
@@ -15,21 +15,21 @@ use crate::shown_book::ShownBook;
 use crate::shown_seats_missing::ShownSeatsMissing;
 use crate::{Receipt, SeatSpent, TooFew};
 use board_window::{Showing, View, Wall};
-use call_history::Book;
+use call_history::Steps;
 use crew_call::{Crew, what_an_outcome_says};
 use desk_base::{Minute, NoMemory, VacNo};
-use desk_model::{Booked, DeskCore, Entry, LAST_CALLER, Opening, Stated};
+use desk_model::{Booked, Entry, LAST_CALLER, Opening, Stated};
 use std::alloc::Global;
 use std::marker::Model;
 use std::sync::Wait;
 use turn_gate::{Gate, Seat, what_one_entry_more_makes_known};
 
 /// A desk that callers share, as `Desk`, with windows on its boards. It is not `Drop`: close it by `close`.
-pub struct ShownDesk<C: DeskCore> {
-    gate: Gate<ShownBook<Book<C>>>,
+pub struct ShownDesk<B: Steps> {
+    gate: Gate<ShownBook<B>>,
 }
 
-impl<C: DeskCore> Model for ShownDesk<C> {
+impl<B: Steps> Model for ShownDesk<B> {
     ghost use Rattle.std.specs.Prelude.{◌≤◌};
     ghost use Rattle.turn_gate.specs.Told.{end};
     ghost use Rattle.turn_gate.specs.Seats.{GateValue};
@@ -42,7 +42,7 @@ impl<C: DeskCore> Model for ShownDesk<C> {
     ghost invariant = { λ desk. end desk.gate.start ≤ desk.gate.start.book.room };
 }
 
-impl<C: DeskCore> ShownDesk<C> {
+impl<B: Steps + Drop> ShownDesk<B> {
     /// A desk over a book that was opened so, with 1 to 63 seats and so many calls of each, for all of which the book has room, and with
     /// a view for each seat; `NoMemory` where there is none for the seats and the windows. The seats have the numbers from 1 on, and
     /// the views stand for the book's entries.
@@ -50,26 +50,25 @@ impl<C: DeskCore> ShownDesk<C> {
         rt: &R,
         alloc: Global,
         opening: &Opening,
-        book: Book<C>,
+        book: B,
         seats: u8,
         quota: u32,
-    ) -> Result<(ShownDesk<C>, Vec<Seat<ShownBook<Book<C>>>>, Vec<View>), NoMemory>
-        requires opening { opening.now ≡ (⟦<Book<C> as Booked>⟧.history book).opening }
+    ) -> Result<(ShownDesk<B>, Vec<Seat<ShownBook<B>>>, Vec<View>), NoMemory>
+        requires opening { opening.now ≡ (B.history book).opening }
         requires some { 1 ≤ seats }
         requires most { seats ≤ LAST_CALLER }
         requires calls { 1 ≤ quota }
-        requires room { length (⟦<Book<C> as Booked>⟧.history book).entries + seats * quota
-            ≤ ⟦<Book<C> as Booked>⟧.room book }
+        requires room { length (B.history book).entries + seats * quota
+            ≤ B.room book }
         ensures start { IfOk result (λ made. made.0.start ≡ start_of seats quota
-            (told ⟦<Book<C> as Booked>⟧.history ⟦<Book<C> as Booked>⟧.room (λ _. made.0.start.book.wall.mark) book)) }
+            (told B.history B.room (λ _. made.0.start.book.wall.mark) book)) }
         ensures seats { IfOk result (λ made. made.1.items ≡ new_seats made.0 1 seats) }
         ensures each { IfOk result (λ made. All (IsSeatOf made.0) made.1.items) }
         ensures count { IfOk result (λ made. vec_len made.2 ≡ seats) }
         ensures views { IfOk result (λ made. All (IsViewOf made.0) made.2.items) }
-        ensures shown { IfOk result (λ made. All (λ view. view.entries ≡ (⟦<Book<C> as Booked>⟧.history book).entries) made.2.items) }
+        ensures shown { IfOk result (λ made. All (λ view. view.entries ≡ (B.history book).entries) made.2.items) }
     {
         book.is_legal();
-        book.left();
         let (wall, views) = Wall::new(rt, alloc, opening, book.entries(), seats)?;
         let shown = ShownBook { book, wall };
         match Gate::new(alloc, shown, seats, quota) {
@@ -82,13 +81,8 @@ impl<C: DeskCore> ShownDesk<C> {
     }
 
     /// Waits for the seat's turn, and answers what is stated, as `Desk::call` does; what is shown then, and how far it is behind, is
-    /// told beside. `SeatSpent` where the seat has made all its calls; then nothing is answered and nothing shown.
-    pub fn call<R: Wait>(
-        &self,
-        rt: &R,
-        seat: Seat<ShownBook<Book<C>>>,
-        stated: Stated,
-    ) -> CalledShown<C>
+    /// told beside where the entry is told as kept. `SeatSpent` where the seat has made all its calls; then nothing is answered and nothing shown.
+    pub fn call<R: Wait>(&self, rt: &R, seat: Seat<ShownBook<B>>, stated: Stated) -> CalledShown<B>
         requires { IsSeatOf self.now seat }
         ensures receipt { IfOk result.outcome
             (λ receipt. Calls self.now.start.book.opening seat result.seat stated receipt) }
@@ -98,7 +92,7 @@ impl<C: DeskCore> ShownDesk<C> {
         ensures seat { IsSeatOf self.now result.seat }
         ensures shown { IfOk result.outcome (λ receipt. IfSome result.showing
             (λ showing. ShowsTo self.now showing.note showing.behind result.seat.known)) }
-        ensures showing { IfNone result.showing (IfOk result.outcome (λ receipt. ⊥)) }
+        ensures showing { IfNone result.showing (IfOk result.outcome (λ receipt. B.always ≢ true)) }
         ensures no_showing { IfErr result.outcome (λ spent. IfSome result.showing (λ showing. ⊥)) }
     {
         what_one_entry_more_makes_known();
@@ -110,7 +104,7 @@ impl<C: DeskCore> ShownDesk<C> {
                 CalledShown {
                     seat: self.gate.give(turn, book),
                     outcome: Ok(Receipt { place, entry }),
-                    showing: Some(showing),
+                    showing,
                 }
             }
             Err(spent) => CalledShown {
@@ -125,25 +119,24 @@ impl<C: DeskCore> ShownDesk<C> {
     fn called<R: Wait>(
         &self,
         rt: &R,
-        seat: Seat<ShownBook<Book<C>>>,
+        seat: Seat<ShownBook<B>>,
         stated: Stated,
-    ) -> (Seat<ShownBook<Book<C>>>, Entry, Showing)
+    ) -> (Seat<ShownBook<B>>, Entry, Option<Showing>)
         requires seat { IsSeatOf self.now seat }
         requires left { seat.calls < self.now.start.quota }
         ensures call { IsCall self.now.start.book.opening seat result.0 result.1 }
         ensures stated { result.1.stated ≡ stated }
         ensures seat { IsSeatOf self.now result.0 }
-        ensures shown { ShowsTo self.now result.2.note result.2.behind result.0.known }
+        ensures shown { IfSome result.2 (λ showing. ShowsTo self.now showing.note showing.behind result.0.known) }
+        ensures showing { IfNone result.2 (B.always ≢ true) }
     {
         let CalledShown {
             seat,
             outcome,
             showing,
         } = self.call(rt, seat, stated);
-        match (outcome, showing) {
-            (Ok(receipt), Some(showing)) => (seat, receipt.entry, showing),
-            _ => unreachable!(),
-        }
+        let Ok(receipt) = outcome else { unreachable!() };
+        (seat, receipt.entry, showing)
     }
 
     /// Calls two vacancies, which may be the same, as one outcome, at a minute of the years 2000 to 2099: the first, then the second; where that is
@@ -153,11 +146,11 @@ impl<C: DeskCore> ShownDesk<C> {
     pub fn crew<R: Wait>(
         &self,
         rt: &R,
-        seat: Seat<ShownBook<Book<C>>>,
+        seat: Seat<ShownBook<B>>,
         minute: Minute,
         first: VacNo,
         second: VacNo,
-    ) -> CrewCalled<C>
+    ) -> CrewCalled<B>
         requires seat { IsSeatOf self.now seat }
         requires minute { IsInYears minute }
         ensures calls { IfOk result.outcome
@@ -169,7 +162,7 @@ impl<C: DeskCore> ShownDesk<C> {
         ensures seat { IsSeatOf self.now result.seat }
         ensures shown { IfOk result.outcome (λ told. IfSome result.showing
             (λ showing. ShowsTo self.now showing.note showing.behind result.seat.known)) }
-        ensures showing { IfNone result.showing (IfOk result.outcome (λ told. ⊥)) }
+        ensures showing { IfNone result.showing (IfOk result.outcome (λ told. B.always ≢ true)) }
         ensures no_showing { IfErr result.outcome (λ few. IfSome result.showing (λ showing. ⊥)) }
     {
         what_an_outcome_says();
@@ -184,11 +177,13 @@ impl<C: DeskCore> ShownDesk<C> {
         }
         let mut seat = seat;
         let mut shown = None;
+        let mut kept = true;
         let mut crew = Crew::new(minute, first, second);
         while let Some(stated) = crew.ask() {
             let (after, entry, showing) = self.called(rt, seat, stated);
             seat = after;
-            shown = Some(showing);
+            kept &= showing.is_some();
+            shown = showing;
             crew.hear(&entry);
         }
         let Some(outcome) = crew.outcome() else {
@@ -198,12 +193,12 @@ impl<C: DeskCore> ShownDesk<C> {
             seat,
             entries: crew.entries(),
             outcome: Ok(outcome),
-            showing: shown,
+            showing: if kept { shown } else { None },
         }
     }
 
     /// How many calls a seat has still to make.
-    pub fn left(&self, seat: &Seat<ShownBook<Book<C>>>) -> u32
+    pub fn left(&self, seat: &Seat<ShownBook<B>>) -> u32
         requires { IsSeatOf self.now seat.now }
         ensures { seat.now.calls + result ≡ self.now.start.quota }
     {
@@ -215,12 +210,12 @@ impl<C: DeskCore> ShownDesk<C> {
     pub fn close<R: Wait>(
         self,
         rt: &R,
-        seats: Vec<Seat<ShownBook<Book<C>>>>,
-    ) -> Result<Book<C>, ShownSeatsMissing<C>>
+        seats: Vec<Seat<ShownBook<B>>>,
+    ) -> Result<B, ShownSeatsMissing<B>>
         requires { All (IsSeatOf self) seats.items }
         ensures book { IfOk result (λ book. IsBookOf self.start
-            (told ⟦<Book<C> as Booked>⟧.history ⟦<Book<C> as Booked>⟧.room (λ _. self.start.book.wall.mark) book)) }
-        ensures known { IfOk result (λ book. All (Knows (⟦<Book<C> as Booked>⟧.history book).entries) seats.items) }
+            (told B.history B.room (λ _. self.start.book.wall.mark) book)) }
+        ensures known { IfOk result (λ book. All (Knows (B.history book).entries) seats.items) }
         ensures all { IfOk result (λ book. self.start.seats ≤ length seats.items) }
         ensures missing { IfErr result (λ missing. (missing.desk ≡ self) × (missing.seats ≡ seats)
             × (length seats.items < self.start.seats)) }

@@ -1,4 +1,4 @@
-use Rattle.std.specs.Prelude.{◌≡◌, ℕ, ◌+◌, ◌-◌, ◌<◌, ◌≤◌, List, length, IfSome, IfNone}
+use Rattle.std.specs.Prelude.{◌≡◌, ℕ, ◌+◌, ◌-◌, ◌≤◌, Bool, true, length, IfSome, IfNone}
 use Rattle.turn_gate.specs.Seats.{GateValue, SeatValue, IsSeatOf}
 use Rattle.board_window.specs.declared.showing.Showing.{Showing}
 use Rattle.std.specs.declared.option.Option.{Option}
@@ -7,8 +7,8 @@ use Rattle.desk_shared.specs.Crews.{MakesCalls}
 use Rattle.desk_shared.specs.Shown.{ShowsTo}
 use Rattle.desk_shared.proofs.shown_desk.ShownDesk.crew.Given as goal
 
--- the calls so far are those of the crew call, and what is shown is up to the last of them
-pub record GoesOn (desk : GateValue) (seat now : SeatValue) (t v w : ℕ) (crew : CrewValue) (shown : Option Showing) : Type 0 where
+-- the calls so far are those of the crew call, and what is shown is up to the last of them; over a book that tells each entry as kept all are
+pub record GoesOn (always : Bool) (desk : GateValue) (seat now : SeatValue) (t v w : ℕ) (crew : CrewValue) (shown : Option Showing) (kept : Bool) : Type 0 where
   pub sits : IsSeatOf desk now
   pub minute : crew.minute ≡ t
   pub first : crew.first ≡ v
@@ -16,10 +16,11 @@ pub record GoesOn (desk : GateValue) (seat now : SeatValue) (t v w : ℕ) (crew 
   pub made : MakesCalls desk.start.book.opening seat crew.heard now
   pub calls : now.calls ≡ seat.calls + length crew.heard
   pub shows : IfSome shown (λ showing. ShowsTo desk showing.note showing.behind now.known)
-  pub begun : IfNone shown (length crew.heard ≡ 0)
+  pub begun : always ≡ true → IfNone shown (length crew.heard ≡ 0)
+  pub all : always ≡ true → kept ≡ true
 
 abbrev pub invariant-loop-stated : goal.invariant-loop-stated
-invariant-loop-stated g l = GoesOn l.self l.fn.seat l.seat l.fn.minute l.fn.first l.fn.second l.crew l.shown × (l.fn.seat.calls + 3 ≤ l.self.start.quota)
+invariant-loop-stated g l = GoesOn g.B.Steps.always l.self l.fn.seat l.seat l.fn.minute l.fn.first l.fn.second l.crew l.shown l.kept × (l.fn.seat.calls + 3 ≤ l.self.start.quota)
 
 abbrev pub decreases-loop-stated : goal.decreases-loop-stated
 decreases-loop-stated g l = 3 - length l.crew.heard
