@@ -38,8 +38,8 @@ use Rattle.serve_desk.specs.Follows.{Puts, Follows, it_is_put, it_is_not_put, it
 use Rattle.serve_desk.specs.Looks.{look_text, behind}
 use Rattle.serve_desk.specs.Texts.{too_many, too_long, no_memory, malformed, spent}
 use Rattle.serve_desk.specs.Told.{with_all, LineValue}
-use Rattle.serve_desk.specs.WatchAnswers.{KnowsByCalls, by_calls, by_calls_behind, by_a_look, PutsAllOn, RepliesWatched, AnswersWatched}
-use Rattle.serve_desk.specs.WatchFollows.{Looked, Called, AsksNoRequest, PutsAll, FollowsWatched, as_it_is_served, a_call_behind, a_look, a_look_that_is_not_put, too_few_calls_left, a_crew_call, a_crew_call_behind, no_memory_for_a_request, shown, not_shown}
+use Rattle.serve_desk.specs.WatchAnswers.{KnowsByCalls, by_calls, by_calls_behind, by_a_look, PutsAllOn, PutsFault, RepliesWatched, AnswersWatched}
+use Rattle.serve_desk.specs.WatchFollows.{Looked, Called, AsksNoRequest, PutsAll, FollowsWatched, as_it_is_served, a_call_behind, a_look, a_look_that_is_not_put, too_few_calls_left, a_crew_call, a_crew_call_behind, no_memory_for_a_request, a_call_not_kept, a_crew_call_not_kept, TellsFault, shown, not_shown}
 use Rattle.serve_desk.proofs.AnswerLemmas.{line-said, follows-too_long, follows-malformed, follows-spent, follows-call}
 use Rattle.serve_desk.proofs.SeatLemmas.{Made-none, Made-one, Made-crew}
 use Rattle.serve_desk.proofs.SightLemmas.{prefix-self}
@@ -329,6 +329,29 @@ RepliesWatched-called mine o desk heard left before now s seat later view seen n
       sight = by_calls_behind (receipt.entry ∷ []) more (one-call mine o seat later s receipt call);
     }
 
+unkept-follows : (heard left : ℕ) (gave : Given) (e : EntryValue) (texts : List (List ℕ)) → heard < LINES_PER_CALLER → 0 < left → ReadsRequest gave (request.Said (said.Command e.stated))
+    → TellsFault texts → FollowsWatched heard left gave (e ∷ []) texts (not_shown (e ∷ [])) (Some why.JournalFault)
+unkept-follows heard left (GaveLine bytes) e texts few some reads tells = a_call_not_kept bytes e texts few reads.0 reads.1 some tells
+unkept-follows heard left GaveTooLong e texts few some reads tells = absurd (cc)
+unkept-follows heard left GaveEnd e texts few some reads tells = absurd (cc)
+unkept-follows heard left GaveFailed e texts few some reads tells = absurd (cc)
+
+-- a call whose entry isn't kept
+pub RepliesWatched-unkept : ((entries : List EntryValue) (e : EntryValue) (number : ℕ) → e.caller ≡ number → own (entries ++ e ∷ []) number ≡ own entries number ++ e ∷ [])
+    → (o : OpeningValue) (heard left : ℕ) (before now : Option (List LineCall)) (s : StatedValue) (seat later : SeatValue) (view : FrontValue) (receipt : Receipt)
+    → heard < LINES_PER_CALLER → 0 < left → Calls o seat later s receipt → PutsFault before now
+    → RepliesWatched o heard left before now (request.Said (said.Command s)) seat later view view (Some why.JournalFault)
+RepliesWatched-unkept mine o heard left before now s seat later view receipt few some call put =
+    let stated : receipt.entry.stated ≡ s = (next-is (history_of o call.before) seat.number s receipt.entry call.entry).1 in record {
+      entries = receipt.entry ∷ [];
+      texts = put.texts;
+      acts = not_shown (receipt.entry ∷ []);
+      follows = λ gave reads. unkept-follows heard left gave receipt.entry put.texts few some (subst (λ (x : StatedValue). ReadsRequest gave (request.Said (said.Command x))) (sym stated) reads) put.tells;
+      told = put.told;
+      made = Made-one o seat later s receipt call;
+      sight = by_calls_behind (receipt.entry ∷ []) (prefix-self view.entries) (one-call mine o seat later s receipt call);
+    }
+
 -- ---- crew calls
 
 few-follows : (heard left t v w : ℕ) (gave : Given) (texts : List (List ℕ)) (ends : Option Why) → heard < LINES_PER_CALLER → left < 3 → ReadsRequest gave (request.Crew t v w) → Puts (too_few left) None texts ends
@@ -385,6 +408,28 @@ RepliesWatched-crew mine o desk heard left t v w before now seat later view seen
       made = Made-crew o seat later t v w es told crew;
       sight = by_calls_behind es more (knows-by-calls mine o seat later es crew.each);
     }
+
+crew-unkept-follows : (heard left t v w : ℕ) (gave : Given) (es : List EntryValue) (told : CrewOutcome) (texts : List (List ℕ)) → heard < LINES_PER_CALLER → 3 ≤ left → CrewCall t v w es told
+    → ReadsRequest gave (request.Crew t v w) → TellsFault texts → FollowsWatched heard left gave es texts (not_shown es) (Some why.JournalFault)
+crew-unkept-follows heard left t v w (GaveLine bytes) es told texts few enough call reads tells = a_crew_call_not_kept bytes t v w es told texts few reads enough call tells
+crew-unkept-follows heard left t v w GaveTooLong es told texts few enough call reads tells = absurd (cc)
+crew-unkept-follows heard left t v w GaveEnd es told texts few enough call reads tells = absurd (cc)
+crew-unkept-follows heard left t v w GaveFailed es told texts few enough call reads tells = absurd (cc)
+
+-- a crew call of which an entry isn't kept
+pub RepliesWatched-crew_unkept : ((entries : List EntryValue) (e : EntryValue) (number : ℕ) → e.caller ≡ number → own (entries ++ e ∷ []) number ≡ own entries number ++ e ∷ [])
+    → (o : OpeningValue) (heard left t v w : ℕ) (before now : Option (List LineCall)) (seat later : SeatValue) (view : FrontValue) (es : List EntryValue) (told : CrewOutcome)
+    → heard < LINES_PER_CALLER → 3 ≤ left → CallsCrew o seat later t v w es told → PutsFault before now
+    → RepliesWatched o heard left before now (request.Crew t v w) seat later view view (Some why.JournalFault)
+RepliesWatched-crew_unkept mine o heard left t v w before now seat later view es told few enough crew put = record {
+  entries = es;
+  texts = put.texts;
+  acts = not_shown es;
+  follows = λ gave reads. crew-unkept-follows heard left t v w gave es told put.texts few enough crew.call reads put.tells;
+  told = put.told;
+  made = Made-crew o seat later t v w es told crew;
+  sight = by_calls_behind es (prefix-self view.entries) (knows-by-calls mine o seat later es crew.each);
+}
 
 -- ---- the line was asked, and then replied to
 

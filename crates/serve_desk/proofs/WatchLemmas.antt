@@ -16,7 +16,7 @@ use Rattle.serve_desk.specs.Session.{lines_in, asked_then_put}
 use Rattle.serve_desk.specs.Seats.{Made}
 use Rattle.serve_desk.specs.Told.{with_all, LineValue}
 use Rattle.serve_desk.specs.WatchAnswers.{Sight, AnswersWatched}
-use Rattle.serve_desk.specs.WatchFollows.{Act, FollowsWatched, as_it_is_served, a_call_behind, a_look, a_look_that_is_not_put, too_few_calls_left, a_crew_call, a_crew_call_behind, no_memory_for_a_request}
+use Rattle.serve_desk.specs.WatchFollows.{Act, FollowsWatched, as_it_is_served, a_call_behind, a_look, a_look_that_is_not_put, too_few_calls_left, a_crew_call, a_crew_call_behind, no_memory_for_a_request, a_call_not_kept, a_crew_call_not_kept}
 use Rattle.serve_desk.specs.WatchSession.{GoesOnWatched, it_begins, it_goes_on, it_ends}
 use Rattle.serve_desk.specs.Watches.{Watches}
 use Rattle.serve_desk.proofs.SeatLemmas.{Made-none, Made-then}
@@ -35,6 +35,8 @@ goes-on-watched heard left _ _ _ _ _ (too_few_calls_left bytes t v w texts ends 
 goes-on-watched heard left _ _ _ _ _ (a_crew_call bytes t v w entries told texts ends few is enough call puts) on = record { few = few; line = refl }
 goes-on-watched heard left _ _ _ _ _ (a_crew_call_behind bytes t v w entries told n texts ends few is enough call behind puts) on = record { few = few; line = refl }
 goes-on-watched heard left _ _ _ _ _ (no_memory_for_a_request bytes texts ends few puts) on = record { few = few; line = refl }
+goes-on-watched heard left _ _ _ _ _ (a_call_not_kept bytes e texts few no_look states some tells) on = record { few = few; line = refl }
+goes-on-watched heard left _ _ _ _ _ (a_crew_call_not_kept bytes t v w entries told texts few is enough call tells) on = record { few = few; line = refl }
 
 -- a session so far: the line gave so many lines of its caller
 pub record WatchedSoFar (o : OpeningValue) (left heard made_with : ℕ) (line now : LineValue) (seat after : SeatValue) (view seen : FrontValue) : Type 0 where

@@ -1,5 +1,5 @@
 -- All lines served at one desk with looks.
-use Rattle.std.proofs.Common.{◌≡◌, ℕ, ◌+◌, ◌<◌, ◌≤◌, List, length, get_or, take, map, Some, IsSome, refl, sym, ap, ◌∙◌, subst, arith}
+use Rattle.std.proofs.Common.{◌≡◌, Bool, ℕ, ◌+◌, ◌<◌, ◌≤◌, List, length, get_or, take, map, Some, IsSome, refl, sym, ap, ◌∙◌, subst, arith}
 use Rattle.std.specs.declared.option.Option.{Option}
 use Rattle.std.specs.List.{All}
 use Rattle.std.proofs.lemmas.List.{get_or-map, length-map}
@@ -51,11 +51,11 @@ Sees-all o made_with begun here seen known all number mine acts more made from s
 }
 
 -- one line, at the seat of its number
-pub AttendsOne-watched : {P : Type 0} (seat : P → Option SeatValue) (view : P → Option FrontValue) (line : P → LineValue) (gate : GateValue) (posts later : List P) (book : Told) → (of_gate : IsBookOf gate.start book)
+pub AttendsOne-watched : {P : Type 0} (always : Bool) (seat : P → Option SeatValue) (view : P → Option FrontValue) (line : P → LineValue) (gate : GateValue) (posts later : List P) (book : Told) → (of_gate : IsBookOf gate.start book)
     → ((i : ℕ) (d : P) → i < length posts
-    → AttendsWatched gate (seat (get_or posts i d)) (seat (get_or later i d)) (view (get_or posts i d)) (view (get_or later i d)) (line (get_or posts i d)) (line (get_or later i d)))
-    → AttendsOne seat line gate posts later book of_gate.later (IsWatched gate.start.quota gate.start.book.opening (length gate.start.book.entries) book.entries)
-AttendsOne-watched seat view line gate posts later book of_gate attends i d known within had has knows =
+    → AttendsWatched always gate (seat (get_or posts i d)) (seat (get_or later i d)) (view (get_or posts i d)) (view (get_or later i d)) (line (get_or posts i d)) (line (get_or later i d)))
+    → AttendsOne seat line gate posts later book of_gate.later (IsWatched always gate.start.quota gate.start.book.opening (length gate.start.book.entries) book.entries)
+AttendsOne-watched always seat view line gate posts later book of_gate attends i d known within had has knows =
     let a = attends i d within in
     let base = gate.start.book.entries in
     let all = book.entries in
@@ -84,6 +84,7 @@ AttendsOne-watched seat view line gate posts later book of_gate attends i d know
       fault = a.fault;
       no_fault = a.no_fault;
       faults = a.faults;
+      kept = a.kept;
     }
 
 -- posts whose seats are a new desk's, and whose views are of it, are manned
@@ -114,11 +115,11 @@ All-manned posts viewed seats views seat line view gate many taken had shown new
     }
 
 -- after their sessions all posts have a view, and a seat of the desk
-pub All-viewed : {P Q : Type 0} (posts later : List P) (viewed : List Q) (seat : P → Option SeatValue) (line : P → Q) (view : Q → Option FrontValue) (value : P → LineValue) (gate : GateValue)
+pub All-viewed : {P Q : Type 0} (always : Bool) (posts later : List P) (viewed : List Q) (seat : P → Option SeatValue) (line : P → Q) (view : Q → Option FrontValue) (value : P → LineValue) (gate : GateValue)
     → ((i : ℕ) (d : P) → i < length posts
-    → AttendsWatched gate (seat (get_or posts i d)) (seat (get_or later i d)) (view (line (get_or posts i d))) (view (line (get_or later i d))) (value (get_or posts i d)) (value (get_or later i d)))
+    → AttendsWatched always gate (seat (get_or posts i d)) (seat (get_or later i d)) (view (line (get_or posts i d))) (view (line (get_or later i d))) (value (get_or posts i d)) (value (get_or later i d)))
     → length later ≡ length posts → viewed ≡ map line later → All (λ q. IsSome (view q)) viewed
-All-viewed posts later viewed seat line view value gate attends as_many left k e within =
+All-viewed always posts later viewed seat line view value gate attends as_many left k e within =
     let long : length viewed ≡ length later = ap length left ∙ length-map later line in
     let here : k < length posts = omega arith in
     let there : k < length later = omega arith in
@@ -127,11 +128,11 @@ All-viewed posts later viewed seat line view value gate attends as_many left k e
     let at : get_or viewed k e ≡ line (get_or later k d) = ap (λ l. get_or l k e) left ∙ get_or-map line later k d e there in
     subst (λ o. IsSome o) (sym (ap view at ∙ a.views)) refl
 
-pub All-seated-still : {P : Type 0} (posts later : List P) (seats : List SeatValue) (seat : P → Option SeatValue) (view : P → Option FrontValue) (value : P → LineValue) (gate : GateValue)
+pub All-seated-still : {P : Type 0} (always : Bool) (posts later : List P) (seats : List SeatValue) (seat : P → Option SeatValue) (view : P → Option FrontValue) (value : P → LineValue) (gate : GateValue)
     → ((i : ℕ) (d : P) → i < length posts
-    → AttendsWatched gate (seat (get_or posts i d)) (seat (get_or later i d)) (view (get_or posts i d)) (view (get_or later i d)) (value (get_or posts i d)) (value (get_or later i d)))
+    → AttendsWatched always gate (seat (get_or posts i d)) (seat (get_or later i d)) (view (get_or posts i d)) (view (get_or later i d)) (value (get_or posts i d)) (value (get_or later i d)))
     → length later ≡ length posts → map (λ s. Some s) seats ≡ map seat later → All (IsSeatOf gate) seats
-All-seated-still posts later seats seat view value gate attends as_many back k e within =
+All-seated-still always posts later seats seat view value gate attends as_many back k e within =
     let long : length seats ≡ length later = sym (length-map seats (λ s. Some s)) ∙ (ap length back ∙ length-map later seat) in
     let here : k < length posts = omega arith in
     let there : k < length later = omega arith in
@@ -142,7 +143,7 @@ All-seated-still posts later seats seat view value gate attends as_many back k e
     subst (λ s. IsSeatOf gate s) is a.of_desk.sits
 
 -- at a desk that began so
-pub AreWatched-began : (start begun : Start) (all : List EntryValue) (lines later : List LineValue) → start ≡ begun
-    → AreAllServed (IsWatched start.quota start.book.opening (length start.book.entries) all) start.book.entries all lines later
-    → AreAllServed (IsWatched begun.quota begun.book.opening (length begun.book.entries) all) begun.book.entries all lines later
-AreWatched-began start begun all lines later is served = subst (λ k. AreAllServed (IsWatched k.quota k.book.opening (length k.book.entries) all) k.book.entries all lines later) is served
+pub AreWatched-began : (always : Bool) (start begun : Start) (all : List EntryValue) (lines later : List LineValue) → start ≡ begun
+    → AreAllServed (IsWatched always start.quota start.book.opening (length start.book.entries) all) start.book.entries all lines later
+    → AreAllServed (IsWatched always begun.quota begun.book.opening (length begun.book.entries) all) begun.book.entries all lines later
+AreWatched-began always start begun all lines later is served = subst (λ k. AreAllServed (IsWatched always k.quota k.book.opening (length k.book.entries) all) k.book.entries all lines later) is served

@@ -21,6 +21,10 @@ no_memory = with_feed (codes "no memory")
 abbrev pub malformed : ℕ → List ℕ
 malformed field = with_feed (codes "malformed " ++ decimal field)
 
+-- it gave a command, and its entry could not be kept
+abbrev pub journal_fault : List ℕ
+journal_fault = with_feed (codes "journal fault")
+
 -- it gave a command, and the seat has no call left
 abbrev pub spent : List ℕ
 spent = with_feed (codes "spent")

@@ -19,7 +19,7 @@ use Rattle.serve_desk.specs.declared.why.Why.{Why}
 use Rattle.serve_desk.specs.Seats.{Made}
 use Rattle.serve_desk.specs.Session.{asked_then_put}
 use Rattle.serve_desk.specs.Told.{with_all, LineValue}
-use Rattle.serve_desk.specs.WatchFollows.{Act, Looked, PutsAll, FollowsWatched, shown, not_shown}
+use Rattle.serve_desk.specs.WatchFollows.{Act, Looked, PutsAll, FollowsWatched, shown, not_shown, TellsFault}
 
 -- the seat and the view are of this desk, and know what its book began with
 pub record IsCallerOf (desk : GateValue) (seat : SeatValue) (view : FrontValue) : Type 0 where
@@ -47,6 +47,12 @@ pub data Sight (o : OpeningValue) (number : ℕ) (seen later known now : List En
 pub record PutsAllOn (all : List (List ℕ)) (before now : Option (List LineCall)) (ends : Option Why) : Type 0 where
   pub texts : List (List ℕ)
   pub puts : PutsAll all texts ends
+  pub told : now ≡ with_all before (map PutText texts)
+
+-- a line was told that the journal had a fault, where it took that
+pub record PutsFault (before now : Option (List LineCall)) : Type 0 where
+  pub texts : List (List ℕ)
+  pub tells : TellsFault texts
   pub told : now ≡ with_all before (map PutText texts)
 
 -- what was said of an answer of the line was replied to: whatever it gave that is said so, this follows

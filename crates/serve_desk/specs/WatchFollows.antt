@@ -1,5 +1,5 @@
 -- What follows each answer of a line where looks at boards and crew calls are heard.
-use Rattle.std.specs.Prelude.{ℕ, ◌<◌, ◌≤◌, Bool, true, false, ⊤, List, [], ◌∷◌, ◌++◌, map, None, Some}
+use Rattle.std.specs.Prelude.{◌≡◌, ◌⊎◌, ℕ, ◌<◌, ◌≤◌, Bool, true, false, ⊤, List, [], ◌∷◌, ◌++◌, map, None, Some}
 use Rattle.std.specs.declared.option.Option.{Option}
 use Rattle.board_window.specs.declared.spot.Spot.{Spot}
 use Rattle.caller_lines.specs.CrewLines.{IsCrewLine}
@@ -17,7 +17,7 @@ use Rattle.serve_desk.specs.declared.why.Why.TheVariants as why
 use Rattle.serve_desk.specs.Crews.{crew_texts, too_few}
 use Rattle.serve_desk.specs.Follows.{Puts, Follows}
 use Rattle.serve_desk.specs.Looks.{look_text, behind}
-use Rattle.serve_desk.specs.Texts.{no_memory}
+use Rattle.serve_desk.specs.Texts.{no_memory, journal_fault}
 
 -- what an answer came to: a look, whose text was put; or a call, whose entry is shown, or isn't
 pub data Act : Type 0 where
@@ -43,9 +43,14 @@ pub data PutsAll : List (List ℕ) → List (List ℕ) → Option Why → Type 0
   all_are_put : (texts : List (List ℕ)) → PutsAll texts texts None
   one_is_not_put : (before : List (List ℕ)) (text : List ℕ) (behind : List (List ℕ)) → PutsAll (before ++ text ∷ behind) before (Some why.LineFault)
 
+-- it is told that the journal had a fault, or that isn't taken either
+abbrev pub TellsFault : List (List ℕ) → Type 0
+TellsFault texts = (texts ≡ []) ⊎ (texts ≡ journal_fault ∷ [])
+
 -- what follows an answer of a line that gave so many lines before it, at a seat with so many calls left: what follows where lines are
 -- served without looks, and each entry is shown; or a call whose entry isn't shown yet; or a look, whose text is put without an entry; or a
--- crew call, whose entries are shown or aren't yet, or for which too few calls are left; or `no memory`, in place of what follows any line
+-- crew call, whose entries are shown or aren't yet, or for which too few calls are left; or `no memory`, in place of what follows any line; or
+-- a call or a crew call of which an entry isn't kept: then no entry's line is put, and the session ends
 pub data FollowsWatched (heard left : ℕ) : Given → List EntryValue → List (List ℕ) → List Act → Option Why → Type 0 where
   as_it_is_served : (gave : Given) (entries : List EntryValue) (texts : List (List ℕ)) (ends : Option Why) → AsksNoRequest heard gave
       → Follows heard left gave entries texts ends → FollowsWatched heard left gave entries texts (shown entries) ends
@@ -66,3 +71,7 @@ pub data FollowsWatched (heard left : ℕ) : Given → List EntryValue → List 
       → FollowsWatched heard left (GaveLine bytes) entries texts (not_shown entries) ends
   no_memory_for_a_request : (bytes : List ℕ) (texts : List (List ℕ)) (ends : Option Why) → heard < LINES_PER_CALLER
       → Puts no_memory None texts ends → FollowsWatched heard left (GaveLine bytes) [] texts [] ends
+  a_call_not_kept : (bytes : List ℕ) (e : EntryValue) (texts : List (List ℕ)) → heard < LINES_PER_CALLER → IsNoRequest bytes → IsCommandLine bytes e.stated → 0 < left
+      → TellsFault texts → FollowsWatched heard left (GaveLine bytes) (e ∷ []) texts (not_shown (e ∷ [])) (Some why.JournalFault)
+  a_crew_call_not_kept : (bytes : List ℕ) (t v w : ℕ) (entries : List EntryValue) (told : CrewOutcome) (texts : List (List ℕ)) → heard < LINES_PER_CALLER → IsCrewLine bytes t v w
+      → 3 ≤ left → CrewCall t v w entries told → TellsFault texts → FollowsWatched heard left (GaveLine bytes) entries texts (not_shown entries) (Some why.JournalFault)

@@ -1,5 +1,5 @@
 -- What serving all lines at one desk with looks makes of them.
-use Rattle.std.specs.Prelude.{◌≡◌, ◌≢◌, ℕ, ◌-◌, ◌≤◌, Some, List, length, take}
+use Rattle.std.specs.Prelude.{◌≡◌, ◌≢◌, Bool, true, ℕ, ◌-◌, ◌≤◌, Some, List, length, take}
 use Rattle.std.specs.declared.option.Option.{Option}
 use Rattle.board_window.specs.Walls.{FrontValue}
 use Rattle.caller_lines.specs.LineCalls.{LineCall}
@@ -10,7 +10,7 @@ use Rattle.turn_gate.specs.Seats.{GateValue, SeatValue}
 use Rattle.turn_gate.specs.Told.{own}
 use Rattle.serve_desk.specs.declared.limits.TheConstants.{CALLS_PER_LINE}
 use Rattle.serve_desk.specs.declared.why.Why.{Why}
-use Rattle.serve_desk.specs.declared.why.Why.TheVariants.{LineFault}
+use Rattle.serve_desk.specs.declared.why.Why.TheVariants.{LineFault, JournalFault}
 use Rattle.serve_desk.specs.Sees.{Sees}
 use Rattle.serve_desk.specs.Serve.{OneOfAll, ServesAllOfDay}
 use Rattle.serve_desk.specs.Told.{with_all, LineValue}
@@ -21,8 +21,8 @@ use Rattle.serve_desk.specs.WatchSession.{SessionWatched}
 
 -- a line after its session with looks, of which these entries came, at a seat with so many calls of a desk whose entries are all these, the
 -- first of which, so many, its windows were made with. There is a history of the desk, `seen`, by which its looks are right. It ended with a
--- fault only where the line's faults rose, which never fall
-pub record IsWatched (left : ℕ) (o : OpeningValue) (made_with : ℕ) (all : List EntryValue) (number : ℕ) (entries : List EntryValue) (line later : LineValue) : Type 0 where
+-- fault of the line only where the line's faults rose, which never fall; and with one of the journal only where that isn't always kept
+pub record IsWatched (always : Bool) (left : ℕ) (o : OpeningValue) (made_with : ℕ) (all : List EntryValue) (number : ℕ) (entries : List EntryValue) (line later : LineValue) : Type 0 where
   pub calls : List LineCall
   pub acts : List Act
   pub why : Why
@@ -31,12 +31,17 @@ pub record IsWatched (left : ℕ) (o : OpeningValue) (made_with : ℕ) (all : Li
   pub seen : List EntryValue
   pub sees : Sees o made_with (take made_with all) seen all number (own (take made_with all) number) acts
   pub fault : why ≡ LineFault → Rose line.faults later.faults
-  pub no_fault : why ≢ LineFault → later.faults ≡ line.faults
+  pub no_fault : why ≢ LineFault → why ≢ JournalFault → later.faults ≡ line.faults
   pub faults : line.faults ≤ later.faults
+  pub kept : always ≡ true → why ≢ JournalFault
 
--- of a line that is served with 5,000 calls, at windows that were made with so many entries
+-- of a line that is served with so many calls, at windows that were made with so many entries, over a book that tells each entry as kept or doesn't
+abbrev pub watched_with : Bool → ℕ → OpeningValue → ℕ → OneOfAll
+watched_with always left o made_with all number entries line later = IsWatched always left o made_with all number entries line later
+
+-- of one that is served with 5,000 calls over a book in memory
 abbrev pub watched : OpeningValue → ℕ → OneOfAll
-watched o made_with all number entries line later = IsWatched CALLS_PER_LINE o made_with all number entries line later
+watched = watched_with true CALLS_PER_LINE
 
 -- lines were served with looks behind a day file, as `serve` serves them without
 abbrev pub WatchesDay : Option (List ℕ) → Option (List ℕ) → List LineValue → List LineValue → (List ℕ → Type 0) → Type 0
@@ -51,7 +56,7 @@ pub record IsManned (desk : GateValue) (seat : Option SeatValue) (view : Option 
   pub caller : IsCallerOf desk at_seat with_view
 
 -- a post's line was served at its seat with its view, at a desk of this gate
-pub record AttendsWatched (desk : GateValue) (seat after : Option SeatValue) (view seen : Option FrontValue) (line later : LineValue) : Type 0 where
+pub record AttendsWatched (always : Bool) (desk : GateValue) (seat after : Option SeatValue) (view seen : Option FrontValue) (line later : LineValue) : Type 0 where
   pub before : SeatValue
   pub behind : SeatValue
   pub saw : FrontValue
@@ -66,5 +71,6 @@ pub record AttendsWatched (desk : GateValue) (seat after : Option SeatValue) (vi
   pub watches : Watches desk.start.book.opening (desk.start.quota - before.calls) (length desk.start.book.entries) line later before behind saw sees why taken
   pub of_desk : IsCallerOf desk behind sees
   pub fault : why ≡ LineFault → Rose line.faults later.faults
-  pub no_fault : why ≢ LineFault → later.faults ≡ line.faults
+  pub no_fault : why ≢ LineFault → why ≢ JournalFault → later.faults ≡ line.faults
   pub faults : line.faults ≤ later.faults
+  pub kept : always ≡ true → why ≢ JournalFault

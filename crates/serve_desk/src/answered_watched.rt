@@ -1,13 +1,12 @@
 use crate::Why;
-use call_history::Book;
-use desk_model::DeskCore;
+use call_history::Steps;
 use desk_shared::ShownBook;
 use turn_gate::Seat;
 
 /// A seat after one answer of its line, where looks are heard.
-pub(crate) struct AnsweredWatched<C: DeskCore> {
+pub(crate) struct AnsweredWatched<B: Steps> {
     /// The seat.
-    pub seat: Seat<ShownBook<Book<C>>>,
+    pub seat: Seat<ShownBook<B>>,
     /// Why the session ends, where it does.
     pub ends: Option<Why>,
 }

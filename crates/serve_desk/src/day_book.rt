@@ -11,11 +11,7 @@ use fast_core::FastCore;
 use std::alloc::Global;
 
 /// The book of a desk that has answered the day file's commands as caller 0, with room for all calls of so many lines.
-pub(crate) fn book_of_day(
-    alloc: Global,
-    day: &DayFile,
-    lines: usize,
-) -> Result<Book<FastCore>, NoMemory>
+pub fn book_of_day(alloc: Global, day: &DayFile, lines: usize) -> Result<Book<FastCore>, NoMemory>
     requires most { lines ≤ LAST_CALLER }
     requires few { vec_len day.now.commands < RECORD_LIMIT }
     ensures history { IfOk result (λ book.

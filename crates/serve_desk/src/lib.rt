@@ -25,6 +25,7 @@ mod watch_line;
 mod why;
 
 pub use all_lines::serve_lines;
+pub use day_book::book_of_day;
 pub use ended::Ended;
 pub use ended_watched::EndedWatched;
 pub use limits::{CALLS_PER_LINE, LINES_PER_CALLER, the_numbers_of_a_session};

@@ -5,9 +5,10 @@ ghost use Rattle.desk_io.specs.Faults.{Rose};
 ghost use Rattle.caller_lines.specs.LineCalls.{PutText};
 ghost use Rattle.caller_lines.specs.Told.{with_last};
 ghost use Rattle.serve_desk.specs.Answers.{PutsOn};
-ghost use Rattle.serve_desk.specs.WatchAnswers.{PutsAllOn};
+ghost use Rattle.serve_desk.specs.WatchAnswers.{PutsAllOn, PutsFault};
 
 use crate::Why;
+use crate::texts::JOURNAL_FAULT;
 use caller_lines::CallerLine;
 
 /// Puts a text on the line, behind which the session ends or goes on as told. Where it ends, all that was put is written. Where the line
@@ -23,6 +24,7 @@ pub(crate) fn put_on(
     ensures cause { result ≡ Some Why.LineFault → Rose (faults line.old) (faults line.new) }
     ensures no_fault { result ≢ Some Why.LineFault → faults line.new ≡ faults line.old }
     ensures settled { result ≢ None → result ≢ Some Why.LineFault → settled line.new }
+    ensures kept { then ≢ Some Why.JournalFault → result ≢ Some Why.JournalFault }
 {
     if !put(line, text) {
         return Some(Why::LineFault);
@@ -51,11 +53,22 @@ pub(crate) fn put_both(
     ensures cause { result ≡ Some Why.LineFault → Rose (faults line.old) (faults line.new) }
     ensures no_fault { result ≢ Some Why.LineFault → faults line.new ≡ faults line.old }
     ensures settled { result ≢ None → result ≢ Some Why.LineFault → settled line.new }
+    ensures kept { result ≢ Some Why.JournalFault }
 {
     let ends = put_on(line, first, None);
     match ends {
         None => put_on(line, second, None),
         Some(_) => ends,
+    }
+}
+
+/// Tells the line that the journal had a fault, where it takes that: the session ends either way.
+pub(crate) fn put_journal_fault(line: &mut Box<dyn CallerLine + Send>)
+    ensures puts { PutsFault (calls line.old) (calls line.new) }
+    ensures faults_grow { faults line.old ≤ faults line.new }
+{
+    if put(line, JOURNAL_FAULT) {
+        let _written = finish(line);
     }
 }
 

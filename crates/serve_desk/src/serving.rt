@@ -205,6 +205,6 @@ fn serve_all<C: DeskCore + Send, R: Threads + Wait + Sync>(
 {
     match sessions {
         Sessions::WithoutLooks => serve_lines(rt, alloc, book, lines),
-        Sessions::WithLooks => watch_lines(rt, alloc, opening, book, lines),
+        Sessions::WithLooks => watch_lines(rt, alloc, opening, book, CALLS_PER_LINE, lines),
     }
 }

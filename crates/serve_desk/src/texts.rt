@@ -14,6 +14,9 @@ pub const TOO_LONG: &[u8] = b"too long\n";
 /// Memory was wanting for the reading of a line.
 pub const NO_MEMORY: &[u8] = b"no memory\n";
 
+/// The line gave a command, and its entry could not be kept.
+pub const JOURNAL_FAULT: &[u8] = b"journal fault\n";
+
 /// The line gave a command, and its seat has no call left.
 pub const SPENT: &[u8] = b"spent\n";
 

@@ -1,20 +1,19 @@
 //! All lines served at one desk with looks.
-ghost use Rattle.std.specs.Prelude.{◌≡◌, ◌+◌, ◌*◌, ◌<◌, ◌≤◌, ℕ, length, vec_len, None, Some, IfOk, IsErr, IsSome, slice_index_or};
+ghost use Rattle.std.specs.Prelude.{true, ◌≡◌, ◌+◌, ◌*◌, ◌<◌, ◌≤◌, ℕ, length, vec_len, None, Some, IfOk, IsErr, IsSome, slice_index_or};
 ghost use Rattle.std.specs.List.{All};
 ghost use Rattle.desk_model.specs.histories.Legal.{IsLegal};
 ghost use Rattle.serve_desk.specs.AllLines.{AreAllServed};
 ghost use Rattle.serve_desk.specs.Told.{line_of, lines_of};
-ghost use Rattle.serve_desk.specs.WatchLines.{IsManned, AttendsWatched, watched};
+ghost use Rattle.serve_desk.specs.WatchLines.{IsManned, AttendsWatched, watched_with};
 
-use crate::CALLS_PER_LINE;
 use crate::ended_watched::EndedWatched;
 use crate::post::{Post, leave_posts, seat_lines};
 use crate::watch_line::session_watched;
 use board_window::View;
-use call_history::Book;
+use call_history::Steps;
 use caller_lines::CallerLine;
 use desk_base::NoMemory;
-use desk_model::{Booked, DeskCore, LAST_CALLER, Opening};
+use desk_model::{Booked, LAST_CALLER, Opening};
 use desk_shared::{ShownBook, ShownDesk};
 use std::alloc::Global;
 use std::mem;
@@ -22,28 +21,31 @@ use std::sync::Wait;
 use std::thread::{self, Threads};
 use turn_gate::Seat;
 
-/// Serves 1 to 63 lines at one desk over the book, which was opened so, as `serve_lines` does, and answers their looks beside: each line
-/// has a view of the desk's boards.
-pub fn watch_lines<C: DeskCore + Send, R: Threads + Wait + Sync>(
+/// Serves 1 to 63 lines at one desk over the book, which was opened so, with so many calls of each, as `serve_lines` does, and answers their
+/// looks beside: each line has a view of the desk's boards. The line of an entry that isn't told as kept is not put: the session is told
+/// that the journal had a fault, and ends.
+pub fn watch_lines<B: Steps + Drop + Send, R: Threads + Wait + Sync>(
     rt: &R,
     alloc: Global,
     opening: &Opening,
-    book: Book<C>,
+    book: B,
+    quota: u32,
     lines: &mut Vec<Box<dyn CallerLine + Send>>,
-) -> Result<Book<C>, NoMemory>
-    requires opening { opening.now ≡ (⟦<Book<C> as Booked>⟧.history book).opening }
+) -> Result<B, NoMemory>
+    requires opening { opening.now ≡ (B.history book).opening }
     requires some { 1 ≤ vec_len lines.old }
     requires most { vec_len lines.old ≤ LAST_CALLER }
-    requires room { length (⟦<Book<C> as Booked>⟧.history book).entries + vec_len lines.old * CALLS_PER_LINE
-        ≤ ⟦<Book<C> as Booked>⟧.room book }
-    ensures opening { IfOk result (λ after. (⟦<Book<C> as Booked>⟧.history after).opening
-        ≡ (⟦<Book<C> as Booked>⟧.history book).opening) }
-    ensures room { IfOk result (λ after. ⟦<Book<C> as Booked>⟧.room after ≡ ⟦<Book<C> as Booked>⟧.room book) }
-    ensures legal { IfOk result (λ after. IsLegal (⟦<Book<C> as Booked>⟧.history after)) }
+    requires calls { 1 ≤ quota }
+    requires room { length (B.history book).entries + vec_len lines.old * quota
+        ≤ B.room book }
+    ensures opening { IfOk result (λ after. (B.history after).opening
+        ≡ (B.history book).opening) }
+    ensures room { IfOk result (λ after. B.room after ≡ B.room book) }
+    ensures legal { IfOk result (λ after. IsLegal (B.history after)) }
     ensures watched { IfOk result (λ after. AreAllServed
-        (watched (⟦<Book<C> as Booked>⟧.history book).opening (length (⟦<Book<C> as Booked>⟧.history book).entries)
-        (⟦<Book<C> as Booked>⟧.history after).entries)
-        (⟦<Book<C> as Booked>⟧.history book).entries (⟦<Book<C> as Booked>⟧.history after).entries
+        (watched_with B.always quota (B.history book).opening (length (B.history book).entries)
+        (B.history after).entries)
+        (B.history book).entries (B.history after).entries
         (lines_of ⟦<(dyn CallerLine + Send) as CallerLine>⟧ lines.old.items)
         (lines_of ⟦<(dyn CallerLine + Send) as CallerLine>⟧ lines.new.items)) }
     ensures unasked { IsErr result → lines.new ≡ lines.old }
@@ -52,12 +54,7 @@ pub fn watch_lines<C: DeskCore + Send, R: Threads + Wait + Sync>(
     let mut posts = Vec::with_capacity(alloc, lines.len())?;
     let count = lines.len() as u8;
     let (desk, mut seats, mut views) = match ShownDesk::new(
-        rt,
-        alloc,
-        opening,
-        book,
-        count,
-        CALLS_PER_LINE,
+        rt, alloc, opening, book, count, quota,
     ) {
         Ok(made) => made,
         Err(NoMemory) => {
@@ -81,27 +78,27 @@ pub fn watch_lines<C: DeskCore + Send, R: Threads + Wait + Sync>(
 }
 
 // Attends to all posts at the same time.
-fn attend_all<C: DeskCore + Send, R: Threads + Wait + Sync>(
+fn attend_all<B: Steps + Drop + Send, R: Threads + Wait + Sync>(
     rt: &R,
     alloc: Global,
-    desk: &ShownDesk<C>,
-    posts: &mut Vec<Post<Seat<ShownBook<Book<C>>>, Post<View, Box<dyn CallerLine + Send>>>>,
+    desk: &ShownDesk<B>,
+    posts: &mut Vec<Post<Seat<ShownBook<B>>, Post<View, Box<dyn CallerLine + Send>>>>,
 )
     requires { All (λ post. IsManned desk.now post.seat post.line.seat) posts.old.items }
     ensures count { vec_len posts.new ≡ vec_len posts.old }
     ensures each { (i : ℕ) (d : _) → i < length posts.old.items
         → let post = slice_index_or posts.old.items i d in
         let after = slice_index_or posts.new.items i d in
-        AttendsWatched desk.now post.seat after.seat post.line.seat after.line.seat
+        AttendsWatched B.always desk.now post.seat after.seat post.line.seat after.line.seat
         (line_of (faults post.line.line) (calls post.line.line))
         (line_of (faults after.line.line) (calls after.line.line)) }
 {
     let work = |_i: usize, post: &mut Post<
-        Seat<ShownBook<Book<C>>>,
+        Seat<ShownBook<B>>,
         Post<View, Box<dyn CallerLine + Send>>,
     >|
         requires { IsManned desk.now post.now.seat post.now.line.seat }
-        ensures { AttendsWatched desk.entry.now post.entry.now.seat post.exit.now.seat
+        ensures { AttendsWatched B.always desk.entry.now post.entry.now.seat post.exit.now.seat
             post.entry.now.line.seat post.exit.now.line.seat
             (line_of (faults post.entry.now.line.line) (calls post.entry.now.line.line))
             (line_of (faults post.exit.now.line.line) (calls post.exit.now.line.line)) }
@@ -110,14 +107,14 @@ fn attend_all<C: DeskCore + Send, R: Threads + Wait + Sync>(
 }
 
 // Serves the line of a post at its seat, with its view.
-fn attend<C: DeskCore, R: Wait>(
+fn attend<B: Steps + Drop, R: Wait>(
     rt: &R,
     alloc: Global,
-    desk: &ShownDesk<C>,
-    post: &mut Post<Seat<ShownBook<Book<C>>>, Post<View, Box<dyn CallerLine + Send>>>,
+    desk: &ShownDesk<B>,
+    post: &mut Post<Seat<ShownBook<B>>, Post<View, Box<dyn CallerLine + Send>>>,
 )
     requires { IsManned desk.now post.old.seat post.old.line.seat }
-    ensures { AttendsWatched desk.now post.old.seat post.new.seat post.old.line.seat post.new.line.seat
+    ensures { AttendsWatched B.always desk.now post.old.seat post.new.seat post.old.line.seat post.new.line.seat
         (line_of (faults post.old.line.line) (calls post.old.line.line))
         (line_of (faults post.new.line.line) (calls post.new.line.line)) }
 {

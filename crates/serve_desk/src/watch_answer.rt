@@ -1,5 +1,5 @@
 //! One answer of a line where looks at boards and crew calls are heard, and what follows it.
-ghost use Rattle.std.specs.Prelude.{◌≡◌, ◌≢◌, ℕ, ◌-◌, ◌<◌, ◌≤◌, ◌+◌, [], ◌∷◌, IfNone, IfSome, None, Some, length};
+ghost use Rattle.std.specs.Prelude.{true, ◌≡◌, ◌≢◌, ℕ, ◌-◌, ◌<◌, ◌≤◌, ◌+◌, [], ◌∷◌, IfNone, IfSome, None, Some, length};
 ghost use mathlib.Core.List.{IsPrefix};
 ghost use Rattle.desk_io.specs.Faults.{Rose};
 ghost use Rattle.turn_gate.specs.Seats.{SeatValue};
@@ -12,15 +12,15 @@ ghost use Rattle.serve_desk.specs.WatchAnswers.{IsCallerOf, PutsAllOn, RepliesWa
 use crate::answered_watched::AnsweredWatched;
 use crate::entry_lines::EntryLines;
 use crate::look_text::{write_behind, write_look};
-use crate::put::{put_both, put_on};
+use crate::put::{put_both, put_journal_fault, put_on};
 use crate::texts::{NO_MEMORY, SPENT, TOO_LONG, TOO_MANY, write_malformed};
 use crate::watch_crew::crew;
 use crate::{LINES_PER_CALLER, Why};
 use board_window::{Showing, View};
-use call_history::Book;
+use call_history::Steps;
 use caller_lines::{CallerLine, Request, Said, hear_next_request};
 use desk_base::Code;
-use desk_model::{DeskCore, Entry, Stated};
+use desk_model::{Entry, Stated};
 use desk_shared::{CalledShown, SeatSpent, ShownBook, ShownDesk, a_desk_has_one_wall};
 use std::alloc::Global;
 use std::sync::Wait;
@@ -28,16 +28,16 @@ use turn_gate::{Seat, what_one_entry_more_makes_known};
 
 /// Asks the line once, which gave so many lines before, and does what follows: a look is answered from the view, without a turn and
 /// without an entry, and a crew call by up to three. What is shown after a call is learnt before its reply is put, and the reply to a line is put before the next is asked.
-pub(crate) fn answer_watched<C: DeskCore, R: Wait>(
+pub(crate) fn answer_watched<B: Steps + Drop, R: Wait>(
     rt: &R,
     alloc: Global,
-    desk: &ShownDesk<C>,
-    seat: Seat<ShownBook<Book<C>>>,
+    desk: &ShownDesk<B>,
+    seat: Seat<ShownBook<B>>,
     view: &mut View,
     heard: u32,
     entry_lines: &mut EntryLines,
     line: &mut Box<dyn CallerLine + Send>,
-) -> AnsweredWatched<C>
+) -> AnsweredWatched<B>
     requires caller { IsCallerOf desk.now seat view.old }
     requires heard { heard ≤ LINES_PER_CALLER }
     ensures answers { AnswersWatched desk.now.start.book.opening heard (desk.now.start.quota - seat.calls)
@@ -47,8 +47,11 @@ pub(crate) fn answer_watched<C: DeskCore, R: Wait>(
     ensures caller { IsCallerOf desk.now result.seat view.new }
     ensures faults_grow { faults line.old ≤ faults line.new }
     ensures cause { result.ends ≡ Some Why.LineFault → Rose (faults line.old) (faults line.new) }
-    ensures no_fault { result.ends ≢ Some Why.LineFault → faults line.new ≡ faults line.old }
-    ensures settled { result.ends ≢ None → result.ends ≢ Some Why.LineFault → settled line.new }
+    ensures no_fault { result.ends ≢ Some Why.LineFault → result.ends ≢ Some Why.JournalFault
+        → faults line.new ≡ faults line.old }
+    ensures settled { result.ends ≢ None → result.ends ≢ Some Why.LineFault → result.ends ≢ Some Why.JournalFault
+        → settled line.new }
+    ensures kept { B.always ≡ true → result.ends ≢ Some Why.JournalFault }
 {
     match hear_next_request(alloc, entry_lines.last_stated(), line) {
         Request::Look { board, position } => AnsweredWatched {
@@ -103,6 +106,7 @@ fn look(
     ensures cause { result ≡ Some Why.LineFault → Rose (faults line.old) (faults line.new) }
     ensures no_fault { result ≢ Some Why.LineFault → faults line.new ≡ faults line.old }
     ensures settled { result ≢ None → result ≢ Some Why.LineFault → settled line.new }
+    ensures kept { result ≢ Some Why.JournalFault }
 {
     if heard == LINES_PER_CALLER {
         return put_on(line, TOO_MANY, Some(Why::TooManyLines));
@@ -114,16 +118,16 @@ fn look(
 }
 
 // Replies to what was said.
-fn reply<C: DeskCore, R: Wait>(
+fn reply<B: Steps + Drop, R: Wait>(
     rt: &R,
-    desk: &ShownDesk<C>,
-    seat: Seat<ShownBook<Book<C>>>,
+    desk: &ShownDesk<B>,
+    seat: Seat<ShownBook<B>>,
     view: &mut View,
     heard: u32,
     said: Said,
     entry_lines: &mut EntryLines,
     line: &mut Box<dyn CallerLine + Send>,
-) -> AnsweredWatched<C>
+) -> AnsweredWatched<B>
     requires caller { IsCallerOf desk.now seat view.old }
     requires heard { heard ≤ LINES_PER_CALLER }
     requires not_end { said ≢ Said.End }
@@ -133,8 +137,11 @@ fn reply<C: DeskCore, R: Wait>(
     ensures caller { IsCallerOf desk.now result.seat view.new }
     ensures faults_grow { faults line.old ≤ faults line.new }
     ensures cause { result.ends ≡ Some Why.LineFault → Rose (faults line.old) (faults line.new) }
-    ensures no_fault { result.ends ≢ Some Why.LineFault → faults line.new ≡ faults line.old }
-    ensures settled { result.ends ≢ None → result.ends ≢ Some Why.LineFault → settled line.new }
+    ensures no_fault { result.ends ≢ Some Why.LineFault → result.ends ≢ Some Why.JournalFault
+        → faults line.new ≡ faults line.old }
+    ensures settled { result.ends ≢ None → result.ends ≢ Some Why.LineFault → result.ends ≢ Some Why.JournalFault
+        → settled line.new }
+    ensures kept { B.always ≡ true → result.ends ≢ Some Why.JournalFault }
 {
     if heard == LINES_PER_CALLER {
         let ends = put_on(line, TOO_MANY, Some(Why::TooManyLines));
@@ -159,16 +166,16 @@ fn reply<C: DeskCore, R: Wait>(
 }
 
 // Calls the desk with a command, learns what is shown then, and puts the entry's line, and how far what is shown is behind; or says that
-// the seat has no call left.
-fn call<C: DeskCore, R: Wait>(
+// the entry could not be kept, or that the seat has no call left.
+fn call<B: Steps + Drop, R: Wait>(
     rt: &R,
-    desk: &ShownDesk<C>,
-    seat: Seat<ShownBook<Book<C>>>,
+    desk: &ShownDesk<B>,
+    seat: Seat<ShownBook<B>>,
     view: &mut View,
     stated: Stated,
     entry_lines: &mut EntryLines,
     line: &mut Box<dyn CallerLine + Send>,
-) -> AnsweredWatched<C>
+) -> AnsweredWatched<B>
     requires caller { IsCallerOf desk.now seat view.old }
     ensures replies { (heard : ℕ) → heard < LINES_PER_CALLER
         → RepliesWatched desk.now.start.book.opening heard (desk.now.start.quota - seat.calls)
@@ -176,8 +183,11 @@ fn call<C: DeskCore, R: Wait>(
     ensures caller { IsCallerOf desk.now result.seat view.new }
     ensures faults_grow { faults line.old ≤ faults line.new }
     ensures cause { result.ends ≡ Some Why.LineFault → Rose (faults line.old) (faults line.new) }
-    ensures no_fault { result.ends ≢ Some Why.LineFault → faults line.new ≡ faults line.old }
-    ensures settled { result.ends ≢ None → result.ends ≢ Some Why.LineFault → settled line.new }
+    ensures no_fault { result.ends ≢ Some Why.LineFault → result.ends ≢ Some Why.JournalFault
+        → faults line.new ≡ faults line.old }
+    ensures settled { result.ends ≢ None → result.ends ≢ Some Why.LineFault → result.ends ≢ Some Why.JournalFault
+        → settled line.new }
+    ensures kept { B.always ≡ true → result.ends ≢ Some Why.JournalFault }
 {
     a_desk_has_one_wall();
     what_one_entry_more_makes_known();
@@ -189,7 +199,11 @@ fn call<C: DeskCore, R: Wait>(
     match outcome {
         Ok(receipt) => {
             let Some(showing) = showing else {
-                unreachable!()
+                put_journal_fault(line);
+                return AnsweredWatched {
+                    seat,
+                    ends: Some(Why::JournalFault),
+                };
             };
             let behind = learn(view, showing);
             let ends = put_entry(line, entry_lines, &receipt.entry, behind);
@@ -230,6 +244,7 @@ fn put_entry(
     ensures cause { result ≡ Some Why.LineFault → Rose (faults line.old) (faults line.new) }
     ensures no_fault { result ≢ Some Why.LineFault → faults line.new ≡ faults line.old }
     ensures settled { result ≢ None → result ≢ Some Why.LineFault → settled line.new }
+    ensures kept { result ≢ Some Why.JournalFault }
 {
     let text = entry_lines.write(entry);
     if count == 0 {

@@ -1,5 +1,5 @@
 //! A crew call of a line, and what is put for it.
-ghost use Rattle.std.specs.Prelude.{◌≡◌, ◌≢◌, ℕ, ◌-◌, ◌<◌, ◌≤◌, [], ◌∷◌, ◌++◌, map, Some, None};
+ghost use Rattle.std.specs.Prelude.{true, ◌≡◌, ◌≢◌, ℕ, ◌-◌, ◌<◌, ◌≤◌, [], ◌∷◌, ◌++◌, map, Some, None};
 ghost use Rattle.desk_base.specs.Minute.{IsInYears};
 ghost use Rattle.desk_io.specs.Faults.{Rose};
 ghost use Rattle.crew_call.specs.CrewCalls.{somes};
@@ -12,26 +12,26 @@ use crate::answered_watched::AnsweredWatched;
 use crate::crew_text::{write_crew, write_too_few};
 use crate::entry_lines::EntryLines;
 use crate::look_text::write_behind;
-use crate::put::put_on;
+use crate::put::{put_journal_fault, put_on};
 use crate::texts::TOO_MANY;
 use crate::watch_answer::learn;
 use crate::{LINES_PER_CALLER, Why};
 use board_window::View;
-use call_history::Book;
+use call_history::Steps;
 use caller_lines::{CallerLine, Request};
 use crew_call::CrewOutcome;
 use desk_base::{Minute, VacNo};
-use desk_model::{DeskCore, Entry};
+use desk_model::Entry;
 use desk_shared::{CrewCalled, ShownBook, ShownDesk, TooFew, a_desk_has_one_wall};
 use std::sync::Wait;
 use turn_gate::{Seat, what_one_entry_more_makes_known};
 
 /// Calls two vacancies as one outcome, learns what is shown then, and puts the lines of the entries, what the call came to, and how far
-/// what is shown is behind; or says that the seat has too few calls left.
-pub(crate) fn crew<C: DeskCore, R: Wait>(
+/// what is shown is behind; or says that an entry could not be kept, or that the seat has too few calls left.
+pub(crate) fn crew<B: Steps + Drop, R: Wait>(
     rt: &R,
-    desk: &ShownDesk<C>,
-    seat: Seat<ShownBook<Book<C>>>,
+    desk: &ShownDesk<B>,
+    seat: Seat<ShownBook<B>>,
     view: &mut View,
     heard: u32,
     minute: Minute,
@@ -39,7 +39,7 @@ pub(crate) fn crew<C: DeskCore, R: Wait>(
     second: VacNo,
     entry_lines: &mut EntryLines,
     line: &mut Box<dyn CallerLine + Send>,
-) -> AnsweredWatched<C>
+) -> AnsweredWatched<B>
     requires caller { IsCallerOf desk.now seat view.old }
     requires heard { heard ≤ LINES_PER_CALLER }
     requires minute { IsInYears minute }
@@ -48,8 +48,11 @@ pub(crate) fn crew<C: DeskCore, R: Wait>(
     ensures caller { IsCallerOf desk.now result.seat view.new }
     ensures faults_grow { faults line.old ≤ faults line.new }
     ensures cause { result.ends ≡ Some Why.LineFault → Rose (faults line.old) (faults line.new) }
-    ensures no_fault { result.ends ≢ Some Why.LineFault → faults line.new ≡ faults line.old }
-    ensures settled { result.ends ≢ None → result.ends ≢ Some Why.LineFault → settled line.new }
+    ensures no_fault { result.ends ≢ Some Why.LineFault → result.ends ≢ Some Why.JournalFault
+        → faults line.new ≡ faults line.old }
+    ensures settled { result.ends ≢ None → result.ends ≢ Some Why.LineFault → result.ends ≢ Some Why.JournalFault
+        → settled line.new }
+    ensures kept { B.always ≡ true → result.ends ≢ Some Why.JournalFault }
 {
     if heard == LINES_PER_CALLER {
         let ends = put_on(line, TOO_MANY, Some(Why::TooManyLines));
@@ -66,7 +69,11 @@ pub(crate) fn crew<C: DeskCore, R: Wait>(
     match outcome {
         Ok(told) => {
             let Some(showing) = showing else {
-                unreachable!()
+                put_journal_fault(line);
+                return AnsweredWatched {
+                    seat,
+                    ends: Some(Why::JournalFault),
+                };
             };
             let count = learn(view, showing);
             let ends = put_crew(line, entry_lines, &entries, &told, count);
@@ -95,6 +102,7 @@ fn put_crew(
     ensures cause { result ≡ Some Why.LineFault → Rose (faults line.old) (faults line.new) }
     ensures no_fault { result ≢ Some Why.LineFault → faults line.new ≡ faults line.old }
     ensures settled { result ≢ None → result ≢ Some Why.LineFault → settled line.new }
+    ensures kept { result ≢ Some Why.JournalFault }
 {
     let ends = put_outcome(line, entry_lines, entries, told);
     if ends.is_some() {
@@ -118,6 +126,7 @@ fn put_outcome(
     ensures cause { result ≡ Some Why.LineFault → Rose (faults line.old) (faults line.new) }
     ensures no_fault { result ≢ Some Why.LineFault → faults line.new ≡ faults line.old }
     ensures settled { result ≢ None → result ≢ Some Why.LineFault → settled line.new }
+    ensures kept { result ≢ Some Why.JournalFault }
 {
     let ends = put_entries(line, entry_lines, entries);
     match ends {
@@ -137,6 +146,7 @@ fn put_entries(
     ensures cause { result ≡ Some Why.LineFault → Rose (faults line.old) (faults line.new) }
     ensures no_fault { result ≢ Some Why.LineFault → faults line.new ≡ faults line.old }
     ensures settled { result ≢ None → result ≢ Some Why.LineFault → settled line.new }
+    ensures kept { result ≢ Some Why.JournalFault }
 {
     for entry in entries {
         let ends = put_some(line, entry_lines, entry);
@@ -158,6 +168,7 @@ fn put_some(
     ensures cause { result ≡ Some Why.LineFault → Rose (faults line.old) (faults line.new) }
     ensures no_fault { result ≢ Some Why.LineFault → faults line.new ≡ faults line.old }
     ensures settled { result ≢ None → result ≢ Some Why.LineFault → settled line.new }
+    ensures kept { result ≢ Some Why.JournalFault }
 {
     match entry {
         Some(entry) => put_on(line, entry_lines.write(entry), None),

@@ -1,5 +1,5 @@
 //! One line served at a seat with a view.
-ghost use Rattle.std.specs.Prelude.{◌≡◌, ◌≢◌, ◌-◌, ◌≤◌, length};
+ghost use Rattle.std.specs.Prelude.{true, ◌≡◌, ◌≢◌, ◌-◌, ◌≤◌, length};
 ghost use Rattle.desk_io.specs.Faults.{Rose};
 ghost use Rattle.serve_desk.specs.Told.{line_of};
 ghost use Rattle.serve_desk.specs.WatchAnswers.{IsCallerOf};
@@ -11,9 +11,8 @@ use crate::entry_lines::EntryLines;
 use crate::watch_answer::answer_watched;
 use crate::{LINES_PER_CALLER, Why};
 use board_window::View;
-use call_history::Book;
+use call_history::Steps;
 use caller_lines::CallerLine;
-use desk_model::DeskCore;
 use desk_shared::{ShownBook, ShownDesk};
 use std::alloc::Global;
 use std::sync::Wait;
@@ -23,14 +22,14 @@ use turn_gate::Seat;
 /// `look,B,k` asks who stands at position k of board B, from 1, and is answered without an entry and without a turn. Behind the line of an entry that
 /// isn't shown yet stands how many aren't. What a look sees is never older than what the caller saw before, nor than an entry of theirs that
 /// was shown.
-pub fn session_watched<C: DeskCore, R: Wait>(
+pub fn session_watched<B: Steps + Drop, R: Wait>(
     rt: &R,
     alloc: Global,
-    desk: &ShownDesk<C>,
-    seat: Seat<ShownBook<Book<C>>>,
+    desk: &ShownDesk<B>,
+    seat: Seat<ShownBook<B>>,
     view: View,
     line: &mut Box<dyn CallerLine + Send>,
-) -> EndedWatched<C>
+) -> EndedWatched<B>
     requires { IsCallerOf desk.now seat view }
     ensures watches { Watches desk.now.start.book.opening (desk.now.start.quota - seat.calls) (length desk.now.start.book.entries)
         (line_of (faults line.old) (calls line.old))
@@ -39,8 +38,9 @@ pub fn session_watched<C: DeskCore, R: Wait>(
     ensures caller { IsCallerOf desk.now result.seat result.view }
     ensures faults_grow { faults line.old ≤ faults line.new }
     ensures cause { result.why ≡ Why.LineFault → Rose (faults line.old) (faults line.new) }
-    ensures no_fault { result.why ≢ Why.LineFault → faults line.new ≡ faults line.old }
-    ensures settled { result.why ≢ Why.LineFault → settled line.new }
+    ensures no_fault { result.why ≢ Why.LineFault → result.why ≢ Why.JournalFault → faults line.new ≡ faults line.old }
+    ensures settled { result.why ≢ Why.LineFault → result.why ≢ Why.JournalFault → settled line.new }
+    ensures kept { B.always ≡ true → result.why ≢ Why.JournalFault }
 {
     let left = desk.left(&seat);
     let mut seat = seat;

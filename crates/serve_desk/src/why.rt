@@ -9,4 +9,6 @@ pub enum Why {
     Spent,
     /// The line gave one line more than may be heard.
     TooManyLines,
+    /// An entry of a call could not be kept in the journal.
+    JournalFault,
 }

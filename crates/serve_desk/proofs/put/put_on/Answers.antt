@@ -1,4 +1,3 @@
-use Rattle.std.proofs.Common.{◌≡◌, None}
 use Rattle.serve_desk.proofs.AnswerLemmas.{PutsOn-not_put, PutsOn-goes_on, PutsOn-ends, PutsOn-not_written}
 use Rattle.serve_desk.proofs.put.put_on.Goals as goal
 

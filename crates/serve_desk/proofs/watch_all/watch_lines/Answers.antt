@@ -17,23 +17,23 @@ attend_all-requires-after_bounds g c κs bounds =
 
 pub leave_posts-requires-2-clause-seated : goal.leave_posts-requires-2-clause-seated
 leave_posts-requires-2-clause-seated g c =
-    All-viewed c.seat_lines-2.new.posts.items c.attend_all.new.posts.items _ (λ post. post.seat) (λ post. post.line) (λ viewed. viewed.seat)
+    All-viewed _ c.seat_lines-2.new.posts.items c.attend_all.new.posts.items _ (λ post. post.seat) (λ post. post.line) (λ viewed. viewed.seat)
     (λ post. let line = goal.CallerLine-dyn g (post.line.line.vtable, post.line.line.value) in line_of (line.faults post.line.line.value) (line.calls post.line.line.value)) _ c.attend_all.ensures.each (omega arith) c.leave_posts.ensures.lines
 
 pub close-requires : goal.close-requires
 close-requires g c =
-    All-seated-still c.seat_lines-2.new.posts.items c.attend_all.new.posts.items _ (λ post. post.seat) (λ post. post.line.seat)
+    All-seated-still _ c.seat_lines-2.new.posts.items c.attend_all.new.posts.items _ (λ post. post.seat) (λ post. post.line.seat)
     (λ post. let line = goal.CallerLine-dyn g (post.line.line.vtable, post.line.line.value) in line_of (line.faults post.line.line.value) (line.calls post.line.line.value)) _ c.attend_all.ensures.each (omega arith) c.leave_posts.ensures.seats
 
 pub returns-clause-watched : goal.returns-clause-watched
 returns-clause-watched g c =
     let posts = c.seat_lines-2.new.posts.items in
     let later = c.attend_all.new.posts.items in
-    let attends = AttendsOne-watched (λ post. post.seat) (λ post. post.line.seat)
+    let attends = AttendsOne-watched _ (λ post. post.seat) (λ post. post.line.seat)
     (λ post. let line = goal.CallerLine-dyn g (post.line.line.vtable, post.line.line.value) in line_of (line.faults post.line.line.value) (line.calls post.line.line.value)) c.in-Ok.made.0
     posts later _ c.in-Ok-close.ensures.book c.attend_all.ensures.each in
     let taken = sym (map-map (λ post. post.line) (λ viewed. viewed.line) posts) ∙ (ap (map (λ viewed. viewed.line)) c.seat_lines-2.ensures.lines ∙ c.seat_lines.ensures.lines) in
     let left = c.leave_posts-2.ensures.lines ∙ (ap (map (λ viewed. viewed.line)) c.leave_posts.ensures.lines ∙ map-map (λ post. post.line) (λ viewed. viewed.line) later) in
-    AreWatched-began _ _ _ _ _ c.in-Ok.ensures.start
+    AreWatched-began _ _ _ _ _ _ c.in-Ok.ensures.start
     (AreServed-all _ posts later _ _ _ _ (λ post. post.seat) (λ post. post.line.line) _ _ _ _ c.in-Ok-close.ensures.book attends (omega arith) taken left c.in-Ok.ensures.seats c.seat_lines-2.ensures.seats
     c.leave_posts.ensures.seats (ap (λ k. k.seats) c.in-Ok.ensures.start) (omega arith) c.in-Ok-close.ensures.known)

@@ -1,5 +1,5 @@
 use Rattle.std.proofs.Common.{arith}
-use Rattle.serve_desk.proofs.WatchAnswerLemmas.{RepliesWatched-crew, RepliesWatched-too_few, RepliesWatched-too_many_requests}
+use Rattle.serve_desk.proofs.WatchAnswerLemmas.{RepliesWatched-crew, RepliesWatched-crew_unkept, RepliesWatched-too_few, RepliesWatched-too_many_requests}
 use Rattle.serve_desk.proofs.watch_crew.crew.Goals as goal
 
 pub returns-then-heard-eq-LINES_PER_CALLER-clause-replies : goal.returns-then-heard-eq-LINES_PER_CALLER-clause-replies
@@ -12,6 +12,12 @@ returns-in-Some-clause-replies g c =
     RepliesWatched-crew c.what_one_entry_more_makes_known.ensures.mine _ c.args.desk.now _ _ _ _ _ _ _ _ _ _ _ c.in-Some.showing.note _ c.in-Ok.told _ c.in-Some.showing.behind (omega arith)
     (omega (arith, enough)) (rw c.in-Ok.is at c.crew-seat.ensures.calls) (rw (c.in-Ok.is, c.in-Some.is) at c.crew-seat.ensures.shown) c.learn-count.ensures.begins c.learn-count.ensures.told
     (rw c.learn-count.ensures.behind at put.shown) (rw c.learn-count.ensures.behind at put.not_shown)
+
+pub returns-in_default-clause-replies : goal.returns-in_default-clause-replies
+returns-in_default-clause-replies g c =
+    let enough = rw c.in-Ok.is at c.crew-seat.ensures.enough in
+    RepliesWatched-crew_unkept c.what_one_entry_more_makes_known.ensures.mine _ _ _ _ _ _ _ _ _ _ _ _ c.in-Ok.told (omega arith)
+    (omega (arith, enough)) (rw c.in-Ok.is at c.crew-seat.ensures.calls) c.put_journal_fault.ensures.puts
 
 pub returns-in-Err-clause-replies : goal.returns-in-Err-clause-replies
 returns-in-Err-clause-replies g c =
