@@ -1,10 +1,10 @@
 //! A run that stops while callers call: what is found then.
-use call_history::Book;
+use call_history::{Book, Steps};
 use desk_base::{Code, Minute, Month, Window};
 use desk_model::{Cmd, Edition, Entry, Opening, Stated};
 use fast_core::FastCore;
 use journal_device::{Device, MemoryDevice};
-use kept_book::{KeptBook, Steps};
+use kept_book::KeptBook;
 use line_writer::{write_entry, write_opening};
 use std::alloc::Global;
 use std::test::Fail;

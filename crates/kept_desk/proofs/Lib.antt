@@ -1,0 +1,3 @@
+mod ThroughLemmas
+mod WholeLemmas
+mod OpenedLemmas

@@ -1,0 +1,10 @@
+use Rattle.std.proofs.Common.{arith}
+use Rattle.kept_desk.proofs.OpenedLemmas.{IsOpened-day}
+use Rattle.day_replay.proofs.HistoryLemmas.{IsReplay-day}
+use Rattle.kept_desk.proofs.open.begin.Goals as goal
+
+pub returns-in-Ok-begin-clause-opened : goal.returns-in-Ok-begin-clause-opened
+returns-in-Ok-begin-clause-opened g c =
+    let law = c.one_history_is_legal.ensures in
+    let replay = IsReplay-day law.opening law.legal law.given _ _ c.in-Ok.ensures.opening c.in-Ok.ensures.stated in
+    rw (c.in-Ok-begin.ensures.book.0, c.in-Ok-begin.ensures.book.1) (IsOpened-day _ _ _ _ _ _ c.in-Ok-book_of_day.ensures.history replay (omega (arith, c.in-Ok-book_of_day.ensures.room, c.from.ensures)) c.in-Ok-begin.ensures.kept)

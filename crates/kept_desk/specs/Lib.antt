@@ -1,0 +1,4 @@
+pub mod WholeLines
+pub mod EntryLines
+pub mod UntilEnd
+pub mod Opened
