@@ -1,7 +1,7 @@
 #!/bin/sh
 # gate.sh: the gate. It proves everything from nothing, tries the edits that must fail and runs the tests (`rt ci`);
 # then it runs the examples and the cases of `runs.py` and `texts.py` on the program that this has built, reads again what it writes,
-# compares what it says would be with what is, has it serve callers over pipes, without looks, with them and with crew calls, and compares crates.txt and
+# compares what it says would be with what is, has it serve callers over pipes, without looks, with them and with crew calls, kills it while it keeps its journal, and compares crates.txt and
 # the table of promises with the sources.
 # The last line has the figures. All that is printed is also kept in build/gate.log.
 cd "$(dirname "$0")/.." || exit 2
@@ -25,6 +25,7 @@ runs='not run'
 texts='not run'
 forecasts='not run'
 crews='not run'
+stops='not run'
 if [ $failed = 0 ]; then
     kept sh examples/compare.sh crates/crewdesk_main/out/crewdesk_main || failed=1
     examples=$(tail -n 1 "$log")
@@ -36,6 +37,8 @@ if [ $failed = 0 ]; then
     windows=$(tail -n 1 "$log")
     kept python3 -B tools/crews.py crates/crewdesk_main/out/crewdesk_main || failed=1
     crews=$(tail -n 1 "$log")
+    kept python3 -B tools/kept.py crates/crewdesk_main/out/crewdesk_main || failed=1
+    stops=$(tail -n 1 "$log")
     kept python3 -B tools/runs.py crates/crewdesk_main/out/crewdesk_main || failed=1
     runs=$(tail -n 1 "$log")
     kept python3 -B tools/texts.py crates/crewdesk_main/out/crewdesk_main || failed=1
@@ -49,5 +52,5 @@ kept sh tools/promises.sh || failed=1
 promises=$(tail -n 1 "$log")
 rm -f build/gate.status
 [ $failed = 0 ] || echo "build/gate.log says what failed"
-echo "gate: $proofs; examples: $examples; journals: $journals; callers: $callers; windows: $windows; crews: $crews; runs: $runs; texts: $texts; forecasts: $forecasts; crates: $listed; promises: $promises"
+echo "gate: $proofs; examples: $examples; journals: $journals; callers: $callers; windows: $windows; crews: $crews; stops: $stops; runs: $runs; texts: $texts; forecasts: $forecasts; crates: $listed; promises: $promises"
 [ $failed = 0 ]

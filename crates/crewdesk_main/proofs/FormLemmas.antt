@@ -1,5 +1,6 @@
 -- Words that name callers.
-use Rattle.std.proofs.Common.{◌≡◌, ℕ, Bool, true, false, ◌&&◌, nat_le, Option, None, Some, if◌then◌else◌, List, [], ◌∷◌, codes, length, drop, refl, ap}
+use Rattle.std.proofs.Common.{◌≡◌, ℕ, ◌+◌, ◌-◌, ◌≤◌, arith, Bool, true, false, ◌&&◌, nat_le, Option, None, Some, if◌then◌else◌, List, [], ◌∷◌, codes, length, drop, refl, ap}
+use Rattle.std.proofs.lemmas.Bool.Decides.{nat_tests}
 use Rattle.std.specs.Prelude.{String, string_bytes}
 use Rattle.std.specs.Global.{Global}
 use Rattle.desk_model.specs.declared.edition.Edition.{Edition}
@@ -14,11 +15,12 @@ use Rattle.crewdesk_main.specs.declared.tour_form.TourForm.TheVariants as tour
 use Rattle.crewdesk_main.specs.declared.limits.TheConstants.{MOST_SUPPOSED}
 use Rattle.crewdesk_main.specs.declared.form.Form.{Form}
 use Rattle.crewdesk_main.specs.declared.form.Form.TheVariants as form
-use Rattle.crewdesk_main.specs.Words.{form_of, named_form, numbered_form, record_form, forecast_form, gen_form, when_form, serve_form, is_alone, is_word, is_number, number_in}
+use Rattle.crewdesk_main.specs.Words.{form_of, named_form, numbered_form, record_form, forecast_form, gen_form, when_form, serve_form, keep_form, is_alone, is_word, is_number, number_in}
 
 -- whether callers are served
 abbrev serves : Option Form → Bool
 serves (Some (form.Serve how callers)) = true
+serves (Some (form.Keep callers)) = true
 serves other = false
 
 both : (b : Bool) (x y : Option Form) → serves x ≡ false → serves y ≡ false → serves (if b then x else y) ≡ false
@@ -72,15 +74,47 @@ serve_form-count how by m n is = go (nat_le 1 m && nat_le m LAST_CALLER) is
     go true is = cc
     go false is = absurd (cc)
 
+both-true : (a b : Bool) → (a && b) ≡ true → (a ≡ true) × (b ≡ true)
+both-true true true is = (refl, refl)
+both-true true false is = absurd (cc)
+both-true false b is = absurd (cc)
+
+keep_form-count : (m n : ℕ) → keep_form m ≡ Some (form.Keep n) → (2 ≤ m) × (m ≤ LAST_CALLER + 1)
+keep_form-count m n is = go (nat_le 2 m && nat_le m (LAST_CALLER + 1)) refl is
+  where
+    go : (b : Bool) → (nat_le 2 m && nat_le m (LAST_CALLER + 1)) ≡ b → (if b then Some (form.Keep (m - 1)) else None) ≡ Some (form.Keep n) → (2 ≤ m) × (m ≤ LAST_CALLER + 1)
+    go true within is =
+        let parts = both-true (nat_le 2 m) (nat_le m (LAST_CALLER + 1)) within in
+        let few = parts.0 in
+        let many = parts.1 in
+        (grind (arith, nat_tests, few), grind (arith, nat_tests, many))
+    go false within is = absurd (cc)
+
+serve_form-keeps-not : (how : Sessions) (m n : ℕ) → serve_form how m ≡ Some (form.Keep n) → ⊥
+serve_form-keeps-not how m n is = go (nat_le 1 m && nat_le m LAST_CALLER) is
+  where
+    go : (b : Bool) → (if b then Some (form.Serve how m) else None) ≡ Some (form.Keep n) → ⊥
+    go true is = cc
+    go false is = cc
+
+keep_form-serves-not : (m : ℕ) (how : Sessions) (n : ℕ) → keep_form m ≡ Some (form.Serve how n) → ⊥
+keep_form-serves-not m how n is = go (nat_le 2 m && nat_le m (LAST_CALLER + 1)) is
+  where
+    go : (b : Bool) → (if b then Some (form.Keep (m - 1)) else None) ≡ Some (form.Serve how n) → ⊥
+    go true is = cc
+    go false is = cc
+
 named_form-count : (words : List (String Global)) (how : Sessions) (n : ℕ) → named_form words ≡ Some (form.Serve how n) → length (drop 1 words) ≡ n
 named_form-count [] how n is = absurd (cc)
-named_form-count (word ∷ names) how n is = go (is_word (codes "serve") word) (is_word (codes "watch") word) is
+named_form-count (word ∷ names) how n is = go (is_word (codes "serve") word) (is_word (codes "watch") word) (is_word (codes "keep") word) is
   where
-    go : (a b : Bool) → (if a then serve_form sessions.WithoutLooks (length names) else if b then serve_form sessions.WithLooks (length names) else numbered_form (word ∷ names)) ≡ Some (form.Serve how n)
-        → length names ≡ n
-    go true b is = serve_form-count sessions.WithoutLooks how (length names) n is
-    go false true is = serve_form-count sessions.WithLooks how (length names) n is
-    go false false is = absurd (let other = numbered_form-other (word ∷ names) in let said = ap serves is in cc)
+    go : (a b c : Bool)
+        → (if a then serve_form sessions.WithoutLooks (length names) else if b then serve_form sessions.WithLooks (length names) else if c then keep_form (length names) else numbered_form (word ∷ names))
+        ≡ Some (form.Serve how n) → length names ≡ n
+    go true b c is = serve_form-count sessions.WithoutLooks how (length names) n is
+    go false true c is = serve_form-count sessions.WithLooks how (length names) n is
+    go false false true is = absurd (keep_form-serves-not (length names) how n is)
+    go false false false is = absurd (let other = numbered_form-other (word ∷ names) in let said = ap serves is in cc)
 
 -- a word that stands alone names none
 skip : (b : Bool) (x y : Option Form) (how : Sessions) (n : ℕ) → serves x ≡ false → (if b then x else y) ≡ Some (form.Serve how n) → y ≡ Some (form.Serve how n)
@@ -98,3 +132,31 @@ form_of-count words how n is =
     let f = skip (is_alone (codes "--help") words) (Some form.Help) _ how n refl e in
     let g = skip (is_alone (codes "--version") words) (Some form.Version) _ how n refl f in
     named_form-count words how n g
+
+named_form-keep : (words : List (String Global)) (n : ℕ) → named_form words ≡ Some (form.Keep n) → (2 ≤ length (drop 1 words)) × (length (drop 1 words) ≤ LAST_CALLER + 1)
+named_form-keep [] n is = absurd (cc)
+named_form-keep (word ∷ names) n is = go (is_word (codes "serve") word) (is_word (codes "watch") word) (is_word (codes "keep") word) is
+  where
+    go : (a b c : Bool)
+        → (if a then serve_form sessions.WithoutLooks (length names) else if b then serve_form sessions.WithLooks (length names) else if c then keep_form (length names) else numbered_form (word ∷ names))
+        ≡ Some (form.Keep n) → (2 ≤ length names) × (length names ≤ LAST_CALLER + 1)
+    go true b c is = absurd (serve_form-keeps-not sessions.WithoutLooks (length names) n is)
+    go false true c is = absurd (serve_form-keeps-not sessions.WithLooks (length names) n is)
+    go false false true is = keep_form-count (length names) n is
+    go false false false is = absurd (let other = numbered_form-other (word ∷ names) in let said = ap serves is in cc)
+
+skip-keep : (b : Bool) (x y : Option Form) (n : ℕ) → serves x ≡ false → (if b then x else y) ≡ Some (form.Keep n) → y ≡ Some (form.Keep n)
+skip-keep true x y n other is = absurd (let said = ap serves is in cc)
+skip-keep false x y n other is = is
+
+-- behind the first word stand the journal's name and those of the callers
+pub form_of-keep : (words : List (String Global)) (n : ℕ) → form_of words ≡ Some (form.Keep n) → (2 ≤ length (drop 1 words)) × (length (drop 1 words) ≤ LAST_CALLER + 1)
+form_of-keep words n is =
+    let a = skip-keep (is_alone (codes "replay") words) (Some (form.Day day.Replay)) _ n refl is in
+    let b = skip-keep (is_alone (codes "tally") words) (Some (form.Day day.Tally)) _ n refl a in
+    let c = skip-keep (is_alone (codes "audit") words) (Some form.Audit) _ n refl b in
+    let d = skip-keep (is_alone (codes "continue") words) (Some form.Continue) _ n refl c in
+    let e = skip-keep (is_alone (codes "excess") words) (Some (form.Tours tour.Excess)) _ n refl d in
+    let f = skip-keep (is_alone (codes "--help") words) (Some form.Help) _ n refl e in
+    let g = skip-keep (is_alone (codes "--version") words) (Some form.Version) _ n refl f in
+    named_form-keep words n g

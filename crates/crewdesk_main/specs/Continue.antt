@@ -18,7 +18,7 @@ use Rattle.audit_desk.specs.declared.journal.TheConstants.{JOURNAL_BYTES}
 use Rattle.audit_desk.specs.declared.verdict.Verdict.{Verdict}
 use Rattle.audit_desk.specs.declared.verdict.Verdict.TheVariants as verdict
 use Rattle.audit_desk.specs.VerdictText.{verdict_text}
-use Rattle.crewdesk_main.specs.declared.limits.TheConstants.{JOURNAL_ENTRIES}
+use Rattle.kept_desk.specs.declared.limits.TheConstants.{JOURNAL_ENTRIES}
 use Rattle.day_replay.specs.Ends.{WasRead, WritesOrFails, Tells, TellsMore, EndsAs}
 use Rattle.crewdesk_main.specs.Lines.{HasTooManyLines, HasFewLines}
 use Rattle.crewdesk_main.specs.Audit.{IsAudited, ends_as}

@@ -4,7 +4,7 @@ use Rattle.std.specs.Io.KnownBytes.{Appends, Keeps}
 use Rattle.desk_io.specs.Faults.{Rose}
 use Rattle.desk_io.specs.Giving.{AddsFront}
 use Rattle.desk_io.specs.declared.status.Status.{Status}
-use Rattle.desk_io.specs.declared.status.Status.TheVariants.{Fine, ReadFault, WriteFault, NoMemory, AuditWrong, Unreadable}
+use Rattle.desk_io.specs.declared.status.Status.TheVariants.{Usage, Fine, ReadFault, WriteFault, NoMemory, AuditWrong, Unreadable}
 use Rattle.line_writer.specs.Tally.{tally_text}
 use Rattle.day_gen.specs.Day.{generated_day}
 use Rattle.crewdesk_main.specs.declared.form.Form.{Form}
@@ -45,3 +45,4 @@ Ends form.Audit result left left' asked asked' held held' given given' = EndsAud
 Ends form.Continue result left left' asked asked' held held' given given' = EndsContinue result left left' asked asked' held held' given given'
 Ends (form.Serve how callers) result left left' asked asked' held held' given given' =
     EndsDay result (ServesNames how callers left left') left left' asked asked' held held' given given'
+Ends (form.Keep callers) result left left' asked asked' held held' given given' = result ≢ Usage

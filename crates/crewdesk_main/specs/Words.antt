@@ -1,5 +1,5 @@
 -- The words that the program is given, and the forms of its command line.
-use Rattle.std.specs.Prelude.{ℕ, ◌^◌, ◌≤◌, ⊤, Bool, true, false, ◌&&◌, nat_eq, nat_le, nat_lt, Option, None, Some, if◌then◌else◌, List, [], ◌∷◌, length, codes, decimal, String, string_bytes}
+use Rattle.std.specs.Prelude.{ℕ, ◌+◌, ◌-◌, ◌^◌, ◌≤◌, ⊤, Bool, true, false, ◌&&◌, nat_eq, nat_le, nat_lt, Option, None, Some, if◌then◌else◌, List, [], ◌∷◌, length, codes, decimal, String, string_bytes}
 use Rattle.desk_base.specs.declared.limits.TheConstants.{NUMBER_LIMIT}
 use Rattle.std.specs.Cmp.Lexicographic.{pointwise}
 use Rattle.std.specs.Str.Parse.{digits_value}
@@ -28,6 +28,7 @@ is_alone form (word ∷ other ∷ more) = false
 abbrev pub HasNumbers : Form → Type 0
 HasNumbers (form.Gen commands number edition) = (SET_UP ≤ commands) × (commands ≤ most_commands edition)
 HasNumbers (form.Serve how callers) = (1 ≤ callers) × (callers ≤ LAST_CALLER)
+HasNumbers (form.Keep callers) = (1 ≤ callers) × (callers ≤ LAST_CALLER)
 HasNumbers other = ⊤
 
 -- a word is this one
@@ -84,12 +85,18 @@ numbered_form other = None
 abbrev pub serve_form : Sessions → ℕ → Option Form
 serve_form how callers = if nat_le 1 callers && nat_le callers LAST_CALLER then Some (form.Serve how callers) else None
 
--- the form that words with callers' names are, `serve NAME ..` and `watch NAME ..`, or with numbers
+-- a journal is kept and callers are served, by so many words: the journal's name and those of the callers; none where nobody is named, or
+-- more than a desk may have
+abbrev pub keep_form : ℕ → Option Form
+keep_form count = if nat_le 2 count && nat_le count (LAST_CALLER + 1) then Some (form.Keep (count - 1)) else None
+
+-- the form that words with callers' names are, `serve NAME ..`, `watch NAME ..` and `keep JOURNAL NAME ..`, or with numbers
 abbrev pub named_form : List (String Global) → Option Form
 named_form [] = None
 named_form (word ∷ names) =
     if is_word (codes "serve") word then serve_form sessions.WithoutLooks (length names)
     else if is_word (codes "watch") word then serve_form sessions.WithLooks (length names)
+    else if is_word (codes "keep") word then keep_form (length names)
     else numbered_form (word ∷ names)
 
 -- the form that they are; none where they are no form of the command line
@@ -109,11 +116,13 @@ abbrev pub runs : Form → Bool
 runs form.Help = false
 runs form.Version = false
 runs (form.Serve how callers) = false
+runs (form.Keep callers) = false
 runs other = true
 
 -- the form serves callers
 abbrev pub serves : Form → Bool
 serves (form.Serve how callers) = true
+serves (form.Keep callers) = true
 serves other = false
 
 -- the form reads a source
@@ -123,6 +132,7 @@ reads form.Audit = true
 reads form.Continue = true
 reads (form.Tours how) = true
 reads (form.Serve how callers) = true
+reads (form.Keep callers) = true
 reads other = false
 
 -- and runs the desk for it and the sink alone

@@ -12,10 +12,11 @@ use crate::audit_form::tell;
 use crate::count_lines::count_lines;
 use crate::cut_at_plus::cut_at_plus;
 use crate::go_on::go_on;
-use crate::limits::{JOURNAL_ENTRIES, JOURNAL_LINES};
+use crate::limits::JOURNAL_LINES;
 use audit_desk::{JOURNAL_BYTES, Verdict, an_audit_finds_one_verdict, resume};
 use desk_io::{Sink, Status};
 use desk_model::one_history_is_legal;
+use kept_desk::JOURNAL_ENTRIES;
 use std::alloc::Global;
 
 /// Writes the journal that goes on with the commands of a text of at most 268,435,456 bytes; where its journal is wrong, what an

@@ -1,5 +1,5 @@
 ghost use Rattle.std.specs.Prelude.{◌≡◌, IfSome};
-ghost use Rattle.crewdesk_main.specs.Words.{form_of, named_form, numbered_form, forecast_form, gen_form, record_form, serve_form, when_form, number_in, HasNumbers};
+ghost use Rattle.crewdesk_main.specs.Words.{form_of, named_form, numbered_form, forecast_form, gen_form, record_form, serve_form, keep_form, when_form, number_in, HasNumbers};
 
 use crate::limits::MOST_SUPPOSED;
 use crate::tour_form::TourForm;
@@ -38,6 +38,11 @@ pub enum Form {
     Serve {
         /// By which sessions.
         sessions: Sessions,
+        /// How many names there are, 1 to 63.
+        callers: u8,
+    },
+    /// Serves the callers of names at a desk whose journal is kept in a file.
+    Keep {
         /// How many names there are, 1 to 63.
         callers: u8,
     },
@@ -81,7 +86,25 @@ fn named(words: &[String]) -> Option<Form>
         [word, names @ ..] if word.as_str() == "watch" => {
             serve_form(Sessions::WithLooks, names.len())
         }
+        [word, journal_and_names @ ..] if word.as_str() == "keep" => {
+            keep_form(journal_and_names.len())
+        }
         _ => numbered(words),
+    }
+}
+
+// The form that keeps a journal and serves callers, of so many words: the journal's name and those of the callers; `None` where none
+// are named, or more than a desk may have.
+fn keep_form(count: usize) -> Option<Form>
+    ensures is { result ≡ keep_form count }
+    ensures numbers { IfSome result HasNumbers }
+{
+    if count >= 2 && count <= usize::from(LAST_CALLER) + 1 {
+        Some(Form::Keep {
+            callers: (count - 1) as u8,
+        })
+    } else {
+        None
     }
 }
 

@@ -12,11 +12,11 @@ ghost use Rattle.day_replay.specs.Ends.{WritesOrFails, writes};
 ghost use Rattle.crewdesk_main.specs.GoesOn.{EndsByTheCommands, FindsWrongField, GoesOn};
 ghost use Rattle.day_replay.specs.Replay.{goes_on};
 
-use crate::limits::JOURNAL_ENTRIES;
 use command_parser::{MoreFault, read_more};
 use day_replay::{PIECE_BYTES, tell_wrong, write_entries};
 use desk_io::{Sink, Status, put_all};
 use desk_model::{DeskCore, Stated};
+use kept_desk::JOURNAL_ENTRIES;
 use std::alloc::Global;
 
 /// Reads the commands behind a journal of so many entries, steps the desk that stands behind it through them as caller 0, and

@@ -1,14 +1,9 @@
 //! How much a journal may hold, and how many commands may be supposed.
-ghost use Rattle.std.specs.Prelude.{◌≡◌, ◌+◌, ◌*◌};
-ghost use Rattle.desk_model.specs.declared.limits.TheConstants.{LAST_CALLER};
-ghost use Rattle.command_parser.specs.declared.limits.TheConstants.{COMMAND_LIMIT};
-ghost use Rattle.serve_desk.specs.declared.limits.TheConstants.{CALLS_PER_LINE};
+ghost use Rattle.std.specs.Prelude.{◌≡◌, ◌+◌};
+ghost use Rattle.kept_desk.specs.declared.limits.TheConstants.{JOURNAL_ENTRIES};
 
 /// How many lines a journal may have: its opening's, and those of as many entries as a desk may answer.
 pub const JOURNAL_LINES: usize = 515_001;
-
-/// How many entries a journal that goes on may have in all.
-pub const JOURNAL_ENTRIES: u32 = 515_000;
 
 /// How many of a day's last commands may be asked for as only supposed: as many as a day may have.
 pub const MOST_SUPPOSED: u32 = 200_000;
@@ -17,13 +12,6 @@ pub const MOST_SUPPOSED: u32 = 200_000;
 pub fn the_most_lines_of_a_journal()
     ensures number { JOURNAL_LINES ≡ 515_001 }
     ensures entries { JOURNAL_LINES ≡ JOURNAL_ENTRIES + 1 }
-{}
-
-/// How many entries a journal that goes on may have in all: one for each command of a day file, and for each call of as many lines as are
-/// served. It does nothing: its clauses are the law.
-pub fn the_most_entries_of_a_journal()
-    ensures number { JOURNAL_ENTRIES ≡ 515_000 }
-    ensures of_all { JOURNAL_ENTRIES ≡ COMMAND_LIMIT + LAST_CALLER * CALLS_PER_LINE }
 {}
 
 /// How many of a day's last commands may be asked for as only supposed. It does nothing: its clause is the law.

@@ -11,6 +11,7 @@ mod form;
 mod forms;
 mod generate;
 mod go_on;
+mod keep_form;
 mod limits;
 mod read_tours;
 mod run;

@@ -70,6 +70,6 @@ pub fn run_form<S: Source, K: Sink>(
             number,
             edition,
         } => tally_generated(alloc, commands, number, edition, sink),
-        Form::Help | Form::Version | Form::Serve { .. } => Status::Usage,
+        Form::Help | Form::Version | Form::Serve { .. } | Form::Keep { .. } => Status::Usage,
     }
 }

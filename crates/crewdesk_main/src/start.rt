@@ -6,6 +6,7 @@ ghost use Rattle.crewdesk_main.specs.Words.{form_of, is_asked, reads};
 
 use crate::form::Form;
 use crate::forms::perform;
+use crate::keep_form::keep_callers;
 use crate::serve_form::serve_callers;
 use crate::words::behind_the_first;
 use desk_io::{Sink, Source, Status};
@@ -13,7 +14,7 @@ use std::fs::{File, Files};
 use std::sync::Wait;
 use std::thread::Threads;
 
-/// Does what the words say: serves the callers who are named, or else what `perform` does, which waits for nobody.
+/// Does what the words say: serves the callers who are named, with a journal that is kept or without, or else what `perform` does, which waits for nobody.
 pub fn start<R, S: Source, K: Sink>(
     rt: &R,
     words: &[String],
@@ -21,7 +22,7 @@ pub fn start<R, S: Source, K: Sink>(
     sink: &mut K,
 ) -> Status
 where
-    R: Files<File = File> + Threads + Wait + Sync + AllocGlobal,
+    R: Files<File = File> + Threads + Wait + Sync + AllocGlobal + Eprint,
     ensures usage { result ≡ Status.Usage ↔ (form_of words.now ≡ None) }
     ensures ends { (form : FormValue) → form_of words.now ≡ Some form → Ends form result
         (S.left source.old) (S.left source.new) (S.faults source.old) (S.faults source.new)
@@ -37,6 +38,7 @@ where
         Some(Form::Serve { sessions, .. }) => {
             serve_callers(rt, sessions, behind_the_first(words), source, sink)
         }
+        Some(Form::Keep { .. }) => keep_callers(rt, behind_the_first(words), source, sink),
         Some(form) => perform(rt.alloc(), form, source, sink),
         None => Status::Usage,
     }

@@ -1,7 +1,7 @@
-use Rattle.std.proofs.Common.{◌≡◌, ◌∙◌, Some, length, ap}
+use Rattle.std.proofs.Common.{◌≡◌, ◌∙◌, Some, length, ap, arith}
 use Rattle.crewdesk_main.specs.declared.form.Form.TheVariants as form
 use Rattle.crewdesk_main.specs.Words.{form_of}
-use Rattle.crewdesk_main.proofs.FormLemmas.{form_of-count}
+use Rattle.crewdesk_main.proofs.FormLemmas.{form_of-count, form_of-keep}
 use Rattle.crewdesk_main.proofs.start.start.Goals as goal
 
 pub returns-in-Some-Serve-clause-ends : goal.returns-in-Some-Serve-clause-ends
@@ -14,3 +14,27 @@ returns-in-Some-Serve-clause-ends g c = λ given is.
     let has : form_of c.args.words.now ≡ Some (form.Serve c.in-Some-Serve.sessions c.in-Some-Serve.field-0-1) = cc in
     let many : length c.behind_the_first.result.now ≡ c.in-Some-Serve.field-0-1 = ap length c.behind_the_first.ensures ∙ form_of-count c.args.words.now c.in-Some-Serve.sessions c.in-Some-Serve.field-0-1 has in
     rw (same) (rw (many) at c.serve_callers.ensures.ends)
+
+pub keep_callers-requires-clause-some : goal.keep_callers-requires-clause-some
+keep_callers-requires-clause-some g c =
+    let read = c.read.ensures.is in
+    let found = c.in-Some-Keep.is in
+    let which = c.in-Some-Keep.field-0-is in
+    let has : form_of c.args.words.now ≡ Some (form.Keep c.in-Some-Keep.field-0-0) = cc in
+    omega (arith, ap length c.behind_the_first-in-Some-Keep.ensures, (form_of-keep c.args.words.now c.in-Some-Keep.field-0-0 has).0)
+
+pub keep_callers-requires-clause-most : goal.keep_callers-requires-clause-most
+keep_callers-requires-clause-most g c =
+    let read = c.read.ensures.is in
+    let found = c.in-Some-Keep.is in
+    let which = c.in-Some-Keep.field-0-is in
+    let has : form_of c.args.words.now ≡ Some (form.Keep c.in-Some-Keep.field-0-0) = cc in
+    omega (arith, ap length c.behind_the_first-in-Some-Keep.ensures, (form_of-keep c.args.words.now c.in-Some-Keep.field-0-0 has).1)
+
+pub returns-in-Some-Keep-clause-ends : goal.returns-in-Some-Keep-clause-ends
+returns-in-Some-Keep-clause-ends g c = λ given is.
+    let read = c.read.ensures.is in
+    let found = c.in-Some-Keep.is in
+    let which = c.in-Some-Keep.field-0-is in
+    let same : given ≡ form.Keep c.in-Some-Keep.field-0-0 = cc in
+    rw (same) c.keep_callers.ensures.form
