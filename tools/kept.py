@@ -192,6 +192,11 @@ def ended(program, checks):
             checks.is_so(f"{what}: stays", kept(), text)
             if out is not None:
                 checks.is_so(f"{what}: told", came[2], out)
+        for names in (["c1", "c1"], ["-c1"], ["x/c1"]):
+            came = subprocess.run([program, "keep", "journal", *names], cwd=room, input=b"", capture_output=True)
+            checks.is_so(f"{names} are no names", (came.returncode, came.stderr), (2, b"usage\n"))
+        missing = Desk(program, room, ["c1", "c9"], day, "other")
+        checks.is_so("a caller who can't be served is named", (missing.end()[1], missing.run.returncode), ("c9: cannot be opened", 4))
         os.mkdir(f"{room}/folder")
         checks.is_so("a folder is no journal", keep("end\n", day, "folder")[:2], (4, ["folder: not a file", "write fault"]))
         os.mkfifo(f"{room}/pipe")

@@ -15,7 +15,7 @@ use Rattle.crewdesk_main.specs.declared.tour_form.TourForm.TheVariants as tour
 use Rattle.crewdesk_main.specs.declared.limits.TheConstants.{MOST_SUPPOSED}
 use Rattle.crewdesk_main.specs.declared.form.Form.{Form}
 use Rattle.crewdesk_main.specs.declared.form.Form.TheVariants as form
-use Rattle.crewdesk_main.specs.Words.{form_of, named_form, numbered_form, record_form, forecast_form, gen_form, when_form, serve_form, keep_form, is_alone, is_word, is_number, number_in}
+use Rattle.crewdesk_main.specs.Words.{form_of, named_form, numbered_form, record_form, forecast_form, gen_form, when_form, serve_form, keep_form, are_names, is_alone, is_word, is_number, number_in}
 
 -- whether callers are served
 abbrev serves : Option Form → Bool
@@ -79,14 +79,17 @@ both-true true true is = (refl, refl)
 both-true true false is = absurd (cc)
 both-true false b is = absurd (cc)
 
-keep_form-count : (m n : ℕ) → keep_form m ≡ Some (form.Keep n) → (2 ≤ m) × (m ≤ LAST_CALLER + 1)
-keep_form-count m n is = go (nat_le 2 m && nat_le m (LAST_CALLER + 1)) refl is
+keep_form-count : (words : List (String Global)) (n : ℕ) → keep_form words ≡ Some (form.Keep n) → (2 ≤ length words) × (length words ≤ LAST_CALLER + 1)
+keep_form-count [] n is = absurd (cc)
+keep_form-count (journal ∷ names) n is = go (nat_le 1 (length names) && nat_le (length names) LAST_CALLER && are_names names) refl is
   where
-    go : (b : Bool) → (nat_le 2 m && nat_le m (LAST_CALLER + 1)) ≡ b → (if b then Some (form.Keep (m - 1)) else None) ≡ Some (form.Keep n) → (2 ≤ m) × (m ≤ LAST_CALLER + 1)
+    go : (b : Bool) → (nat_le 1 (length names) && nat_le (length names) LAST_CALLER && are_names names) ≡ b → (if b then Some (form.Keep (length names)) else None) ≡ Some (form.Keep n)
+        → (2 ≤ length (journal ∷ names)) × (length (journal ∷ names) ≤ LAST_CALLER + 1)
     go true within is =
-        let parts = both-true (nat_le 2 m) (nat_le m (LAST_CALLER + 1)) within in
-        let few = parts.0 in
-        let many = parts.1 in
+        let parts = both-true (nat_le 1 (length names) && nat_le (length names) LAST_CALLER) (are_names names) within in
+        let numbers = both-true (nat_le 1 (length names)) (nat_le (length names) LAST_CALLER) parts.0 in
+        let few = numbers.0 in
+        let many = numbers.1 in
         (grind (arith, nat_tests, few), grind (arith, nat_tests, many))
     go false within is = absurd (cc)
 
@@ -97,10 +100,11 @@ serve_form-keeps-not how m n is = go (nat_le 1 m && nat_le m LAST_CALLER) is
     go true is = cc
     go false is = cc
 
-keep_form-serves-not : (m : ℕ) (how : Sessions) (n : ℕ) → keep_form m ≡ Some (form.Serve how n) → ⊥
-keep_form-serves-not m how n is = go (nat_le 2 m && nat_le m (LAST_CALLER + 1)) is
+keep_form-serves-not : (words : List (String Global)) (how : Sessions) (n : ℕ) → keep_form words ≡ Some (form.Serve how n) → ⊥
+keep_form-serves-not [] how n is = cc
+keep_form-serves-not (journal ∷ names) how n is = go (nat_le 1 (length names) && nat_le (length names) LAST_CALLER && are_names names) is
   where
-    go : (b : Bool) → (if b then Some (form.Keep (m - 1)) else None) ≡ Some (form.Serve how n) → ⊥
+    go : (b : Bool) → (if b then Some (form.Keep (length names)) else None) ≡ Some (form.Serve how n) → ⊥
     go true is = cc
     go false is = cc
 
@@ -109,11 +113,11 @@ named_form-count [] how n is = absurd (cc)
 named_form-count (word ∷ names) how n is = go (is_word (codes "serve") word) (is_word (codes "watch") word) (is_word (codes "keep") word) is
   where
     go : (a b c : Bool)
-        → (if a then serve_form sessions.WithoutLooks (length names) else if b then serve_form sessions.WithLooks (length names) else if c then keep_form (length names) else numbered_form (word ∷ names))
+        → (if a then serve_form sessions.WithoutLooks (length names) else if b then serve_form sessions.WithLooks (length names) else if c then keep_form names else numbered_form (word ∷ names))
         ≡ Some (form.Serve how n) → length names ≡ n
     go true b c is = serve_form-count sessions.WithoutLooks how (length names) n is
     go false true c is = serve_form-count sessions.WithLooks how (length names) n is
-    go false false true is = absurd (keep_form-serves-not (length names) how n is)
+    go false false true is = absurd (keep_form-serves-not names how n is)
     go false false false is = absurd (let other = numbered_form-other (word ∷ names) in let said = ap serves is in cc)
 
 -- a word that stands alone names none
@@ -138,11 +142,11 @@ named_form-keep [] n is = absurd (cc)
 named_form-keep (word ∷ names) n is = go (is_word (codes "serve") word) (is_word (codes "watch") word) (is_word (codes "keep") word) is
   where
     go : (a b c : Bool)
-        → (if a then serve_form sessions.WithoutLooks (length names) else if b then serve_form sessions.WithLooks (length names) else if c then keep_form (length names) else numbered_form (word ∷ names))
+        → (if a then serve_form sessions.WithoutLooks (length names) else if b then serve_form sessions.WithLooks (length names) else if c then keep_form names else numbered_form (word ∷ names))
         ≡ Some (form.Keep n) → (2 ≤ length names) × (length names ≤ LAST_CALLER + 1)
     go true b c is = absurd (serve_form-keeps-not sessions.WithoutLooks (length names) n is)
     go false true c is = absurd (serve_form-keeps-not sessions.WithLooks (length names) n is)
-    go false false true is = keep_form-count (length names) n is
+    go false false true is = keep_form-count names n is
     go false false false is = absurd (let other = numbered_form-other (word ∷ names) in let said = ap serves is in cc)
 
 skip-keep : (b : Bool) (x y : Option Form) (n : ℕ) → serves x ≡ false → (if b then x else y) ≡ Some (form.Keep n) → y ≡ Some (form.Keep n)

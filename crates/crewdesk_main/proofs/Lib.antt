@@ -7,3 +7,4 @@ pub mod OneJournalLemmas
 pub mod PartLemmas
 pub mod PlusLemmas
 pub mod TourLemmas
+mod NameLemmas

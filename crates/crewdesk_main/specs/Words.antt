@@ -1,7 +1,8 @@
 -- The words that the program is given, and the forms of its command line.
-use Rattle.std.specs.Prelude.{ℕ, ◌+◌, ◌-◌, ◌^◌, ◌≤◌, ⊤, Bool, true, false, ◌&&◌, nat_eq, nat_le, nat_lt, Option, None, Some, if◌then◌else◌, List, [], ◌∷◌, length, codes, decimal, String, string_bytes}
+use Rattle.std.specs.Prelude.{ℕ, ◌^◌, ◌≤◌, ◌==◌, ⊤, Bool, true, false, not, ◌&&◌, nat_eq, nat_le, nat_lt, Option, None, Some, if◌then◌else◌, List, [], ◌∷◌, length, codes, decimal, String, string_bytes}
 use Rattle.desk_base.specs.declared.limits.TheConstants.{NUMBER_LIMIT}
 use Rattle.std.specs.Cmp.Lexicographic.{pointwise}
+use Rattle.std.specs.List.{list_any}
 use Rattle.std.specs.Str.Parse.{digits_value}
 use Rattle.std.specs.Global.{Global}
 use Rattle.desk_model.specs.declared.edition.Edition.{Edition}
@@ -85,10 +86,25 @@ numbered_form other = None
 abbrev pub serve_form : Sessions → ℕ → Option Form
 serve_form how callers = if nat_le 1 callers && nat_le callers LAST_CALLER then Some (form.Serve how callers) else None
 
--- a journal is kept and callers are served, by so many words: the journal's name and those of the callers; none where nobody is named, or
--- more than a desk may have
-abbrev pub keep_form : ℕ → Option Form
-keep_form count = if nat_le 2 count && nat_le count (LAST_CALLER + 1) then Some (form.Keep (count - 1)) else None
+-- a word may name a caller: it begins with no dash, has no slash,
+abbrev pub has_dash : List ℕ → Bool
+has_dash [] = false
+has_dash (byte ∷ bytes) = byte == 45
+
+-- and is none of these
+abbrev pub is_before : List ℕ → List (String Global) → Bool
+is_before word others = not (has_dash word) && (not (list_any (λ byte. byte == 47) word) && not (list_any (is_word word) others))
+
+-- words may name callers: each does, and no two are the same
+unfoldable pub are_names : List (String Global) → Bool
+are_names [] = true
+are_names (name ∷ others) = if is_before (string_bytes name) others then are_names others else false
+
+-- a journal is kept and callers are served, by the journal's name and those of the callers; none where nobody is named, or more than a desk
+-- may have, or where they can't be names
+abbrev pub keep_form : List (String Global) → Option Form
+keep_form [] = None
+keep_form (journal ∷ names) = if nat_le 1 (length names) && nat_le (length names) LAST_CALLER && are_names names then Some (form.Keep (length names)) else None
 
 -- the form that words with callers' names are, `serve NAME ..`, `watch NAME ..` and `keep JOURNAL NAME ..`, or with numbers
 abbrev pub named_form : List (String Global) → Option Form
@@ -96,7 +112,7 @@ named_form [] = None
 named_form (word ∷ names) =
     if is_word (codes "serve") word then serve_form sessions.WithoutLooks (length names)
     else if is_word (codes "watch") word then serve_form sessions.WithLooks (length names)
-    else if is_word (codes "keep") word then keep_form (length names)
+    else if is_word (codes "keep") word then keep_form names
     else numbered_form (word ∷ names)
 
 -- the form that they are; none where they are no form of the command line

@@ -3,7 +3,7 @@ ghost use Rattle.crewdesk_main.specs.Words.{form_of, named_form, numbered_form, 
 
 use crate::limits::MOST_SUPPOSED;
 use crate::tour_form::TourForm;
-use crate::words::{is_alone, read_number};
+use crate::words::{are_names, is_alone, read_number};
 use day_gen::{SET_UP, most_commands};
 use day_replay::DayForm;
 use desk_base::{NUMBER_LIMIT, PersonNo, VacNo};
@@ -86,22 +86,23 @@ fn named(words: &[String]) -> Option<Form>
         [word, names @ ..] if word.as_str() == "watch" => {
             serve_form(Sessions::WithLooks, names.len())
         }
-        [word, journal_and_names @ ..] if word.as_str() == "keep" => {
-            keep_form(journal_and_names.len())
-        }
+        [word, journal_and_names @ ..] if word.as_str() == "keep" => keep_form(journal_and_names),
         _ => numbered(words),
     }
 }
 
-// The form that keeps a journal and serves callers, of so many words: the journal's name and those of the callers; `None` where none
-// are named, or more than a desk may have.
-fn keep_form(count: usize) -> Option<Form>
-    ensures is { result ≡ keep_form count }
+// The form that keeps a journal and serves callers, by the journal's name and those of the callers; `None` where none are named, or more
+// than a desk may have, or where they can't be names.
+fn keep_form(words: &[String]) -> Option<Form>
+    ensures is { result ≡ keep_form words.now }
     ensures numbers { IfSome result HasNumbers }
 {
-    if count >= 2 && count <= usize::from(LAST_CALLER) + 1 {
+    let [_journal, names @ ..] = words else {
+        return None;
+    };
+    if !names.is_empty() && names.len() <= usize::from(LAST_CALLER) && are_names(names) {
         Some(Form::Keep {
-            callers: (count - 1) as u8,
+            callers: names.len() as u8,
         })
     } else {
         None

@@ -1,7 +1,7 @@
 //! The words that the program is given.
-ghost use Rattle.std.specs.Prelude.{◌≡◌, drop, IfOk};
+ghost use Rattle.std.specs.Prelude.{◌≡◌, drop, string_bytes, IfOk};
 ghost use Rattle.std.specs.Vec.Iter.{into_iter_items};
-ghost use Rattle.crewdesk_main.specs.Words.{is_alone, number_in};
+ghost use Rattle.crewdesk_main.specs.Words.{are_names, has_dash, is_alone, is_before, number_in};
 
 use desk_base::NoMemory;
 use itoa::Buffer;
@@ -50,5 +50,35 @@ pub fn read_number(word: &str) -> Option<u64>
         Some(number)
     } else {
         None
+    }
+}
+
+/// Whether the words may name callers: none begins with a dash or has a slash, and no two are the same.
+pub fn are_names(words: &[String]) -> bool
+    ensures { result ≡ are_names words.now }
+{
+    for at in 0..words.len() {
+        if !is_before(&words[at], &words[at + 1..]) {
+            return false;
+        }
+    }
+    true
+}
+
+// Whether a word may name a caller before these.
+fn is_before(word: &String, others: &[String]) -> bool
+    ensures { result ≡ is_before (string_bytes word.now) others.now }
+{
+    let bytes = word.as_bytes();
+    !has_dash(bytes) && !bytes.contains(&b'/') && !others.contains(word)
+}
+
+// Whether a text begins with a dash.
+fn has_dash(text: &[u8]) -> bool
+    ensures { result ≡ has_dash text.now }
+{
+    match text {
+        [first, ..] => *first == b'-',
+        [] => false,
     }
 }

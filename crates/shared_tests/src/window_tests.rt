@@ -9,9 +9,9 @@ use board_window::{Look, Spot, View};
 use command_parser::read_command;
 use desk_base::{Code, Minute};
 use desk_model::{Booked, Cmd, DeskCore, LAST_CALLER, Reply, Stated};
-use desk_shared::ShownDesk;
 use desks::{
-    BASE, Shown, call, close, count_seen, learn, look, open, plain_desk, saw, stated, take_last,
+    BASE, PlainDesk, Shown, call, close, count_seen, learn, look, open, plain_desk, saw, stated,
+    take_last,
 };
 use drawn::{BOARDS, Course, SET_UP, kind};
 use plain_core::PlainCore;
@@ -163,7 +163,7 @@ const DRAWN: u32 = 120;
 fn first_otherwise<R: Wait + Abort>(
     rt: &R,
     alloc: Global,
-    desk: &ShownDesk<PlainCore>,
+    desk: &PlainDesk,
     seat: Seat<Shown>,
     view: &mut View,
     core: &mut PlainCore,
@@ -228,7 +228,7 @@ fn each_place_is_seen_as_a_plain_desk_says(rt: HostRuntime) -> Result<(), Fail> 
 // How many of forty calls fall behind. After each the view that is told of it sees the entries that are shown.
 fn count_late<R: Wait + Abort>(
     rt: &R,
-    desk: &ShownDesk<PlainCore>,
+    desk: &PlainDesk,
     seat: Seat<Shown>,
     view: &mut View,
     stated: Stated,

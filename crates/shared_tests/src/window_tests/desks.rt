@@ -20,6 +20,9 @@ use turn_gate::Seat;
 /// A book with its wall, of a plain desk.
 pub type Shown = ShownBook<Book<PlainCore>>;
 
+/// A plain desk with windows.
+pub type PlainDesk = ShownDesk<Book<PlainCore>>;
+
 /// The pool P1 at HOM, with 101 and 102.
 pub const BASE: [&[u8]; 5] = [
     b"2024-03-04 00:01,board,P1,pool,HOM",
@@ -82,7 +85,7 @@ pub fn open<R: Wait>(
     setup: &[Stated],
     seats: u8,
     quota: u32,
-) -> Option<(ShownDesk<PlainCore>, Vec<Seat<Shown>>, Vec<View>)>
+) -> Option<(PlainDesk, Vec<Seat<Shown>>, Vec<View>)>
     requires some { 1 ≤ seats }
     requires most { seats ≤ LAST_CALLER }
     requires calls { 1 ≤ quota }
@@ -96,7 +99,7 @@ pub fn open<R: Wait>(
 }
 
 /// Takes the last of a desk's seats.
-pub fn take_last(desk: &ShownDesk<PlainCore>, seats: &mut Vec<Seat<Shown>>) -> Option<Seat<Shown>>
+pub fn take_last(desk: &PlainDesk, seats: &mut Vec<Seat<Shown>>) -> Option<Seat<Shown>>
     requires { All (IsSeatOf desk.now) seats.old.items }
     ensures seat { IfSome result (IsSeatOf desk.now) }
     ensures others { All (IsSeatOf desk.now) seats.new.items }
@@ -109,7 +112,7 @@ pub fn take_last(desk: &ShownDesk<PlainCore>, seats: &mut Vec<Seat<Shown>>) -> O
 /// A call by a seat that has one left: the entry, and what is shown then.
 pub fn call<R: Wait + Abort>(
     rt: &R,
-    desk: &ShownDesk<PlainCore>,
+    desk: &PlainDesk,
     seat: Seat<Shown>,
     stated: Stated,
 ) -> (Entry, Showing, Seat<Shown>)
@@ -129,7 +132,7 @@ pub fn call<R: Wait + Abort>(
 }
 
 /// Lets a view learn a note of its desk.
-pub fn learn(desk: &ShownDesk<PlainCore>, view: &mut View, note: Note)
+pub fn learn(desk: &PlainDesk, view: &mut View, note: Note)
     requires view { IsViewOf desk.now view.old }
     requires note { IsWallOf desk.now note.wall }
     ensures { view.new.wall ≡ view.old.wall }
@@ -142,7 +145,7 @@ pub fn learn(desk: &ShownDesk<PlainCore>, view: &mut View, note: Note)
 /// The book of a desk that is closed, where these are all seats but one, and that is the last. There is room for it among them.
 pub fn close<R: Wait + Abort>(
     rt: &R,
-    desk: ShownDesk<PlainCore>,
+    desk: PlainDesk,
     seats: Vec<Seat<Shown>>,
     last: Seat<Shown>,
 ) -> Book<PlainCore>

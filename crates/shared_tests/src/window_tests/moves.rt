@@ -3,12 +3,10 @@ ghost use Rattle.std.specs.Prelude.{◌≡◌};
 ghost use Rattle.turn_gate.specs.Seats.{IsSeatOf};
 ghost use Rattle.desk_shared.specs.Shown.{IsViewOf};
 
-use super::desks::{Shown, call, close, has_order, learn, open, stated, take_last};
+use super::desks::{PlainDesk, Shown, call, close, has_order, learn, open, stated, take_last};
 use board_window::View;
 use command_parser::read_command;
 use desk_model::Booked;
-use desk_shared::ShownDesk;
-use plain_core::PlainCore;
 use std::alloc::Global;
 use std::process::Abort;
 use std::sync::Wait;
@@ -126,7 +124,7 @@ const MOVES: [Row; 17] = [
 fn first_unlike<R: Wait + Abort>(
     rt: &R,
     alloc: Global,
-    desk: &ShownDesk<PlainCore>,
+    desk: &PlainDesk,
     seat: Seat<Shown>,
     view: &mut View,
 ) -> (Option<u32>, Seat<Shown>)
