@@ -74,22 +74,18 @@ fn what_is_no_legal_journal_is_refused(rt: HostRuntime) -> Result<(), Fail> {
     let alloc = rt.alloc();
     let mut wrong = JOURNAL.to_vec(alloc)?;
     wrong.extend_from_slice(b"2|2024-03-04 00:02,at,P1,1|2024-03-04 00:02|no one 1\n")?;
-    let Err(Refused::Found(Verdict::Wrong { line, right, .. })) = open(
-        alloc,
-        &wrong,
-        Vec::new(alloc),
-    )?
-    else {
-        panic!(rt; "not found wrong")
-    };
-    assert_eq!(rt; line, 3);
+    let refused = open(alloc, &wrong, Vec::new(alloc))?;
     assert!(rt;
         matches!(
-            right,
-            Outcome {
-                reply: Reply::NoOne { .. },
+            &refused,
+            Err(Refused::Found(Verdict::Wrong {
+                line: 3,
+                right: Outcome {
+                    reply: Reply::NoOne { .. },
+                    ..
+                },
                 ..
-            }
+            }))
         )
     );
     for there in [
@@ -97,7 +93,7 @@ fn what_is_no_legal_journal_is_refused(rt: HostRuntime) -> Result<(), Fail> {
         b"2024-03-04 00:00,open,2024-03,1,15".as_slice(),
     ] {
         let refused = open(alloc, there, Vec::new(alloc))?;
-        assert!(rt; matches!(refused, Err(Refused::Found(Verdict::NoOpening))));
+        assert!(rt; matches!(&refused, Err(Refused::Found(Verdict::NoOpening))));
     }
     Ok(())
 }
@@ -112,7 +108,7 @@ fn a_fault_of_the_device_opens_no_desk(rt: HostRuntime) -> Result<(), Fail> {
             calls.push(failing)?;
             let refused = open(alloc, there, calls)?;
             assert!(rt;
-                matches!(refused, Err(Refused::Fault(_))),
+                matches!(&refused, Err(Refused::Fault(_))),
                 "at call {failing}"
             );
         }

@@ -1,6 +1,4 @@
 //! Callers served at a desk whose device fails.
-ghost use Rattle.std.specs.Prelude.{◌≡◌, IfOk, vec_len};
-
 use caller_lines::{CallerLine, MemoryLine};
 use desk_io::{MemorySink, MemorySource};
 use desk_model::Entry;
@@ -33,30 +31,20 @@ fn line(alloc: Global) -> Result<Box<MemoryLine>, Fail> {
     Ok(Box::new(alloc, line)?)
 }
 
-fn three_lines(alloc: Global) -> Result<Vec<Box<dyn CallerLine + Send>>, Fail>
-    ensures { IfOk result (λ lines. vec_len lines ≡ 3) }
-{
-    let mut lines: Vec<Box<dyn CallerLine + Send>> = Vec::new(alloc);
-    lines.push(line(alloc)?)?;
-    lines.push(line(alloc)?)?;
-    lines.push(line(alloc)?)?;
-    Ok(lines)
-}
-
 // The puts of a caller's line are the lines of its kept entries, in their order, and behind them that the journal had a fault, where it has
 // an entry that is not kept.
 fn has_kept(line: &Box<dyn CallerLine + Send>, number: u8, kept: &[Entry], lost: &[Entry]) -> bool {
-    let mut count = 0;
+    let mut count: u32 = 0;
     for entry in kept {
         if entry.caller() == number {
-            count += 1;
+            count = count.saturating_add(1);
             if !line.was_put(count, write_entry(entry).as_slice()) {
                 return false;
             }
         }
     }
     if lost.iter().any(|entry| entry.caller() == number) {
-        count += 1;
+        count = count.saturating_add(1);
         if !line.was_put(count, b"journal fault\n") {
             return false;
         }
@@ -76,7 +64,10 @@ fn only_what_is_kept_is_put(rt: HostRuntime) -> Result<(), Fail> {
         let Ok(opened) = open_desk(alloc, &mut source, device, b"", 3, &mut sink) else {
             panic!(rt; "not opened, with a fault at call {failing}")
         };
-        let mut lines = three_lines(alloc)?;
+        let mut lines: Vec<Box<dyn CallerLine + Send>> = Vec::new(alloc);
+        lines.push(line(alloc)?)?;
+        lines.push(line(alloc)?)?;
+        lines.push(line(alloc)?)?;
         let kept = serve_kept(&rt, alloc, opened, &mut lines)?;
         let all = 1 + 3 * COMMANDS;
         let count = all.min(1 + (failing as usize - 1 - BEGINS) / CALLS);
