@@ -13,6 +13,7 @@ use desk_model::{
     a_history_is_legal_in_one_way,
 };
 use std::alloc::Global;
+use turn_gate::Lasting;
 
 /// A desk, and all entries that it has answered. The desk stands in memory of its own, so that a book is handed from caller to caller
 /// without it.
@@ -156,4 +157,9 @@ impl<C: DeskCore> Booked for Book<C> {
     }
 
     ghost within = { λ book. Prim.omega arith };
+}
+
+// It keeps no journal, so none is sure.
+impl<C: DeskCore> Lasting for Book<C> {
+    ghost sure = { λ _. 0 };
 }

@@ -1,5 +1,5 @@
 ghost use Rattle.std.specs.Prelude.{◌≡◌, ◌↔◌, ◌<◌, ◌≤◌, ◌^◌, ℕ, Bool, List, length, true, IfOk, IsErr};
-ghost use Rattle.std.specs.Bool.{OnTrue};
+ghost use Rattle.std.specs.Bool.{OnTrue, OnFalse};
 ghost use Rattle.std.specs.declared.option.Option.{Option};
 ghost use Rattle.desk_model.specs.declared.limits.TheConstants.{LAST_CALLER};
 ghost use Rattle.desk_model.specs.histories.History.{with_entry};
@@ -30,8 +30,10 @@ pub trait Steps: Booked {
         ensures room { Self.room self.new ≡ Self.room self.old }
         ensures mark { Self.mark self.new ≡ Self.mark self.old }
 
-        // What is told as kept is: the journal up to the entry, with its line. And what was kept stays kept.
+        // What is told as kept is: the journal up to the entry, with its line. By an entry that isn't nothing more is kept, and what was kept
+        // stays kept.
         ensures kept { IfOk result (λ s. OnTrue s.kept (Tells (kept self.new) (journal (Self.history self.new)))) }
+        ensures unkept { IfOk result (λ s. OnFalse s.kept (kept self.new ≡ kept self.old)) }
         ensures grows { Begins (kept self.old) (kept self.new) }
         ensures always { IfOk result (λ s. always ≡ true → s.kept ≡ true) };
 

@@ -1,5 +1,5 @@
 -- A call, from the turn that it takes to the one that it gives back.
-use Rattle.std.proofs.Common.{◌≡◌, ◌∙◌, ℕ, List, [], ◌∷◌, ◌++◌, sym, ap, subst}
+use Rattle.std.proofs.Common.{◌≡◌, ◌≤◌, ◌∙◌, arith, ℕ, List, [], ◌∷◌, ◌++◌, sym, ap, subst}
 use mathlib.Core.List.{IsPrefix}
 use Rattle.desk_model.specs.statements.Entry.{EntryValue}
 use Rattle.desk_model.specs.histories.History.{history_of}
@@ -17,17 +17,18 @@ next-caller : (o : OpeningValue) (es : List EntryValue) (caller : ℕ) (s : Stat
 unfolding next
 next-caller o es caller s e is = ap (λ x. x.caller) is
 
--- a book with the entry of the turn's seat beside may be given back
+-- a book with the entry of the turn's seat beside, and no fewer that are sure, may be given back
 pub MayGive-next : (seat : SeatValue) (turn : TurnValue) (book later : Told) (caller : ℕ) (s : StatedValue) (e : EntryValue) → Took seat turn book → caller ≡ turn.number
     → e ≡ next (history_of book.opening book.entries) caller s → history_of later.opening later.entries ≡ history_of book.opening (book.entries ++ e ∷ [])
-    → later.room ≡ book.room → later.wall ≡ book.wall → MayGive turn later
-MayGive-next seat turn book later caller s e took who is more room wall = record {
+    → later.room ≡ book.room → later.wall ≡ book.wall → book.sure ≤ later.sure → MayGive turn later
+MayGive-next seat turn book later caller s e took who is more room wall sure = record {
   entry = e;
-  more = ap (λ h. h.entries) more ∙ ap (λ es. es ++ e ∷ []) took.taken;
+  more = ap (λ h. h.entries) more ∙ ap (λ (t : Told). t.entries ++ e ∷ []) took.taken;
   caller = next-caller book.opening book.entries caller s e is ∙ who;
   opening = ap (λ h. h.opening) more ∙ took.of_gate.opening ∙ ap (λ k. k.book.opening) (sym took.start);
   room = room ∙ took.of_gate.room ∙ ap (λ k. k.book.room) (sym took.start);
   wall = wall ∙ took.of_gate.wall ∙ ap (λ k. k.book.wall) (sym took.start);
+  sure = omega (arith, sure, ap (λ (t : Told). t.sure) took.taken);
 }
 
 -- a seat that took a turn, and gave it back with the entry of its call, made that call

@@ -1,3 +1,4 @@
 mod CallLemmas
 mod CrewLemmas
 mod FrontLemmas
+mod KeptLemmas

@@ -9,8 +9,8 @@ use Rattle.desk_model.specs.histories.History.{History}
 use Rattle.desk_model.specs.histories.Mark.{Mark, wall_of}
 use Rattle.turn_gate.specs.Seats.{GateValue}
 
--- its history, how many entries it has room for beside, what is found of its journal whenever the run stops from now on, its wall, and what that
--- shows and was given
+-- its history, how many entries it has room for beside, what is found of its journal whenever the run stops from now on, its wall, what that
+-- shows and was given, and how many entries are kept, the first
 pub record ShownValue : Type 0 where
   pub history : History
   pub left : ℕ
@@ -18,6 +18,7 @@ pub record ShownValue : Type 0 where
   pub wall : WallName
   pub shown : List EntryValue
   pub added : List EntryValue
+  pub sure : ℕ
 
 -- the mark that tells this wall
 abbrev pub mark_of : WallName → Mark

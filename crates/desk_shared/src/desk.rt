@@ -12,7 +12,7 @@ use desk_model::{Booked, DeskCore, LAST_CALLER, Stated};
 use std::alloc::Global;
 use std::marker::Model;
 use std::sync::Wait;
-use turn_gate::{Gate, Seat, what_one_entry_more_makes_known};
+use turn_gate::{Gate, Lasting, Seat, what_one_entry_more_makes_known};
 
 /// A desk that callers share. Each has a seat, and the calls of all seats are one history.
 #[derive(Drop)]
@@ -48,7 +48,7 @@ impl<C: DeskCore> Desk<C> {
         requires room { length (⟦<Book<C> as Booked>⟧.history book).entries + seats * quota
             ≤ ⟦<Book<C> as Booked>⟧.room book }
         ensures start { IfOk result (λ made. made.0.start ≡ start_of seats quota
-            (told ⟦<Book<C> as Booked>⟧.history ⟦<Book<C> as Booked>⟧.room ⟦<Book<C> as Booked>⟧.mark book)) }
+            (told ⟦<Book<C> as Booked>⟧.history ⟦<Book<C> as Booked>⟧.room ⟦<Book<C> as Booked>⟧.mark ⟦<Book<C> as Lasting>⟧.sure book)) }
         ensures seats { IfOk result (λ made. made.1.items ≡ new_seats made.0 1 seats) }
         ensures each { IfOk result (λ made. All (IsSeatOf made.0) made.1.items) }
     {
@@ -102,7 +102,7 @@ impl<C: DeskCore> Desk<C> {
     pub fn close(self, seats: Vec<Seat<Book<C>>>) -> Result<Book<C>, SeatsMissing<C>>
         requires { All (IsSeatOf self) seats.items }
         ensures book { IfOk result (λ book. IsBookOf self.start
-            (told ⟦<Book<C> as Booked>⟧.history ⟦<Book<C> as Booked>⟧.room ⟦<Book<C> as Booked>⟧.mark book)) }
+            (told ⟦<Book<C> as Booked>⟧.history ⟦<Book<C> as Booked>⟧.room ⟦<Book<C> as Booked>⟧.mark ⟦<Book<C> as Lasting>⟧.sure book)) }
         ensures known { IfOk result (λ book. All (Knows (⟦<Book<C> as Booked>⟧.history book).entries) seats.items) }
         ensures all { IfOk result (λ book. self.start.seats ≤ length seats.items) }
         ensures missing { IfErr result (λ missing. (missing.desk ≡ self) × (missing.seats ≡ seats)

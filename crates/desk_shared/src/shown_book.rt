@@ -1,6 +1,6 @@
 //! What a desk with windows keeps.
 
-ghost use Rattle.std.specs.Prelude.{◌≡◌, ◌≢◌, ◌+◌, ◌<◌, ◌≤◌, IfSome, IfNone, length, true};
+ghost use Rattle.std.specs.Prelude.{◌≡◌, ◌≢◌, ◌+◌, ◌<◌, ◌≤◌, IfSome, IfNone, length, take, true};
 ghost use mathlib.Core.List.{IsPrefix};
 ghost use Rattle.desk_model.specs.histories.History.{with_entry};
 ghost use Rattle.desk_model.specs.histories.Legal.{IsLegal, next};
@@ -9,6 +9,7 @@ ghost use Rattle.journal_device.specs.Device.{Begins, Tells};
 ghost use Rattle.desk_model.specs.declared.limits.TheConstants.{LAST_CALLER};
 ghost use Rattle.board_window.specs.declared.wall_name.WallName.{WallName as Name};
 ghost use Rattle.desk_shared.specs.Shown.{IsWallOf};
+ghost use Rattle.desk_shared.specs.Kept.{AreKept};
 ghost use Rattle.turn_gate.specs.Seats.{GateValue};
 
 use board_window::{Showing, Wall};
@@ -16,11 +17,14 @@ use call_history::Steps;
 use desk_model::{Booked, Entry, Stated};
 use std::marker::Model;
 use std::sync::Wait;
+use turn_gate::Lasting;
 
 /// A book with the wall of windows that shows its entries. It is not `Drop`: end it by `end`.
 pub struct ShownBook<B: Steps> {
     pub(crate) book: B,
     pub(crate) wall: Wall,
+    // How many entries, the first, are kept.
+    pub(crate) sure: u32,
 }
 
 /// A desk has one wall: what is of its wall, a note or a view, is of the same. It does nothing: its clause is the law.
@@ -52,6 +56,8 @@ impl<B: Steps> ShownBook<B> {
         // What is shown to be told is kept: the journal up to the entry, with its line. And what was kept stays kept.
         ensures kept { IfSome result.1 (λ showing. Tells self.new.kept (journal self.new.history)) }
         ensures grows { Begins self.old.kept self.new.kept }
+        ensures sure { IfSome result.1 (λ showing. self.new.sure ≡ length self.new.history.entries) }
+        ensures no_fewer { self.old.sure ≤ self.new.sure }
     {
         let Ok(stepped) = self.book.step(caller, stated) else {
             unreachable!()
@@ -60,6 +66,7 @@ impl<B: Steps> ShownBook<B> {
         if !stepped.kept {
             return (stepped.entry, None);
         }
+        self.sure = self.book.count();
         let showing = self.wall.show(rt, self.book.entries());
         (stepped.entry, Some(showing))
     }
@@ -72,20 +79,26 @@ impl<B: Steps> ShownBook<B> {
         self.book.is_legal();
     }
 
-    /// Ends the windows, and gives the book.
+    /// Ends the windows, and gives the book, of whose entries so many are kept, the first.
     pub(crate) fn end<R: Wait>(self, rt: &R) -> B
         ensures history { B.history result ≡ self.history }
         ensures room { B.room result ≡ length self.history.entries + self.left }
+        ensures kept { AreKept (B.kept result) self.history.opening (take self.sure self.history.entries) }
     {
-        let ShownBook { book, wall } = self;
+        let ShownBook {
+            book,
+            wall,
+            sure: _,
+        } = self;
         wall.end(rt);
         book
     }
 }
 
 impl<B: Steps> Model for ShownBook<B> {
-    ghost use Rattle.std.specs.Prelude.{◌≡◌, ◌-◌, length, take};
+    ghost use Rattle.std.specs.Prelude.{◌≡◌, ◌-◌, ◌≤◌, length, take};
     ghost use Rattle.desk_shared.specs.Shown.{ShownValue};
+    ghost use Rattle.desk_shared.specs.Kept.{AreKept};
 
     ghost Value = { ShownValue };
 
@@ -96,10 +109,13 @@ impl<B: Steps> Model for ShownBook<B> {
       wall = b.wall.wall;
       shown = b.wall.shown;
       added = b.wall.added;
+      sure = b.sure;
     } };
 
     ghost invariant = { λ b. (b.wall.wall.opening ≡ (B.history b.book).opening)
-        × (b.wall.added ≡ take (length b.wall.added) (B.history b.book).entries) };
+        × (b.wall.added ≡ take (length b.wall.added) (B.history b.book).entries)
+        × (b.sure ≤ length (B.history b.book).entries)
+        × AreKept (B.kept b.book) (B.history b.book).opening (take b.sure (B.history b.book).entries) };
 }
 
 impl<B: Steps> Booked for ShownBook<B> {
@@ -118,4 +134,8 @@ impl<B: Steps> Booked for ShownBook<B> {
     }
 
     ghost within = { λ b. Prim.omega arith };
+}
+
+impl<B: Steps> Lasting for ShownBook<B> {
+    ghost sure = { λ b. b.sure };
 }

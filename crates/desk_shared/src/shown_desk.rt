@@ -1,4 +1,4 @@
-ghost use Rattle.std.specs.Prelude.{◌≡◌, ◌≢◌, ◌+◌, ◌*◌, ◌<◌, ◌≤◌, [], length, vec_len, IfOk, IfErr, IfSome, IfNone, true};
+ghost use Rattle.std.specs.Prelude.{◌≡◌, ◌≢◌, ◌+◌, ◌*◌, ◌<◌, ◌≤◌, [], length, take, vec_len, IfOk, IfErr, IfSome, IfNone, true};
 ghost use Rattle.std.specs.List.{All};
 ghost use Rattle.turn_gate.specs.Told.{told, start_of, IsBookOf};
 ghost use Rattle.turn_gate.specs.Seats.{IsSeatOf, new_seats};
@@ -7,7 +7,10 @@ ghost use Rattle.desk_base.specs.Minute.{IsInYears};
 ghost use Rattle.crew_call.specs.CrewCalls.{IsFilled, somes};
 ghost use Rattle.desk_shared.specs.Calls.{Calls};
 ghost use Rattle.desk_shared.specs.Crews.{IsCall, CallsCrew};
+ghost use Rattle.desk_shared.specs.Kept.{AreKept, KnowsOnlySure};
 ghost use Rattle.desk_shared.specs.Shown.{IsViewOf, ShowsTo};
+ghost use Rattle.desk_model.specs.texts.Journal.{journal};
+ghost use Rattle.journal_device.specs.Device.{Tells};
 
 use crate::called_shown::CalledShown;
 use crate::crew_called::CrewCalled;
@@ -43,7 +46,7 @@ impl<B: Steps> Model for ShownDesk<B> {
 }
 
 impl<B: Steps + Drop> ShownDesk<B> {
-    /// A desk over a book that was opened so, with 1 to 63 seats and so many calls of each, for all of which the book has room, and with
+    /// A desk over a book that was opened so and whose whole journal is kept, with 1 to 63 seats and so many calls of each, for all of which the book has room, and with
     /// a view for each seat; `NoMemory` where there is none for the seats and the windows. The seats have the numbers from 1 on, and
     /// the views stand for the book's entries.
     pub fn new<R: Wait>(
@@ -60,8 +63,9 @@ impl<B: Steps + Drop> ShownDesk<B> {
         requires calls { 1 ≤ quota }
         requires room { length (B.history book).entries + seats * quota
             ≤ B.room book }
+        requires kept { Tells (B.kept book) (journal (B.history book)) }
         ensures start { IfOk result (λ made. made.0.start ≡ start_of seats quota
-            (told B.history B.room (λ _. made.0.start.book.wall.mark) book)) }
+            (told B.history B.room (λ _. made.0.start.book.wall.mark) (λ b. length (B.history b).entries) book)) }
         ensures seats { IfOk result (λ made. made.1.items ≡ new_seats made.0 1 seats) }
         ensures each { IfOk result (λ made. All (IsSeatOf made.0) made.1.items) }
         ensures count { IfOk result (λ made. vec_len made.2 ≡ seats) }
@@ -70,7 +74,8 @@ impl<B: Steps + Drop> ShownDesk<B> {
     {
         book.is_legal();
         let (wall, views) = Wall::new(rt, alloc, opening, book.entries(), seats)?;
-        let shown = ShownBook { book, wall };
+        let sure = book.count();
+        let shown = ShownBook { book, wall, sure };
         match Gate::new(alloc, shown, seats, quota) {
             Ok((gate, seats)) => Ok((ShownDesk { gate }, seats, views)),
             Err(shown) => {
@@ -94,6 +99,8 @@ impl<B: Steps + Drop> ShownDesk<B> {
             (λ showing. ShowsTo self.now showing.note showing.behind result.seat.known)) }
         ensures showing { IfNone result.showing (IfOk result.outcome (λ receipt. B.always ≢ true)) }
         ensures no_showing { IfErr result.outcome (λ spent. IfSome result.showing (λ showing. ⊥)) }
+        ensures sure { IfOk result.outcome (λ receipt. IfSome result.showing (λ showing. KnowsOnlySure result.seat)) }
+        ensures no_fewer { seat.sure ≤ result.seat.sure }
     {
         what_one_entry_more_makes_known();
         match self.gate.take(rt, seat) {
@@ -129,6 +136,8 @@ impl<B: Steps + Drop> ShownDesk<B> {
         ensures seat { IsSeatOf self.now result.0 }
         ensures shown { IfSome result.2 (λ showing. ShowsTo self.now showing.note showing.behind result.0.known) }
         ensures showing { IfNone result.2 (B.always ≢ true) }
+        ensures sure { IfSome result.2 (λ showing. KnowsOnlySure result.0) }
+        ensures no_fewer { seat.sure ≤ result.0.sure }
     {
         let CalledShown {
             seat,
@@ -164,6 +173,8 @@ impl<B: Steps + Drop> ShownDesk<B> {
             (λ showing. ShowsTo self.now showing.note showing.behind result.seat.known)) }
         ensures showing { IfNone result.showing (IfOk result.outcome (λ told. B.always ≢ true)) }
         ensures no_showing { IfErr result.outcome (λ few. IfSome result.showing (λ showing. ⊥)) }
+        ensures sure { IfOk result.outcome (λ told. IfSome result.showing (λ showing. KnowsOnlySure result.seat)) }
+        ensures no_fewer { seat.sure ≤ result.seat.sure }
     {
         what_an_outcome_says();
         let left = self.left(&seat);
@@ -205,7 +216,7 @@ impl<B: Steps + Drop> ShownDesk<B> {
         self.gate.left(seat)
     }
 
-    /// The book, where all seats are given, with the windows ended; `ShownSeatsMissing` where fewer are given than were made, and then
+    /// The book, where all seats are given, with the windows ended: what a seat knows as sure is kept; `ShownSeatsMissing` where fewer are given than were made, and then
     /// nothing changes.
     pub fn close<R: Wait>(
         self,
@@ -214,8 +225,10 @@ impl<B: Steps + Drop> ShownDesk<B> {
     ) -> Result<B, ShownSeatsMissing<B>>
         requires { All (IsSeatOf self) seats.items }
         ensures book { IfOk result (λ book. IsBookOf self.start
-            (told B.history B.room (λ _. self.start.book.wall.mark) book)) }
+            (told B.history B.room (λ _. self.start.book.wall.mark) (λ _. self.start.book.sure) book)) }
         ensures known { IfOk result (λ book. All (Knows (B.history book).entries) seats.items) }
+        ensures kept { IfOk result (λ book. All (λ seat.
+            AreKept (B.kept book) (B.history book).opening (take seat.sure (B.history book).entries)) seats.items) }
         ensures all { IfOk result (λ book. self.start.seats ≤ length seats.items) }
         ensures missing { IfErr result (λ missing. (missing.desk ≡ self) × (missing.seats ≡ seats)
             × (length seats.items < self.start.seats)) }

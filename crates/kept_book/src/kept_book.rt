@@ -176,6 +176,7 @@ impl<B: Steps + Drop, D: Device> Steps for KeptBook<B, D> {
         ensures room { B.room self.new.book ≡ B.room self.old.book }
         ensures mark { B.mark self.new.book ≡ B.mark self.old.book }
         ensures kept { IfOk result (λ s. OnTrue s.kept (Tells (D.kept self.new.device) (journal (B.history self.new.book)))) }
+        ensures unkept { IfOk result (λ s. OnFalse s.kept (D.kept self.new.device ≡ D.kept self.old.device)) }
         ensures grows { Begins (D.kept self.old.device) (D.kept self.new.device) }
 
         // An entry is told as kept exactly where the device has had no fault, and after a fault the device is asked nothing any more.

@@ -24,8 +24,9 @@ use std::sync::Wait;
 use std::thread::Threads;
 
 /// Serves 1 to 63 lines at a desk that was opened for as many, as `watch_lines` does: the line of an entry is put only where the entry's own
-/// line is kept, and where it can't be kept the session is told so and ends. It gives the book as it stands when all sessions have ended,
-/// and takes all memory of its own before it asks the first line.
+/// line is kept, and where it can't be kept the session is told so and ends. So what is kept at the end begins with the journal of a history that
+/// has each entry whose line was put, whatever faults the device had. It gives the book as it stands when all sessions have ended, and takes all
+/// memory of its own before it asks the first line.
 pub fn serve_kept<D: Device + Send, R: Threads + Wait + Sync>(
     rt: &R,
     alloc: Global,
@@ -39,7 +40,7 @@ pub fn serve_kept<D: Device + Send, R: Threads + Wait + Sync>(
     ensures opening { IfOk result (λ kept. (⟦<Book<FastCore> as Booked>⟧.history kept.book).opening ≡ opened.opening) }
     ensures legal { IfOk result (λ kept. IsLegal (⟦<Book<FastCore> as Booked>⟧.history kept.book)) }
     ensures served { IfOk result (λ kept. AreAllServed
-        (watched_with false opened.quota opened.opening (length (⟦<Book<FastCore> as Booked>⟧.history opened.book.book).entries)
+        (watched_with false (D.kept kept.device) opened.quota opened.opening (length (⟦<Book<FastCore> as Booked>⟧.history opened.book.book).entries)
         (⟦<Book<FastCore> as Booked>⟧.history kept.book).entries)
         (⟦<Book<FastCore> as Booked>⟧.history opened.book.book).entries (⟦<Book<FastCore> as Booked>⟧.history kept.book).entries
         (lines_of ⟦<(dyn CallerLine + Send) as CallerLine>⟧ lines.old.items)

@@ -9,3 +9,4 @@ mod WatchLemmas
 mod WatchAnswerLemmas
 mod WatchLineLemmas
 mod PutLemmas
+mod SureLemmas

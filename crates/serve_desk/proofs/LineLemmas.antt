@@ -97,18 +97,18 @@ All-left posts later seats seat line gate attends as_many back k e within =
     let is : a.behind ≡ get_or seats k e = cc (a.has, has) in
     subst (λ s. IsSeatOf gate s) is a.of_desk
 
--- what one post makes one line, at the seat of its number, by what the book has then
-abbrev pub AttendsOne : {P : Type 0} → (P → Option SeatValue) → (P → LineValue) → GateValue → List P → List P → Told → List EntryValue → OneLine → Type 0
-AttendsOne {P} seat line gate posts later book more One = (i : ℕ) (d : P) (known : SeatValue) → i < length posts → seat (get_or posts i d) ≡ Some (new_seat gate (1 + i)) → seat (get_or later i d) ≡ Some known
-    → Knows book.entries known → One (i + 1) (own more (i + 1)) (line (get_or posts i d)) (line (get_or later i d))
+-- what one post makes one line, at the seat of its number, by what the book has then, and what is known of the seat
+abbrev pub AttendsOne : {P : Type 0} → (SeatValue → Type 0) → (P → Option SeatValue) → (P → LineValue) → GateValue → List P → List P → Told → List EntryValue → OneLine → Type 0
+AttendsOne {P} Of seat line gate posts later book more One = (i : ℕ) (d : P) (known : SeatValue) → i < length posts → seat (get_or posts i d) ≡ Some (new_seat gate (1 + i)) → seat (get_or later i d) ≡ Some known
+    → Knows book.entries known → Of known → One (i + 1) (own more (i + 1)) (line (get_or posts i d)) (line (get_or later i d))
 
 -- all lines, at the seats of a new desk
-AreServed-attended : {P : Type 0} (One : OneLine) (seat : P → Option SeatValue) (line : P → LineValue) (gate : GateValue) (posts later : List P) (seats : List SeatValue) (book : Told)
-    → (of_gate : IsBookOf gate.start book) → AttendsOne seat line gate posts later book of_gate.later One
+AreServed-attended : {P : Type 0} (Of : SeatValue → Type 0) (One : OneLine) (seat : P → Option SeatValue) (line : P → LineValue) (gate : GateValue) (posts later : List P) (seats : List SeatValue) (book : Told)
+    → (of_gate : IsBookOf gate.start book) → AttendsOne Of seat line gate posts later book of_gate.later One
     → length later ≡ length posts → gate.start.seats ≡ length posts → map seat posts ≡ map (λ s. Some s) (new_seats gate 1 (length posts)) → map (λ s. Some s) seats ≡ map seat later
-    → All (Knows book.entries) seats
+    → All (Knows book.entries) seats → All Of seats
     → AreAllServed One gate.start.book.entries book.entries (map line posts) (map line later)
-AreServed-attended {P} One seat line gate posts later seats book of_gate attends as_many count new back knows =
+AreServed-attended {P} Of One seat line gate posts later seats book of_gate attends as_many count new back knows are =
     let n : length (map line posts) ≡ length posts = length-map posts line in
     let one : (i : ℕ) (x : LineValue) → i < length (map line posts) → One (i + 1) (own of_gate.later (i + 1)) (get_or (map line posts) i x) (get_or (map line later) i x) =
     λ i x within.
@@ -120,7 +120,7 @@ AreServed-attended {P} One seat line gate posts later seats book of_gate attends
     let had : seat (get_or posts i d) ≡ Some (new_seat gate (1 + i)) = seat-at seat posts (new_seats gate 1 (length posts)) i d e new here ∙ ap (λ s. Some s) (new_seats-at gate 1 (length posts) i e here) in
     let has : seat (get_or later i d) ≡ Some (get_or seats i e) = seat-at seat later seats i d e (sym back) there in
     let k : Knows book.entries (get_or seats i e) = knows i e (omega arith) in
-    let served = attends i d (get_or seats i e) here had has k in
+    let served = attends i d (get_or seats i e) here had has k (are i e (omega arith)) in
     subst (λ l. One (i + 1) (own of_gate.later (i + 1)) l (get_or (map line later) i x)) (sym (get_or-map line posts i d x here))
     (subst (λ l. One (i + 1) (own of_gate.later (i + 1)) (line (get_or posts i d)) l) (sym (get_or-map line later i d x there)) served)
     in
@@ -137,15 +137,15 @@ map-map f g [] = refl
 map-map f g (x ∷ xs) = ap (λ ys. g (f x) ∷ ys) (map-map f g xs)
 
 -- the lines of a list, which were taken to posts with the seats of a new desk, and back
-pub AreServed-all : {P L : Type 0} (One : OneLine) (posts later : List P) (lines served : List L) (made seats : List SeatValue) (seat : P → Option SeatValue) (line : P → L) (value : L → LineValue) (gate : GateValue)
-    (many : ℕ) (book : Told) → (of_gate : IsBookOf gate.start book) → AttendsOne seat (λ p. value (line p)) gate posts later book of_gate.later One
+pub AreServed-all : {P L : Type 0} (Of : SeatValue → Type 0) (One : OneLine) (posts later : List P) (lines served : List L) (made seats : List SeatValue) (seat : P → Option SeatValue) (line : P → L) (value : L → LineValue) (gate : GateValue)
+    (many : ℕ) (book : Told) → (of_gate : IsBookOf gate.start book) → AttendsOne Of seat (λ p. value (line p)) gate posts later book of_gate.later One
     → length later ≡ length posts → map line posts ≡ lines → served ≡ map line later → made ≡ new_seats gate 1 many → map seat posts ≡ map (λ s. Some s) made
-    → map (λ s. Some s) seats ≡ map seat later → gate.start.seats ≡ many → many ≡ length lines → All (Knows book.entries) seats
+    → map (λ s. Some s) seats ≡ map seat later → gate.start.seats ≡ many → many ≡ length lines → All (Knows book.entries) seats → All Of seats
     → AreAllServed One gate.start.book.entries book.entries (map value lines) (map value served)
-AreServed-all One posts later lines served made seats seat line value gate many book of_gate attends as_many taken left new had back began count knows =
+AreServed-all Of One posts later lines served made seats seat line value gate many book of_gate attends as_many taken left new had back began count knows are =
     let long : length lines ≡ length posts = ap length (sym taken) ∙ length-map posts line in
     let seated : map seat posts ≡ map (λ s. Some s) (new_seats gate 1 (length posts)) = had ∙ ap (λ l. map (λ s. Some s) l) (new ∙ ap (new_seats gate 1) (count ∙ long)) in
-    let all = AreServed-attended One seat (λ p. value (line p)) gate posts later seats book of_gate attends as_many (began ∙ (count ∙ long)) seated back knows in
+    let all = AreServed-attended Of One seat (λ p. value (line p)) gate posts later seats book of_gate attends as_many (began ∙ (count ∙ long)) seated back knows are in
     let here : map (λ p. value (line p)) posts ≡ map value lines = sym (map-map line value posts) ∙ ap (map value) taken in
     let there : map (λ p. value (line p)) later ≡ map value served = sym (map-map line value later) ∙ ap (map value) (sym left) in
     subst (λ l. AreAllServed One gate.start.book.entries book.entries l (map value served)) here
@@ -154,8 +154,8 @@ AreServed-all One posts later lines served made seats seat line value gate many 
 -- each by a session without looks
 pub AttendsOne-session : {P : Type 0} (seat : P → Option SeatValue) (line : P → LineValue) (gate : GateValue) (posts later : List P) (book : Told) → (of_gate : IsBookOf gate.start book)
     → ((i : ℕ) (d : P) → i < length posts → Attends gate (seat (get_or posts i d)) (seat (get_or later i d)) (line (get_or posts i d)) (line (get_or later i d)))
-    → AttendsOne seat line gate posts later book of_gate.later (λ number. IsServed gate.start.quota)
-AttendsOne-session seat line gate posts later book of_gate attends i d known within had has knows =
+    → AttendsOne (λ s. Unit {0}) seat line gate posts later book of_gate.later (λ number. IsServed gate.start.quota)
+AttendsOne-session seat line gate posts later book of_gate attends i d known within had has knows of =
     IsServed-attends gate of_gate.later book.entries i (seat (get_or posts i d)) (seat (get_or later i d)) known (line (get_or posts i d)) (line (get_or later i d)) (attends i d within) had has knows (sym of_gate.begins)
 
 -- at a desk that began so

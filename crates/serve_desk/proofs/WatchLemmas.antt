@@ -1,5 +1,5 @@
 -- A session with looks, answer by answer.
-use Rattle.std.proofs.Common.{◌≡◌, ℕ, ◌+◌, ◌-◌, ◌<◌, List, [], ◌++◌, length, None, Some, refl, sym, ap, ◌∙◌, subst, arith}
+use Rattle.std.proofs.Common.{◌≡◌, ◌≢◌, ◌≤◌, ℕ, ◌+◌, ◌-◌, ◌<◌, List, [], ◌++◌, length, None, Some, refl, sym, ap, ◌∙◌, subst, arith}
 use Rattle.std.specs.declared.option.Option.{Option}
 use Rattle.caller_lines.specs.Given.{Given}
 use Rattle.caller_lines.specs.LineCalls.{LineCall}
@@ -8,19 +8,22 @@ use Rattle.desk_model.specs.statements.Entry.{EntryValue}
 use Rattle.desk_model.specs.histories.History.{history_of}
 use Rattle.desk_model.specs.histories.Legal.{IsLegal}
 use Rattle.desk_model.specs.statements.Opening.{OpeningValue}
+use Rattle.desk_shared.specs.Kept.{KnowsOnlySure}
 use Rattle.turn_gate.specs.Seats.{SeatValue}
 use Rattle.turn_gate.specs.Told.{own}
 use Rattle.serve_desk.specs.declared.limits.TheConstants.{LINES_PER_CALLER}
 use Rattle.serve_desk.specs.declared.why.Why.{Why}
+use Rattle.serve_desk.specs.declared.why.Why.TheVariants as reason
 use Rattle.serve_desk.specs.Session.{lines_in, asked_then_put}
 use Rattle.serve_desk.specs.Seats.{Made}
 use Rattle.serve_desk.specs.Told.{with_all, LineValue}
 use Rattle.serve_desk.specs.WatchAnswers.{Sight, AnswersWatched}
 use Rattle.serve_desk.specs.WatchFollows.{Act, FollowsWatched, as_it_is_served, a_call_behind, a_look, a_look_that_is_not_put, too_few_calls_left, a_crew_call, a_crew_call_behind, no_memory_for_a_request, a_call_not_kept, a_crew_call_not_kept}
-use Rattle.serve_desk.specs.WatchSession.{GoesOnWatched, it_begins, it_goes_on, it_ends}
+use Rattle.serve_desk.specs.WatchSession.{GoesOnWatched, it_begins, it_goes_on, it_ends, put_of}
 use Rattle.serve_desk.specs.Watches.{Watches}
 use Rattle.serve_desk.proofs.SeatLemmas.{Made-none, Made-then}
 use Rattle.serve_desk.proofs.SessionLemmas.{IsLineMore, goes-on, left-behind}
+use Rattle.serve_desk.proofs.SureLemmas.{HasSure-ends}
 use Rattle.serve_desk.proofs.SightLemmas.{SeenSoFar, SeenSoFar-more, Sees-so}
 use Rattle.serve_desk.proofs.ToldLemmas.{with_all-none, with_all-more, lines_in-line}
 
@@ -99,19 +102,22 @@ AnswersWatched-few o heard left now later after next seen sees more = (goes-on-w
 -- the last answer
 pub Watches-ends : (o : OpeningValue) (quota heard made_with had has : ℕ) (line now later : LineValue) (seat after next : SeatValue) (view seen sees : FrontValue) (why : Why)
     → WatchedSoFar o (quota - seat.calls) heard made_with line now seat after view seen → AnswersWatched o heard (quota - after.calls) now later after next seen sees (Some why)
-    → IsLegal (history_of o sees.entries) → seat.calls + had ≡ quota → next.calls + has ≡ quota
+    → IsLegal (history_of o sees.entries) → seat.calls + had ≡ quota → next.calls + has ≡ quota → KnowsOnlySure after → after.sure ≤ next.sure
+    → (why ≢ reason.JournalFault → KnowsOnlySure next)
     → Watches o (quota - seat.calls) made_with line later seat next view sees why (had - has)
-Watches-ends o quota heard made_with had has line now later seat after next view seen sees why so more legal left still =
+Watches-ends o quota heard made_with had has line now later seat after next view seen sees why so more legal left still sure no_fewer all =
     let made : Made o seat next (so.entries ++ more.entries) = Made-then o seat after next so.entries more.entries so.made more.made in
     record {
       calls = so.calls ++ asked_then_put more.gave more.texts;
       entries = so.entries ++ more.entries;
       acts = so.acts ++ more.acts;
+      put = put_of why so.entries more.entries;
       session = it_ends so.calls so.entries so.acts more.gave more.entries more.texts more.acts why so.goes_on
           (follows-here o quota heard made_with line now seat after view seen more.gave more.entries more.texts more.acts (Some why) so more.follows);
       told = more.told ∙ ap (λ xs. with_all xs (asked_then_put more.gave more.texts)) so.told ∙ with_all-more line.calls so.calls (asked_then_put more.gave more.texts);
       made = made;
       counted = omega (arith, made.calls);
+      sure = HasSure-ends seat after next so.entries more.entries why sure no_fewer all more.made.begins so.made.own_calls made.own_calls;
       sees = Sees-so o made_with view.entries seat.number (own seat.known seat.number) sees.entries next.known (so.acts ++ more.acts) legal
           (SeenSoFar-more o made_with view.entries seat.number (own seat.known seat.number) seen.entries sees.entries after.known next.known so.acts more.acts so.sight
           (sight-here o seat after next seen.entries sees.entries so.entries more.acts so.made more.sight));

@@ -1,5 +1,5 @@
 -- All lines served at one desk with looks.
-use Rattle.std.proofs.Common.{◌≡◌, Bool, ℕ, ◌+◌, ◌<◌, ◌≤◌, List, length, get_or, take, map, Some, IsSome, refl, sym, ap, ◌∙◌, subst, arith}
+use Rattle.std.proofs.Common.{◌≡◌, Bool, ℕ, ◌+◌, ◌<◌, ◌≤◌, List, ◌++◌, length, get_or, take, map, Some, IsSome, refl, sym, ap, ◌∙◌, subst, arith}
 use Rattle.std.specs.declared.option.Option.{Option}
 use Rattle.std.specs.List.{All}
 use Rattle.std.proofs.lemmas.List.{get_or-map, length-map}
@@ -7,6 +7,7 @@ use mathlib.Core.List.{IsPrefix}
 use Rattle.board_window.specs.Walls.{FrontValue}
 use Rattle.desk_model.specs.statements.Entry.{EntryValue}
 use Rattle.desk_model.specs.statements.Opening.{OpeningValue}
+use Rattle.desk_shared.specs.Kept.{AreKept}
 use Rattle.desk_shared.specs.Shown.{IsViewOf}
 use Rattle.turn_gate.specs.Seats.{GateValue, SeatValue, IsSeatOf, new_seat, new_seats}
 use Rattle.turn_gate.specs.Told.{own, IsBookOf}
@@ -20,6 +21,7 @@ use Rattle.serve_desk.specs.WatchFollows.{Act}
 use Rattle.serve_desk.specs.WatchLines.{IsWatched, IsManned, AttendsWatched}
 use Rattle.serve_desk.specs.WatchSession.{SessionWatched}
 use Rattle.serve_desk.proofs.LineLemmas.{AttendsOne, seat-at, new_seats-at, length-new_seats, own-served, own-more, some_element, map-map}
+use Rattle.serve_desk.proofs.SureLemmas.{own-begins, take-begins}
 use Rattle.serve_desk.proofs.SightLemmas.{prefix-self, prefix-trans, prefix-length, take-prefix, take-front, take-all, AreSeen-longer}
 
 -- the last entry that was shown, and the last that was before a look, are among those that are known
@@ -51,11 +53,12 @@ Sees-all o made_with begun here seen known all number mine acts more made from s
 }
 
 -- one line, at the seat of its number
-pub AttendsOne-watched : {P : Type 0} (always : Bool) (seat : P → Option SeatValue) (view : P → Option FrontValue) (line : P → LineValue) (gate : GateValue) (posts later : List P) (book : Told) → (of_gate : IsBookOf gate.start book)
+pub AttendsOne-watched : {P : Type 0} (always : Bool) (found : Option (List ℕ)) (seat : P → Option SeatValue) (view : P → Option FrontValue) (line : P → LineValue) (gate : GateValue) (posts later : List P) (book : Told) → (of_gate : IsBookOf gate.start book)
     → ((i : ℕ) (d : P) → i < length posts
     → AttendsWatched always gate (seat (get_or posts i d)) (seat (get_or later i d)) (view (get_or posts i d)) (view (get_or later i d)) (line (get_or posts i d)) (line (get_or later i d)))
-    → AttendsOne seat line gate posts later book of_gate.later (IsWatched always gate.start.quota gate.start.book.opening (length gate.start.book.entries) book.entries)
-AttendsOne-watched always seat view line gate posts later book of_gate attends i d known within had has knows =
+    → AttendsOne (λ s. AreKept found book.opening (take s.sure book.entries)) seat line gate posts later book of_gate.later
+    (IsWatched always found gate.start.quota gate.start.book.opening (length gate.start.book.entries) book.entries)
+AttendsOne-watched always found seat view line gate posts later book of_gate attends i d known within had has knows of =
     let a = attends i d within in
     let base = gate.start.book.entries in
     let all = book.entries in
@@ -73,11 +76,18 @@ AttendsOne-watched always seat view line gate posts later book of_gate attends i
     let sees = Sees-all gate.start.book.opening (length base) a.saw.entries base a.sees.entries a.behind.known all a.before.number (own a.before.known a.before.number) w.acts k.known far a.was_of_desk.saw w.sees in
     let by_number = subst (λ n. Sees gate.start.book.opening (length base) base a.sees.entries all n (own a.before.known n) w.acts) number sees in
     let by_base = subst (λ (l : List EntryValue). Sees gate.start.book.opening (length base) base a.sees.entries all (i + 1) (own l (i + 1)) w.acts) knew by_number in
+    let sure = prefix-trans (own a.before.known a.before.number ++ w.put) (own (take a.behind.sure a.behind.known) a.before.number) (own (take a.behind.sure all) a.before.number) w.sure
+    (own-begins (take a.behind.sure a.behind.known) (take a.behind.sure all) a.before.number (take-begins a.behind.sure a.behind.known all k.known)) in
+    let sure_by_number = subst (λ n. IsPrefix (own a.before.known n ++ w.put) (own (take a.behind.sure all) n)) number sure in
     record {
       calls = w.calls;
       acts = w.acts;
       why = a.why;
-      session = subst (λ es. SessionWatched gate.start.quota w.calls es w.acts a.why) mine (subst (λ n. SessionWatched n w.calls w.entries w.acts a.why) (omega arith) w.session);
+      put = w.put;
+      session = subst (λ es. SessionWatched gate.start.quota w.calls es w.acts a.why w.put) mine (subst (λ n. SessionWatched n w.calls w.entries w.acts a.why w.put) (omega arith) w.session);
+      sure = a.behind.sure;
+      are_kept = subst (λ o. AreKept found o (take a.behind.sure all)) of_gate.opening (subst (λ s. AreKept found book.opening (take s.sure all)) (sym behind) of);
+      are_sure = subst (λ l. IsPrefix (own l (i + 1) ++ w.put) (own (take a.behind.sure all) (i + 1))) (knew ∙ sym front) sure_by_number;
       told = w.told;
       seen = a.sees.entries;
       sees = subst (λ (l : List EntryValue). Sees gate.start.book.opening (length base) l a.sees.entries all (i + 1) (own l (i + 1)) w.acts) (sym front) by_base;
@@ -90,8 +100,8 @@ AttendsOne-watched always seat view line gate posts later book of_gate attends i
 -- posts whose seats are a new desk's, and whose views are of it, are manned
 pub All-manned : {P Q : Type 0} (posts : List P) (viewed : List Q) (seats : List SeatValue) (views : List FrontValue) (seat : P → Option SeatValue) (line : P → Q) (view : Q → Option FrontValue) (gate : GateValue) (many : ℕ)
     → map line posts ≡ viewed → map seat posts ≡ map (λ s. Some s) seats → map view viewed ≡ map (λ v. Some v) views → seats ≡ new_seats gate 1 many → All (IsSeatOf gate) seats → All (IsViewOf gate) views
-    → All (λ v. v.entries ≡ gate.start.book.entries) views → All (λ post. IsManned gate (seat post) (view (line post))) posts
-All-manned posts viewed seats views seat line view gate many taken had shown new each looks saw k d within =
+    → All (λ v. v.entries ≡ gate.start.book.entries) views → gate.start.book.sure ≡ length gate.start.book.entries → All (λ post. IsManned gate (seat post) (view (line post))) posts
+All-manned posts viewed seats views seat line view gate many taken had shown new each looks saw all_sure k d within =
     let s_long : length seats ≡ length posts = sym (length-map seats (λ s. Some s)) ∙ (ap length (sym had) ∙ length-map posts seat) in
     let seen : map (λ p. view (line p)) posts ≡ map (λ v. Some v) views = sym (map-map line view posts) ∙ (ap (map view) taken ∙ shown) in
     let v_long : length views ≡ length posts = sym (length-map views (λ v. Some v)) ∙ (ap length (sym seen) ∙ length-map posts (λ p. view (line p))) in
@@ -112,6 +122,7 @@ All-manned posts viewed seats views seat line view gate many taken had shown new
         looks = looks k v v_near;
         saw = subst (λ (l : List EntryValue). IsPrefix gate.start.book.entries l) (sym (saw k v v_near)) (prefix-self gate.start.book.entries);
       };
+      sure = omega (arith, all_sure, ap (λ x. length x.known) is_new, ap (λ x. x.sure) is_new);
     }
 
 -- after their sessions all posts have a view, and a seat of the desk
@@ -143,7 +154,7 @@ All-seated-still always posts later seats seat view value gate attends as_many b
     subst (λ s. IsSeatOf gate s) is a.of_desk.sits
 
 -- at a desk that began so
-pub AreWatched-began : (always : Bool) (start begun : Start) (all : List EntryValue) (lines later : List LineValue) → start ≡ begun
-    → AreAllServed (IsWatched always start.quota start.book.opening (length start.book.entries) all) start.book.entries all lines later
-    → AreAllServed (IsWatched always begun.quota begun.book.opening (length begun.book.entries) all) begun.book.entries all lines later
-AreWatched-began always start begun all lines later is served = subst (λ k. AreAllServed (IsWatched always k.quota k.book.opening (length k.book.entries) all) k.book.entries all lines later) is served
+pub AreWatched-began : (always : Bool) (found : Option (List ℕ)) (start begun : Start) (all : List EntryValue) (lines later : List LineValue) → start ≡ begun
+    → AreAllServed (IsWatched always found start.quota start.book.opening (length start.book.entries) all) start.book.entries all lines later
+    → AreAllServed (IsWatched always found begun.quota begun.book.opening (length begun.book.entries) all) begun.book.entries all lines later
+AreWatched-began always found start begun all lines later is served = subst (λ k. AreAllServed (IsWatched always found k.quota k.book.opening (length k.book.entries) all) k.book.entries all lines later) is served

@@ -4,6 +4,7 @@ use Rattle.caller_lines.specs.Given.{Given}
 use Rattle.caller_lines.specs.LineCalls.{LineCall}
 use Rattle.desk_model.specs.statements.Entry.{EntryValue}
 use Rattle.serve_desk.specs.declared.why.Why.{Why}
+use Rattle.serve_desk.specs.declared.why.Why.TheVariants as why
 use Rattle.serve_desk.specs.Session.{lines_in, asked_then_put}
 use Rattle.serve_desk.specs.WatchFollows.{Act, FollowsWatched}
 
@@ -15,8 +16,13 @@ pub data GoesOnWatched (left : ℕ) : List LineCall → List EntryValue → List
       → GoesOnWatched left calls entries acts → FollowsWatched (lines_in calls) (left - length entries) gave more texts further None
       → GoesOnWatched left (calls ++ asked_then_put gave texts) (entries ++ more) (acts ++ further)
 
--- a session that has ended, and why: the last that the line gave ends it, and none before
-pub data SessionWatched (left : ℕ) : List LineCall → List EntryValue → List Act → Why → Type 0 where
+-- the entries of which lines may have been put: all, but where the journal had a fault those of the last answer
+abbrev pub put_of : Why → List EntryValue → List EntryValue → List EntryValue
+put_of why.JournalFault before last = before
+put_of other before last = before ++ last
+
+-- a session that has ended, and why: the last that the line gave ends it, and none before. Beside it the entries of which lines may have been put
+pub data SessionWatched (left : ℕ) : List LineCall → List EntryValue → List Act → Why → List EntryValue → Type 0 where
   it_ends : (calls : List LineCall) (entries : List EntryValue) (acts : List Act) (gave : Given) (more : List EntryValue) (texts : List (List ℕ)) (further : List Act) (why : Why)
       → GoesOnWatched left calls entries acts → FollowsWatched (lines_in calls) (left - length entries) gave more texts further (Some why)
-      → SessionWatched left (calls ++ asked_then_put gave texts) (entries ++ more) (acts ++ further) why
+      → SessionWatched left (calls ++ asked_then_put gave texts) (entries ++ more) (acts ++ further) why (put_of why entries more)

@@ -2,6 +2,8 @@
 ghost use Rattle.std.specs.Prelude.{true, ◌≡◌, ◌+◌, ◌*◌, ◌<◌, ◌≤◌, ℕ, length, vec_len, None, Some, IfOk, IsErr, IsSome, slice_index_or};
 ghost use Rattle.std.specs.List.{All};
 ghost use Rattle.desk_model.specs.histories.Legal.{IsLegal};
+ghost use Rattle.desk_model.specs.texts.Journal.{journal};
+ghost use Rattle.journal_device.specs.Device.{Tells};
 ghost use Rattle.serve_desk.specs.AllLines.{AreAllServed};
 ghost use Rattle.serve_desk.specs.Told.{line_of, lines_of};
 ghost use Rattle.serve_desk.specs.WatchLines.{IsManned, AttendsWatched, watched_with};
@@ -21,9 +23,10 @@ use std::sync::Wait;
 use std::thread::{self, Threads};
 use turn_gate::Seat;
 
-/// Serves 1 to 63 lines at one desk over the book, which was opened so, with so many calls of each, as `serve_lines` does, and answers their
+/// Serves 1 to 63 lines at one desk over the book, which was opened so and whose whole journal is kept, with so many calls of each, as `serve_lines` does, and answers their
 /// looks beside: each line has a view of the desk's boards. The line of an entry that isn't told as kept is not put: the session is told
-/// that the journal had a fault, and ends.
+/// that the journal had a fault, and ends. So each entry whose line was put is among those that are kept when all sessions have ended, faults
+/// or not.
 pub fn watch_lines<B: Steps + Drop + Send, R: Threads + Wait + Sync>(
     rt: &R,
     alloc: Global,
@@ -38,12 +41,13 @@ pub fn watch_lines<B: Steps + Drop + Send, R: Threads + Wait + Sync>(
     requires calls { 1 ≤ quota }
     requires room { length (B.history book).entries + vec_len lines.old * quota
         ≤ B.room book }
+    requires kept { Tells (B.kept book) (journal (B.history book)) }
     ensures opening { IfOk result (λ after. (B.history after).opening
         ≡ (B.history book).opening) }
     ensures room { IfOk result (λ after. B.room after ≡ B.room book) }
     ensures legal { IfOk result (λ after. IsLegal (B.history after)) }
     ensures watched { IfOk result (λ after. AreAllServed
-        (watched_with B.always quota (B.history book).opening (length (B.history book).entries)
+        (watched_with B.always (B.kept after) quota (B.history book).opening (length (B.history book).entries)
         (B.history after).entries)
         (B.history book).entries (B.history after).entries
         (lines_of ⟦<(dyn CallerLine + Send) as CallerLine>⟧ lines.old.items)

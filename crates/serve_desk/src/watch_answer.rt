@@ -7,6 +7,7 @@ ghost use Rattle.desk_model.specs.texts.Journal.{entry_line};
 ghost use Rattle.serve_desk.specs.Looks.{behind};
 ghost use Rattle.serve_desk.specs.Told.{line_of};
 ghost use Rattle.serve_desk.specs.Answers.{PutsOn};
+ghost use Rattle.desk_shared.specs.Kept.{KnowsOnlySure};
 ghost use Rattle.serve_desk.specs.WatchAnswers.{IsCallerOf, PutsAllOn, RepliesWatched, AnswersWatched};
 
 use crate::answered_watched::AnsweredWatched;
@@ -39,6 +40,7 @@ pub(crate) fn answer_watched<B: Steps + Drop, R: Wait>(
     line: &mut Box<dyn CallerLine + Send>,
 ) -> AnsweredWatched<B>
     requires caller { IsCallerOf desk.now seat view.old }
+    requires sure { KnowsOnlySure seat }
     requires heard { heard ≤ LINES_PER_CALLER }
     ensures answers { AnswersWatched desk.now.start.book.opening heard (desk.now.start.quota - seat.calls)
         (line_of (faults line.old) (calls line.old))
@@ -52,6 +54,8 @@ pub(crate) fn answer_watched<B: Steps + Drop, R: Wait>(
     ensures settled { result.ends ≢ None → result.ends ≢ Some Why.LineFault → result.ends ≢ Some Why.JournalFault
         → settled line.new }
     ensures kept { B.always ≡ true → result.ends ≢ Some Why.JournalFault }
+    ensures sure { result.ends ≢ Some Why.JournalFault → KnowsOnlySure result.seat }
+    ensures no_fewer { seat.sure ≤ result.seat.sure }
 {
     match hear_next_request(alloc, entry_lines.last_stated(), line) {
         Request::Look { board, position } => AnsweredWatched {
@@ -129,6 +133,7 @@ fn reply<B: Steps + Drop, R: Wait>(
     line: &mut Box<dyn CallerLine + Send>,
 ) -> AnsweredWatched<B>
     requires caller { IsCallerOf desk.now seat view.old }
+    requires sure { KnowsOnlySure seat }
     requires heard { heard ≤ LINES_PER_CALLER }
     requires not_end { said ≢ Said.End }
     requires no_fault { said ≢ Said.LineFault }
@@ -142,6 +147,8 @@ fn reply<B: Steps + Drop, R: Wait>(
     ensures settled { result.ends ≢ None → result.ends ≢ Some Why.LineFault → result.ends ≢ Some Why.JournalFault
         → settled line.new }
     ensures kept { B.always ≡ true → result.ends ≢ Some Why.JournalFault }
+    ensures sure { result.ends ≢ Some Why.JournalFault → KnowsOnlySure result.seat }
+    ensures no_fewer { seat.sure ≤ result.seat.sure }
 {
     if heard == LINES_PER_CALLER {
         let ends = put_on(line, TOO_MANY, Some(Why::TooManyLines));
@@ -177,6 +184,7 @@ fn call<B: Steps + Drop, R: Wait>(
     line: &mut Box<dyn CallerLine + Send>,
 ) -> AnsweredWatched<B>
     requires caller { IsCallerOf desk.now seat view.old }
+    requires sure { KnowsOnlySure seat }
     ensures replies { (heard : ℕ) → heard < LINES_PER_CALLER
         → RepliesWatched desk.now.start.book.opening heard (desk.now.start.quota - seat.calls)
         (calls line.old) (calls line.new) (Request.Said (Said.Command stated)) seat result.seat view.old view.new result.ends }
@@ -188,6 +196,8 @@ fn call<B: Steps + Drop, R: Wait>(
     ensures settled { result.ends ≢ None → result.ends ≢ Some Why.LineFault → result.ends ≢ Some Why.JournalFault
         → settled line.new }
     ensures kept { B.always ≡ true → result.ends ≢ Some Why.JournalFault }
+    ensures sure { result.ends ≢ Some Why.JournalFault → KnowsOnlySure result.seat }
+    ensures no_fewer { seat.sure ≤ result.seat.sure }
 {
     a_desk_has_one_wall();
     what_one_entry_more_makes_known();

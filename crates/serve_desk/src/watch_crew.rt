@@ -6,6 +6,7 @@ ghost use Rattle.crew_call.specs.CrewCalls.{somes};
 ghost use Rattle.desk_model.specs.texts.Journal.{entry_line};
 ghost use Rattle.serve_desk.specs.Crews.{crew_texts};
 ghost use Rattle.serve_desk.specs.Looks.{behind};
+ghost use Rattle.desk_shared.specs.Kept.{KnowsOnlySure};
 ghost use Rattle.serve_desk.specs.WatchAnswers.{IsCallerOf, PutsAllOn, RepliesWatched};
 
 use crate::answered_watched::AnsweredWatched;
@@ -41,6 +42,7 @@ pub(crate) fn crew<B: Steps + Drop, R: Wait>(
     line: &mut Box<dyn CallerLine + Send>,
 ) -> AnsweredWatched<B>
     requires caller { IsCallerOf desk.now seat view.old }
+    requires sure { KnowsOnlySure seat }
     requires heard { heard ≤ LINES_PER_CALLER }
     requires minute { IsInYears minute }
     ensures replies { RepliesWatched desk.now.start.book.opening heard (desk.now.start.quota - seat.calls)
@@ -53,6 +55,8 @@ pub(crate) fn crew<B: Steps + Drop, R: Wait>(
     ensures settled { result.ends ≢ None → result.ends ≢ Some Why.LineFault → result.ends ≢ Some Why.JournalFault
         → settled line.new }
     ensures kept { B.always ≡ true → result.ends ≢ Some Why.JournalFault }
+    ensures sure { result.ends ≢ Some Why.JournalFault → KnowsOnlySure result.seat }
+    ensures no_fewer { seat.sure ≤ result.seat.sure }
 {
     if heard == LINES_PER_CALLER {
         let ends = put_on(line, TOO_MANY, Some(Why::TooManyLines));

@@ -1,6 +1,7 @@
 //! One line served at a seat with a view.
 ghost use Rattle.std.specs.Prelude.{true, ◌≡◌, ◌≢◌, ◌-◌, ◌≤◌, length};
 ghost use Rattle.desk_io.specs.Faults.{Rose};
+ghost use Rattle.desk_shared.specs.Kept.{KnowsOnlySure};
 ghost use Rattle.serve_desk.specs.Told.{line_of};
 ghost use Rattle.serve_desk.specs.WatchAnswers.{IsCallerOf};
 ghost use Rattle.serve_desk.specs.Watches.{Watches};
@@ -30,7 +31,8 @@ pub fn session_watched<B: Steps + Drop, R: Wait>(
     view: View,
     line: &mut Box<dyn CallerLine + Send>,
 ) -> EndedWatched<B>
-    requires { IsCallerOf desk.now seat view }
+    requires caller { IsCallerOf desk.now seat view }
+    requires sure { KnowsOnlySure seat }
     ensures watches { Watches desk.now.start.book.opening (desk.now.start.quota - seat.calls) (length desk.now.start.book.entries)
         (line_of (faults line.old) (calls line.old))
         (line_of (faults line.new) (calls line.new))

@@ -45,9 +45,9 @@ module _ {A : Type 0} where
 one-more : (n : ℕ) → n < 4294967296 → (n + 1) % 2 ^ 64 ≡ n + 1
 one-more n fits = omega arith
 
-numbered-knows : (number : ℕ) (known : List EntryValue) (l : List Note) → total (is_numbered number) (map (knows known) l) ≡ total (is_numbered number) l
-numbered-knows number known [] = refl
-numbered-knows number known (a ∷ l) = ap (λ (n : ℕ). is_numbered number a + n) (numbered-knows number known l)
+numbered-knows : (number : ℕ) (now : Told) (l : List Note) → total (is_numbered number) (map (knows now) l) ≡ total (is_numbered number) l
+numbered-knows number now [] = refl
+numbered-knows number now (a ∷ l) = ap (λ (n : ℕ). is_numbered number a + n) (numbered-knows number now l)
 
 parted : (f : Note → ℕ) (l : List Note) → total f (other_notes l) + total f (first_note l) ≡ total f l
 parted f [] = refl
@@ -97,7 +97,7 @@ module _ {B : Type 0} (tell : B → Told) (k : Start) where
   moves : (s : St) (r : Rule s) (id : ℕ) (v w : View) → get_elem? s.views id ≡ some v → (words : List ℕ) (homes : Homes) (next serving : ℕ) (now : Told)
       → words ≡ next ∷ serving ∷ [] → ((number : ℕ) → numbered number w ≡ numbered number v) → notes w ≡ notes v
       → next + calls v ≡ r.next + calls w → serving + r.next + busy w ≡ next + r.serving + busy v
-      → IsView k next serving now.entries w → ((j : ℕ) (u : View) → j ≢ id → get_elem? s.views j ≡ some u → IsView k next serving now.entries u)
+      → IsView k next serving now w → ((j : ℕ) (u : View) → j ≢ id → get_elem? s.views j ≡ some u → IsView k next serving now u)
       → ((ticket j : ℕ) (u : View) → j ≢ id → get_elem? s.views j ≡ some u → HasTicket w.phase ticket → ¬ HasTicket u.phase ticket)
       → Slot homes (set s.views id w) now → length now.entries ≡ serving → IsBookOf k now
       → Rule record { words = words; homes = homes; views = set s.views id w }
@@ -110,7 +110,7 @@ module _ {B : Type 0} (tell : B → Told) (k : Start) where
     all_notes = let t = total-set notes s.views id v w at in let n = r.all_notes in omega arith;
     all_calls = let t = total-set calls s.views id v w at in let n = r.all_calls in omega arith;
     all_busy = let t = total-set busy s.views id v w at in let n = r.all_busy in omega arith;
-    each = views-set (IsView k next serving now.entries) s.views id w mine others;
+    each = views-set (IsView k next serving now) s.views id w mine others;
     apart = apart-set s r id w apart;
     slot = slot;
     long = long;
@@ -120,7 +120,7 @@ module _ {B : Type 0} (tell : B → Told) (k : Start) where
   -- notes pass from one view to another, and nobody's phase changes
   reshaped : (s : St) (r : Rule s) (views : List View) → ((number : ℕ) → total (numbered number) views ≡ total (numbered number) s.views) → total notes views ≡ total notes s.views
       → total calls views ≡ total calls s.views → total busy views ≡ total busy s.views
-      → ((j : ℕ) (u : View) → get_elem? views j ≡ some u → IsView k r.next r.serving r.now.entries u)
+      → ((j : ℕ) (u : View) → get_elem? views j ≡ some u → IsView k r.next r.serving r.now u)
       → ((j : ℕ) (u : View) → get_elem? views j ≡ some u → (u.phase ≡ Idle) ⊎ (get_elem? s.views j ≡ some u))
       → ((j : ℕ) (u : View) → get_elem? s.views j ≡ some u → IsTurn u.phase → get_elem? views j ≡ some u)
       → Rule record { words = s.words; homes = s.homes; views = views }
@@ -172,7 +172,7 @@ module _ {B : Type 0} (tell : B → Told) (k : Start) where
 
   -- whoever has the turn has its ticket, and nobody else has it
   turn-of : (s : St) (r : Rule s) (j : ℕ) (u : View) → get_elem? s.views j ≡ some u → IsTurn u.phase → HasTicket u.phase r.serving
-  turn-of s r j u at turn = turn-ticket r.next r.serving (length u.notes) r.now.entries u.phase (r.each j u at).phase turn
+  turn-of s r j u at turn = turn-ticket r.next r.serving (length u.notes) r.now u.phase (r.each j u at).phase turn
 
   pub draws : (slots id : ℕ) (me : Me (Option B) View) → me.0.phase ≡ Idle → length me.0.notes ≡ 1 → me.0.calls < k.quota → end k < 4294967296
       → Allows Rule slots id me 0 (λ n. (n + 1) % 2 ^ 64) (drew (step slots 0 1 0 none) me)
@@ -193,8 +193,8 @@ module _ {B : Type 0} (tell : B → Told) (k : Start) where
               calls = subst (λ (n : ℕ). v.calls + 1 ≤ k.quota * n) (sym one) (omega arith);
               phase = (one, served s r, omega arith);
             })
-            (λ j u other there. let e = r.each j u there in record { start = e.start; notes = e.notes; calls = e.calls; phase = phase-drawn r.next r.serving (length u.notes) r.now.entries u.phase e.phase })
-            (λ ticket j u other there mine too. let t = ticket-in r.next r.serving (length u.notes) ticket r.now.entries u.phase (r.each j u there).phase too in omega arith)
+            (λ j u other there. let e = r.each j u there in record { start = e.start; notes = e.notes; calls = e.calls; phase = phase-drawn r.next r.serving (length u.notes) r.now u.phase e.phase })
+            (λ ticket j u other there mine too. let t = ticket-in r.next r.serving (length u.notes) ticket r.now u.phase (r.each j u there).phase too in omega arith)
             (slot-stays s.homes s.views r.now id v w at (λ turn. subst IsTurn idle turn) (λ turn. turn) r.slot)
             r.long
             r.book,
@@ -202,11 +202,11 @@ module _ {B : Type 0} (tell : B → Told) (k : Start) where
       )
 
   taken-known : (s : St) (r : Rule s) (id : ℕ) (v : View) (x : ℕ) (b : B) → get_elem? s.views id ≡ some v → v.phase ≡ Waiting x → r.serving ≡ x → v.start ≡ k → tell b ≡ r.now → IsTaken v x (tell b)
-  taken-known s r id v x b at is same start told = let was = r.each id v at in let p = subst (IsPhase r.next r.serving r.now.entries (length v.notes)) is was.phase in let most = bounded s r in record {
+  taken-known s r id v x b at is same start told = let was = r.each id v at in let p = subst (IsPhase r.next r.serving r.now (length v.notes)) is was.phase in let most = bounded s r in record {
     place = subst (λ (z : Start). x < end z) (sym start) (omega arith);
     long = ap (λ (t : Told). length t.entries) told ∙ (r.long ∙ same);
     of_gate = subst (λ (z : Start). IsBookOf z (tell b)) (sym start) (subst (IsBookOf k) (sym told) r.book);
-    notes = λ m a there. subst (λ (z : Start). IsNote z.seats (tell b).entries a) (sym start) (subst (λ (t : Told). IsNote k.seats t.entries a) (sym told) (was.notes m a there));
+    notes = λ m a there. subst (λ (z : Start). IsNote z.seats (tell b) a) (sym start) (subst (λ (t : Told). IsNote k.seats t a) (sym told) (was.notes m a there));
   }
 
   abbrev Looks : (id : ℕ) (me : Me (Option B) View) (s : St) → List ℕ → Type 0
@@ -221,17 +221,17 @@ module _ {B : Type 0} (tell : B → Told) (k : Start) where
   looks-mine id me s r x is start at same =
       let v : View = me.0 in
       let was = r.each id v at in
-      let phase = subst (IsPhase r.next r.serving r.now.entries (length v.notes)) is was.phase in
+      let phase = subst (IsPhase r.next r.serving r.now (length v.notes)) is was.phase in
       let ticket : HasTicket v.phase r.serving = subst (λ p. HasTicket p r.serving) (sym is) (sym same) in
       let most = bounded s r in
       ⊎_elim
       (λ (h : IsHome tell s.homes s.views r.now).
-      let w : View = turns v r.serving (tell h.book).entries in (
+      let w : View = turns v r.serving (tell h.book) in (
         w,
         takes 0 (Some h.book),
         ap (λ hs. get_elem? hs 0) h.home,
         moves s r id v w at (r.next ∷ r.serving ∷ []) (set s.homes 0 none) r.next r.serving r.now refl (λ number. refl) refl (omega arith) (let b = ap busy_in is in omega arith)
-            (record { start = was.start; notes = was.notes; calls = was.calls; phase = (phase.0, refl, omega arith, ap (λ (t : Told). t.entries) h.told) })
+            (record { start = was.start; notes = was.notes; calls = was.calls; phase = (phase.0, refl, omega arith, h.told) })
             (λ j u other there. r.each j u there)
             (λ t j u other there mine too. other (r.apart j id u v t there at too (subst (HasTicket v.phase) mine ticket)))
             (inr (record { away = ap (λ hs. set hs 0 none) h.home; seat = id; view = w; there = set-there s.views id v w at; turn = tt }))
@@ -240,7 +240,7 @@ module _ {B : Type 0} (tell : B → Told) (k : Start) where
         (
           subst (λ (z : Start). r.serving ≤ end z) (sym start) (omega arith),
           λ t now_is. let e = waiting-is v.phase x t is now_is in record {
-            mine = λ found. (h.book, ap (λ (n : ℕ). turns v n (tell h.book).entries) found, refl, subst (λ (n : ℕ). IsTaken v n (tell h.book)) e (taken-known s r id v x h.book at is same start h.told));
+            mine = λ found. (h.book, ap (λ (n : ℕ). turns v n (tell h.book)) found, refl, subst (λ (n : ℕ). IsTaken v n (tell h.book)) e (taken-known s r id v x h.book at is same start h.told));
             other = λ not. absurd (not (same ∙ e));
           },
         ),
@@ -278,8 +278,8 @@ module _ {B : Type 0} (tell : B → Told) (k : Start) where
   same-carried : (l : List (ℕ × Option B)) (b c : B) → l ≡ (0, Some b) ∷ [] → l ≡ (0, Some c) ∷ [] → b ≡ c
   same-carried l b c is again = ap (book-or b) (sym is ∙ again)
 
-  note-one : (seats : ℕ) (entries : List EntryValue) (a : Note) → IsNumber seats a.number → (m : ℕ) (b : Note) → get_elem? (knows entries a ∷ []) m ≡ some b → IsNote seats entries b
-  note-one seats entries a number m b at = subst (IsNote seats entries) (at-single (knows entries a) m b at).1 (note-all seats entries a number)
+  note-one : (seats : ℕ) (now : Told) (a : Note) → IsNumber seats a.number → (m : ℕ) (b : Note) → get_elem? (knows now a ∷ []) m ≡ some b → IsNote seats now b
+  note-one seats now a number m b at = subst (IsNote seats now) (at-single (knows now a) m b at).1 (note-all seats now a number)
 
   -- another's note has another number
   numbers-differ : (s : St) (r : Rule s) (id j : ℕ) (v u : View) (a b : Note) (m : ℕ) → j ≢ id → get_elem? s.views id ≡ some v → get_elem? s.views j ≡ some u → v.notes ≡ a ∷ [] → get_elem? u.notes m ≡ some b → a.number ≢ b.number
@@ -292,22 +292,23 @@ module _ {B : Type 0} (tell : B → Told) (k : Start) where
       let both = total-two (numbered a.number) s.views j id u v other there at in
       omega arith
 
-  pub gives_back : (slots id : ℕ) (me : Me (Option B) View) (x : ℕ) (l : List EntryValue) (a : Note) (b : B) (e : EntryValue) → me.0.phase ≡ Turn x l → me.0.notes ≡ a ∷ [] → me.1 ≡ (0, Some b) ∷ []
-      → (tell b).entries ≡ l ++ e ∷ [] → e.caller ≡ a.number → (tell b).opening ≡ k.book.opening → (tell b).room ≡ k.book.room → (tell b).wall ≡ k.book.wall → end k < 4294967296
+  pub gives_back : (slots id : ℕ) (me : Me (Option B) View) (x : ℕ) (taken : Told) (a : Note) (b : B) (e : EntryValue) → me.0.phase ≡ Turn x taken → me.0.notes ≡ a ∷ [] → me.1 ≡ (0, Some b) ∷ []
+      → (tell b).entries ≡ taken.entries ++ e ∷ [] → e.caller ≡ a.number → (tell b).opening ≡ k.book.opening → (tell b).room ≡ k.book.room → (tell b).wall ≡ k.book.wall → taken.sure ≤ (tell b).sure → end k < 4294967296
       → Allows Rule slots id me 1 (λ n. (n + 1) % 2 ^ 64) (passed tell (step slots 1 1 0 none) me)
-  gives_back slots id me x l a b e is note carried more caller opening room wall fits s r deep at wide =
+  gives_back slots id me x taken a b e is note carried more caller opening room wall sure fits s r deep at wide =
       let v : View = me.0 in
       let now : Told = tell b in
-      let w : View = passes v now.entries in
+      let w : View = passes v now in
       let was = r.each id v at in
-      let phase = subst (IsPhase r.next r.serving r.now.entries (length v.notes)) is was.phase in
+      let phase = subst (IsPhase r.next r.serving r.now (length v.notes)) is was.phase in
       let ticket : HasTicket v.phase r.serving = subst (λ p. HasTicket p r.serving) (sym is) phase.1 in
       let turn : IsTurn v.phase = subst IsTurn (sym is) tt in
       let number = (was.notes 0 a (ap (λ (n : List Note). get_elem? n 0) note)).number in
       let low = served s r in
       let most = bounded s r in
-      let grown : now.entries ≡ r.now.entries ++ e ∷ [] = more ∙ ap (λ (n : List EntryValue). n ++ e ∷ []) phase.3 in
-      let long : length v.notes ≡ length w.notes = sym (length-map v.notes (knows now.entries)) in
+      let grown : now.entries ≡ r.now.entries ++ e ∷ [] = more ∙ ap (λ (t : Told). t.entries ++ e ∷ []) phase.3 in
+      let grows : r.now.sure ≤ now.sure = (let same = ap (λ (t : Told). t.sure) phase.3 in omega arith) in
+      let long : length v.notes ≡ length w.notes = sym (length-map v.notes (knows now)) in
       let not-served : (j : ℕ) (u : View) → j ≢ id → get_elem? s.views j ≡ some u → ¬ HasTicket u.phase r.serving = λ j u other there too. other (r.apart j id u v r.serving there at too ticket) in
       let away : s.homes ≡ none ∷ [] = ⊎_elim (λ (h : IsHome tell s.homes s.views r.now). absurd (h.nobody id v at turn)) (λ (o : IsOut s.homes s.views). o.away) r.slot in
       subst (λ (ws : List ℕ). (y : View) × (act : Act (Option B)) × Valid s.homes me.1 act
@@ -316,18 +317,18 @@ module _ {B : Type 0} (tell : B → Told) (k : Start) where
         gives,
         tt,
         moves s r id v w at (r.next ∷ (r.serving + 1) % 2 ^ 64 ∷ []) (put_back s.homes me.1) r.next (r.serving + 1) now
-            (ap (λ (n : ℕ). r.next ∷ n ∷ []) (one-more r.serving (omega arith))) (λ n. numbered-knows n now.entries v.notes) (sym long) (omega arith) (let c = ap busy_in is in omega arith)
+            (ap (λ (n : ℕ). r.next ∷ n ∷ []) (one-more r.serving (omega arith))) (λ n. numbered-knows n now v.notes) (sym long) (omega arith) (let c = ap busy_in is in omega arith)
             (record {
               start = λ have. was.start (omega arith);
-              notes = subst (λ (n : List Note). (m : ℕ) (c : Note) → get_elem? (map (knows now.entries) n) m ≡ some c → IsNote k.seats now.entries c) (sym note) (note-one k.seats now.entries a number);
+              notes = subst (λ (n : List Note). (m : ℕ) (c : Note) → get_elem? (map (knows now) n) m ≡ some c → IsNote k.seats now c) (sym note) (note-one k.seats now a number);
               calls = subst (λ (n : ℕ). v.calls ≤ k.quota * n) long was.calls;
               phase = tt;
             })
             (λ j u other there. let o = r.each j u there in record {
               start = o.start;
-              notes = λ m c one. subst (λ (n : List EntryValue). IsNote k.seats n c) (sym grown) (note-later k.seats r.now.entries e c (λ same. numbers-differ s r id j v u a c m other at there note one (sym caller ∙ same)) (o.notes m c one));
+              notes = λ m c one. note-later k.seats r.now now e c grown grows (λ same. numbers-differ s r id j v u a c m other at there note one (sym caller ∙ same)) (o.notes m c one);
               calls = o.calls;
-              phase = phase-passed r.next r.serving (length u.notes) r.now.entries now.entries u.phase o.phase (not-served j u other there);
+              phase = phase-passed r.next r.serving (length u.notes) r.now now u.phase o.phase (not-served j u other there);
             })
             (λ t j u other there mine. absurd mine)
             (inl (record {
@@ -345,7 +346,7 @@ module _ {B : Type 0} (tell : B → Told) (k : Start) where
               begins = sym (append_assoc k.book.entries r.book.later (e ∷ [])) ∙ (ap (λ (n : List EntryValue). n ++ e ∷ []) r.book.begins ∙ sym grown);
               callers = All-append (λ c. IsNumber k.seats c.caller) r.book.later (e ∷ []) r.book.callers (All-cons (λ c. IsNumber k.seats c.caller) e [] (subst (IsNumber k.seats) (sym caller) number) (λ i d within. absurd (omega arith)));
             }),
-        (ap rest carried, λ c again. let same = same-carried me.1 b c carried again in ap (λ z. passes v (tell z).entries) same),
+        (ap rest carried, λ c again. let same = same-carried me.1 b c carried again in ap (λ z. passes v (tell z)) same),
       )
 
   pub deals : (id : ℕ) (v : View) → v.phase ≡ Idle → v.calls ≡ 0 → 0 < length v.notes → Splits Rule id v (kept v) (dealt v)
@@ -353,7 +354,7 @@ module _ {B : Type 0} (tell : B → Told) (k : Start) where
       let w : View = kept v in
       let o : View = dealt v in
       let was = r.each id v at in
-      let phase : IsPhase r.next r.serving r.now.entries (length w.notes) v.phase = subst (IsPhase r.next r.serving r.now.entries (length w.notes)) (sym idle) tt in
+      let phase : IsPhase r.next r.serving r.now (length w.notes) v.phase = subst (IsPhase r.next r.serving r.now (length w.notes)) (sym idle) tt in
       let none = ap busy_in idle in
       reshaped s r (set s.views id w ++ o ∷ [])
       (λ n. let p = total-push (numbered n) (set s.views id w) o in let t = total-set (numbered n) s.views id v w at in let e = parted (is_numbered n) v.notes in omega arith)
@@ -361,10 +362,10 @@ module _ {B : Type 0} (tell : B → Told) (k : Start) where
       (let p = total-push calls (set s.views id w) o in let t = total-set calls s.views id v w at in omega arith)
       (let p = total-push busy (set s.views id w) o in let t = total-set busy s.views id v w at in omega arith)
       (λ j u there. ⊎_elim
-      (views-set (IsView k r.next r.serving r.now.entries) s.views id w
+      (views-set (IsView k r.next r.serving r.now) s.views id w
       (record { start = λ more. was.start have; notes = λ m a note. was.notes (suc m) a (other-at v.notes m a note); calls = omega arith; phase = phase }) (λ i x _ here. r.each i x here) j u)
-      (λ (t : o ≡ u). subst (IsView k r.next r.serving r.now.entries) t
-      (record { start = λ more. was.start have; notes = λ m a note. was.notes 0 a (first-at v.notes m a note); calls = omega arith; phase = subst (IsPhase r.next r.serving r.now.entries (length o.notes)) (sym idle) tt }))
+      (λ (t : o ≡ u). subst (IsView k r.next r.serving r.now) t
+      (record { start = λ more. was.start have; notes = λ m a note. was.notes 0 a (first-at v.notes m a note); calls = omega arith; phase = subst (IsPhase r.next r.serving r.now (length o.notes)) (sym idle) tt }))
       (at_snoc (set s.views id w) o u j there))
       (λ j u there. ⊎_elim
       (λ (a : get_elem? (set s.views id w) j ≡ some u). ⊎_elim (λ (b : (j ≡ id) × (w ≡ u)). inl (subst (λ (x : View). x.phase ≡ Idle) b.1 idle)) (λ (b : (j ≢ id) × (get_elem? s.views j ≡ some u)). inr b.1) (at_set s.views id j w u a))
@@ -386,14 +387,14 @@ module _ {B : Type 0} (tell : B → Told) (k : Start) where
       (let a = total-set notes s.views id v j at in let b = total-set notes middle other w spent there in let c = length-append w.notes v.notes in omega arith)
       (let a = total-set calls s.views id v j at in let b = total-set calls middle other w spent there in omega arith)
       (let a = total-set busy s.views id v j at in let b = total-set busy middle other w spent there in omega arith)
-      (views-set (IsView k r.next r.serving r.now.entries) middle other spent
+      (views-set (IsView k r.next r.serving r.now) middle other spent
       (record { start = λ more. absurd (omega arith); notes = λ m a note. absurd (some-ne-none a (sym note)); calls = omega arith; phase = tt })
-      (λ i u _ one. views-set (IsView k r.next r.serving r.now.entries) s.views id j
+      (λ i u _ one. views-set (IsView k r.next r.serving r.now) s.views id j
       (record {
         start = λ more. start;
         notes = λ m a note. ⊎_elim (λ (t : (n : ℕ) × (get_elem? w.notes n ≡ some a)). too.notes t.0 a t.1) (λ (t : (n : ℕ) × (get_elem? v.notes n ≡ some a)). was.notes t.0 a t.1) (at-either w.notes v.notes m a note);
         calls = let a = was.calls in let b = too.calls in let c = mul-add k.quota (length w.notes) (length v.notes) in let d = ap (λ (n : ℕ). k.quota * n) (length-append w.notes v.notes) in omega arith;
-        phase = subst (IsPhase r.next r.serving r.now.entries (length j.notes)) (sym idle) tt;
+        phase = subst (IsPhase r.next r.serving r.now (length j.notes)) (sym idle) tt;
       }) (λ i x _ one. r.each i x one) i u one))
       (λ i u one. ⊎_elim (λ (t : (i ≡ other) × (spent ≡ u)). inl (subst (λ (x : View). x.phase ≡ Idle) t.1 refl))
       (λ (t : (i ≢ other) × (get_elem? middle i ≡ some u)). ⊎_elim (λ (b : (i ≡ id) × (j ≡ u)). inl (subst (λ (x : View). x.phase ≡ Idle) b.1 idle)) (λ (b : (i ≢ id) × (get_elem? s.views i ≡ some u)). inr b.1) (at_set s.views id i j u t.1))
@@ -409,13 +410,13 @@ module _ {B : Type 0} (tell : B → Told) (k : Start) where
     serving = n;
     now = k.book;
     words = refl;
-    numbers = λ number low high. let once = once_numbered number 1 k.seats k.book.entries low (omega arith) in omega arith;
-    all_notes = let long = length-notes_from 1 k.seats k.book.entries in omega arith;
+    numbers = λ number low high. let once = once_numbered number 1 k.seats k.book low (omega arith) in omega arith;
+    all_notes = let long = length-notes_from 1 k.seats k.book in omega arith;
     all_calls = omega arith;
     all_busy = omega arith;
-    each = λ j v at. subst (IsView k n n k.book.entries) (at-single (first_view k) j v at).1 (record {
+    each = λ j v at. subst (IsView k n n k.book) (at-single (first_view k) j v at).1 (record {
       start = λ more. refl;
-      notes = λ m a note. note-new k.seats k.book.entries 1 k.seats m a (omega arith) (omega arith) note;
+      notes = λ m a note. note-new k.seats k.book 1 k.seats m a (omega arith) (omega arith) note;
       calls = omega arith;
       phase = tt;
     });
@@ -431,7 +432,7 @@ module _ {B : Type 0} (tell : B → Told) (k : Start) where
     pub at : get_elem? xs 0 ≡ some (Some book)
     pub last : IsLast tell k book
     pub of_gate : IsBookOf k (tell book)
-    pub notes : (m : ℕ) (a : Note) → get_elem? v.notes m ≡ some a → IsNote k.seats (tell book).entries a
+    pub notes : (m : ℕ) (a : Note) → get_elem? v.notes m ≡ some a → IsNote k.seats (tell book) a
 
   pub finished : (id : ℕ) (v : View) (ws : List ℕ) (xs : List (Option B)) → v.phase ≡ Idle → k.seats ≤ length v.notes → Final (Seen Rule id v) ws xs → IsClosed v xs
   finished id v ws xs idle all final =
@@ -445,10 +446,10 @@ module _ {B : Type 0} (tell : B → Told) (k : Start) where
         at = final.4 0 (Some h.book) (ap (λ hs. get_elem? hs 0) h.home);
         last = record { state = s; rule = r; home = h.home };
         of_gate = subst (IsBookOf k) (sym h.told) r.book;
-        notes = λ m a note. subst (λ (t : Told). IsNote k.seats t.entries a) (sym h.told) (was.notes m a note);
+        notes = λ m a note. subst (λ (t : Told). IsNote k.seats t a) (sym h.told) (was.notes m a note);
       })
       (λ (o : IsOut s.homes s.views).
-      let one = turn-one r.next r.serving (length o.view.notes) r.now.entries o.view.phase (r.each o.seat o.view o.there).phase o.turn in
+      let one = turn-one r.next r.serving (length o.view.notes) r.now o.view.phase (r.each o.seat o.view o.there).phase o.turn in
       let other : o.seat ≢ id = λ same. subst IsTurn idle (subst (λ (x : View). IsTurn x.phase) (one-at s.views o.seat id o.view v o.there at same) o.turn) in
       let both = total-two notes s.views o.seat id o.view v other o.there at in
       let have = r.all_notes in

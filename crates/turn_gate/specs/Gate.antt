@@ -4,7 +4,6 @@ use mathlib.Core.Option.{some, none}
 use mathlib.Core.Option as maybe
 use lib.ListN.{get_elem?}
 use Rattle.atomic_table.specs.Table.{State}
-use Rattle.desk_model.specs.statements.Entry.{EntryValue}
 use Rattle.turn_gate.specs.declared.note.Note.{Note}
 use Rattle.turn_gate.specs.declared.start.Start.{Start}
 use Rattle.turn_gate.specs.declared.told.Told.{Told}
@@ -14,11 +13,11 @@ use Rattle.turn_gate.specs.Notes.{total, numbered, notes, calls, busy, HasTicket
 
 -- a view: Histories, of each of its notes; at most the quota of calls for each note; Turn and Tickets, by its phase. Only a
 -- view with a note is of the gate
-pub record IsView (k : Start) (next serving : ℕ) (entries : List EntryValue) (v : View) : Type 0 where
+pub record IsView (k : Start) (next serving : ℕ) (now : Told) (v : View) : Type 0 where
   pub start : 0 < length v.notes → v.start ≡ k
-  pub notes : (m : ℕ) (a : Note) → get_elem? v.notes m ≡ some a → IsNote k.seats entries a
+  pub notes : (m : ℕ) (a : Note) → get_elem? v.notes m ≡ some a → IsNote k.seats now a
   pub calls : v.calls ≤ k.quota * length v.notes
-  pub phase : IsPhase next serving entries (length v.notes) v.phase
+  pub phase : IsPhase next serving now (length v.notes) v.phase
 
 -- the book is at home, as it is told, and nobody has the turn
 pub record IsHome {B : Type 0} (tell : B → Told) (homes : List (maybe.Option (Option B))) (views : List View) (now : Told) : Type 0 where
@@ -49,7 +48,7 @@ pub record Gated {B : Type 0} (tell : B → Told) (k : Start) (s : State (Option
   pub all_calls : base k + total calls s.views ≡ next
   -- Tickets: those that were drawn and are not served are of as many views, each of another
   pub all_busy : serving + total busy s.views ≡ next
-  pub each : (j : ℕ) (v : View) → get_elem? s.views j ≡ some v → IsView k next serving now.entries v
+  pub each : (j : ℕ) (v : View) → get_elem? s.views j ≡ some v → IsView k next serving now v
   pub apart : (i j : ℕ) (v w : View) (ticket : ℕ) → get_elem? s.views i ≡ some v → get_elem? s.views j ≡ some w → HasTicket v.phase ticket → HasTicket w.phase ticket → i ≡ j
   -- Slot: empty exactly where a view has the turn; the book has as many entries as were served, and keeps what it began with
   pub slot : IsHome tell s.homes s.views now ⊎ IsOut s.homes s.views

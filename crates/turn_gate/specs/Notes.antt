@@ -5,6 +5,7 @@ use Rattle.desk_model.specs.statements.Entry.{EntryValue}
 use Rattle.turn_gate.specs.declared.note.Note.{Note}
 use Rattle.turn_gate.specs.declared.phase.Phase.{Phase}
 use Rattle.turn_gate.specs.declared.phase.Phase.TheVariants.{Idle, Waiting, Turn}
+use Rattle.turn_gate.specs.declared.told.Told.{Told}
 use Rattle.turn_gate.specs.declared.view.View.{View}
 use Rattle.turn_gate.specs.Told.{own, IsNumber}
 
@@ -45,15 +46,16 @@ IsTurn Idle = ⊥
 IsTurn (Waiting ticket) = ⊥
 IsTurn (Turn ticket taken) = Unit {0}
 
--- Histories: a note's list begins the book's, which has no more entries of its seat
-pub record IsNote (seats : ℕ) (entries : List EntryValue) (a : Note) : Type 0 where
+-- Histories: a note's list begins the book's, which has no more entries of its seat, and no fewer that are sure
+pub record IsNote (seats : ℕ) (now : Told) (a : Note) : Type 0 where
   pub number : IsNumber seats a.number
-  pub known : IsPrefix a.known entries
-  pub own : own entries a.number ≡ own a.known a.number
+  pub known : IsPrefix a.known now.entries
+  pub own : own now.entries a.number ≡ own a.known a.number
+  pub sure : a.sure ≤ now.sure
 
 -- Tickets and Turn: who has a ticket has one note; the ticket is not before the one that is served, and was drawn; the
 -- turn is that of the ticket that is served, and the book was taken as it is
-abbrev pub IsPhase : ℕ → ℕ → List EntryValue → ℕ → Phase → Type 0
-IsPhase next serving entries count Idle = Unit {0}
-IsPhase next serving entries count (Waiting ticket) = (count ≡ 1) × (serving ≤ ticket) × (ticket < next)
-IsPhase next serving entries count (Turn ticket taken) = (count ≡ 1) × (ticket ≡ serving) × (ticket < next) × (taken ≡ entries)
+abbrev pub IsPhase : ℕ → ℕ → Told → ℕ → Phase → Type 0
+IsPhase next serving now count Idle = Unit {0}
+IsPhase next serving now count (Waiting ticket) = (count ≡ 1) × (serving ≤ ticket) × (ticket < next)
+IsPhase next serving now count (Turn ticket taken) = (count ≡ 1) × (ticket ≡ serving) × (ticket < next) × (taken ≡ now)

@@ -9,8 +9,8 @@ use Rattle.turn_gate.specs.declared.terms.Terms.{Terms}
 use Rattle.turn_gate.specs.declared.told.Told.{Told}
 
 -- what a book tells of itself
-abbrev pub told : {B : Type 0} → (B → History) → (B → ℕ) → (B → Mark) → B → Told
-told history room mark b = record { opening = (history b).opening; entries = (history b).entries; room = room b; wall = record { mark = mark b } }
+abbrev pub told : {B : Type 0} → (B → History) → (B → ℕ) → (B → Mark) → (B → ℕ) → B → Told
+told history room mark sure b = record { opening = (history b).opening; entries = (history b).entries; room = room b; wall = record { mark = mark b }; sure = sure b }
 
 abbrev pub start_of : ℕ → ℕ → Told → Start
 start_of seats quota book = record { seats = seats; quota = quota; book = book }

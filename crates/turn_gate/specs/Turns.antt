@@ -23,30 +23,33 @@ pub record Took (seat : SeatValue) (turn : TurnValue) (book : Told) : Type 0 whe
   pub start : turn.start ≡ seat.start
   pub number : turn.number ≡ seat.number
   pub calls : turn.calls ≡ seat.calls + 1
-  pub taken : book.entries ≡ turn.taken
+  pub taken : book ≡ turn.taken
   pub place : length book.entries ≡ turn.place
   pub within : turn.place < end seat.start
   pub named : IsNumber seat.start.seats turn.number
   pub caller : turn.number ≤ LAST_CALLER
   pub of_gate : IsBookOf seat.start book
   pub knows : Knows book.entries seat
+  pub sure : seat.sure ≤ book.sure
 
--- the book may be given back: it has the list that it was taken with, and one entry more, of this seat's number
+-- the book may be given back: it has the list that it was taken with, and one entry more, of this seat's number; and no fewer are sure
 pub record MayGive (turn : TurnValue) (book : Told) : Type 0 where
   pub entry : EntryValue
-  pub more : book.entries ≡ turn.taken ++ entry ∷ []
+  pub more : book.entries ≡ turn.taken.entries ++ entry ∷ []
   pub caller : entry.caller ≡ turn.number
   pub opening : book.opening ≡ turn.start.book.opening
   pub room : book.room ≡ turn.start.book.room
   pub wall : book.wall ≡ turn.start.book.wall
+  pub sure : turn.taken.sure ≤ book.sure
 
--- the seat after its turn: it knows the book's list
+-- the seat after its turn: it knows the book's list, and how much of it is sure
 pub record Gave (turn : TurnValue) (book : Told) (seat : SeatValue) : Type 0 where
   pub table : seat.table ≡ turn.table
   pub start : seat.start ≡ turn.start
   pub number : seat.number ≡ turn.number
   pub calls : seat.calls ≡ turn.calls
   pub known : seat.known ≡ book.entries
+  pub sure : seat.sure ≡ book.sure
 
 -- the gate's rule holds at the end, with this book at home
 pub record IsLast {B : Type 0} (tell : B → Told) (k : Start) (book : B) : Type 0 where

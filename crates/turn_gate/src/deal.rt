@@ -3,14 +3,13 @@ ghost use Rattle.turn_gate.specs.Told.{told, start_from};
 ghost use Rattle.turn_gate.specs.Steps.{first_view};
 ghost use Rattle.turn_gate.specs.Seats.{gate_of, new_seats};
 
-use crate::Seat;
 use crate::steps::Deal;
 use crate::terms::Terms;
 use crate::tickets::{TableSeat, TicketTable};
-use desk_model::Booked;
+use crate::{Lasting, Seat};
 
 /// The seats of a new gate, each with a note of its own. There is room for them.
-pub(crate) fn deal<B: Booked>(
+pub(crate) fn deal<B: Lasting>(
     tickets: &TicketTable<B>,
     mut all: TableSeat<B>,
     terms: &Terms<B>,
@@ -19,11 +18,11 @@ pub(crate) fn deal<B: Booked>(
     requires key { tickets.now.shared.key ≡ terms.now }
     requires words { tickets.now.shared.table_id.words ≡ 2 }
     requires table { all.table_id ≡ tickets.now.shared.table_id }
-    requires me { all.me ≡ (first_view (start_from (told B.history B.room B.mark) terms.now), []) }
+    requires me { all.me ≡ (first_view (start_from (told B.history B.room B.mark B.sure) terms.now), []) }
     requires empty { made.items ≡ [] }
     requires room { terms.now.seats ≤ vec_capacity made }
     ensures { result.items
-        ≡ new_seats (gate_of tickets.now.shared.table_id (start_from (told B.history B.room B.mark) terms.now))
+        ≡ new_seats (gate_of tickets.now.shared.table_id (start_from (told B.history B.room B.mark B.sure) terms.now))
         1 terms.now.seats }
 {
     for i in 0..terms.seats {

@@ -10,9 +10,9 @@ use crate::steps::{Draw, FindServed, Pass};
 use crate::terms::Terms;
 use crate::tickets::TicketTable;
 use crate::waiters::Waiters;
-use crate::{Seat, Short, Spent, Turn};
+use crate::{Lasting, Seat, Short, Spent, Turn};
 use atomic_table::{Refused, Table};
-use desk_model::{Booked, LAST_CALLER};
+use desk_model::LAST_CALLER;
 use std::alloc::{AllocFailed, Global};
 use std::marker::Model;
 use std::snapshot::Snapshot;
@@ -20,13 +20,13 @@ use std::sync::Wait;
 
 /// A gate at which the callers of its seats take turns with one book.
 #[derive(Drop)]
-pub struct Gate<B: Booked> {
+pub struct Gate<B: Lasting> {
     table: TicketTable<B>,
     seats: u8,
     waiters: Waiters,
 }
 
-impl<B: Booked> Model for Gate<B> {
+impl<B: Lasting> Model for Gate<B> {
     ghost use Rattle.std.specs.Prelude.{◌≡◌, ◌<◌, ◌≤◌, ◌^◌};
     ghost use Rattle.desk_model.specs.declared.limits.TheConstants.{LAST_CALLER};
     ghost use Rattle.turn_gate.specs.Told.{told, start_from, end};
@@ -34,15 +34,15 @@ impl<B: Booked> Model for Gate<B> {
 
     ghost Value = { GateValue };
 
-    ghost view = { λ g. gate_of g.table.shared.table_id (start_from (told B.history B.room B.mark) g.table.shared.key) };
+    ghost view = { λ g. gate_of g.table.shared.table_id (start_from (told B.history B.room B.mark B.sure) g.table.shared.key) };
 
     ghost invariant = { λ g. (g.table.shared.table_id.words ≡ 2) × (g.table.shared.table_id.slots ≡ 1)
         × (g.seats ≡ g.table.shared.key.seats) × (g.seats ≤ LAST_CALLER)
-        × (end (start_from (told B.history B.room B.mark) g.table.shared.key) < 2 ^ 32)
+        × (end (start_from (told B.history B.room B.mark B.sure) g.table.shared.key) < 2 ^ 32)
         × (1 ≤ g.seats) };
 }
 
-impl<B: Booked> Gate<B> {
+impl<B: Lasting> Gate<B> {
     /// A gate for a book, with 1 to 63 seats and so many calls of each, with which the book has fewer than 2^32 entries; or, where
     /// memory was wanting, the book.
     pub fn new(alloc: Global, book: B, seats: u8, quota: u32) -> Result<(Gate<B>, Vec<Seat<B>>), B>
@@ -50,7 +50,7 @@ impl<B: Booked> Gate<B> {
         requires most { seats ≤ LAST_CALLER }
         requires calls { 1 ≤ quota }
         requires places { length (B.history book).entries + seats * quota < 2 ^ 32 }
-        ensures start { IfOk result (λ made. made.0.start ≡ start_of seats quota (told B.history B.room B.mark book)) }
+        ensures start { IfOk result (λ made. made.0.start ≡ start_of seats quota (told B.history B.room B.mark B.sure book)) }
         ensures seats { IfOk result (λ made. made.1.items ≡ new_seats made.0 1 seats) }
         ensures each { IfOk result (λ made. All (IsSeatOf made.0) made.1.items) }
         ensures back { IfErr result (λ same. same ≡ book) }
@@ -92,7 +92,7 @@ impl<B: Booked> Gate<B> {
     #[inline]
     pub fn take<R: Wait>(&self, rt: &R, seat: Seat<B>) -> Result<(Turn<B>, B), Spent<B>>
         requires { IsSeatOf self.now seat }
-        ensures took { IfOk result (λ t. Took seat t.0 (told B.history B.room B.mark t.1)) }
+        ensures took { IfOk result (λ t. Took seat t.0 (told B.history B.room B.mark B.sure t.1)) }
         ensures not_spent { IfOk result (λ t. seat.calls < seat.start.quota) }
         ensures spent { IfErr result (λ s. (s.seat ≡ seat) × (seat.calls ≡ seat.start.quota)) }
     {
@@ -122,12 +122,12 @@ impl<B: Booked> Gate<B> {
         unreachable!()
     }
 
-    /// Gives the book back, with one entry more, whose caller is the seat of the turn. The next turn is served.
+    /// Gives the book back, with one entry more, whose caller is the seat of the turn, and no fewer that are sure. The next turn is served.
     #[inline]
     pub fn give(&self, turn: Turn<B>, book: B) -> Seat<B>
         requires turn { IsTurnOf self.now turn }
-        requires book { MayGive turn (told B.history B.room B.mark book) }
-        ensures { Gave turn (told B.history B.room B.mark book) result }
+        requires book { MayGive turn (told B.history B.room B.mark B.sure book) }
+        ensures { Gave turn (told B.history B.room B.mark B.sure book) result }
     {
         let Turn {
             mut seat,
@@ -158,9 +158,10 @@ impl<B: Booked> Gate<B> {
     /// The book, where all seats are given; `Short` where fewer are given than were made, and then nothing changes.
     pub fn close(self, seats: Vec<Seat<B>>) -> Result<B, Short<B>>
         requires { All (IsSeatOf self) seats.items }
-        ensures book { IfOk result (λ book. IsBookOf self.start (told B.history B.room B.mark book)) }
+        ensures book { IfOk result (λ book. IsBookOf self.start (told B.history B.room B.mark B.sure book)) }
         ensures known { IfOk result (λ book. All (Knows (B.history book).entries) seats.items) }
-        ensures rule { IfOk result (λ book. IsLast (told B.history B.room B.mark) self.start book) }
+        ensures sure { IfOk result (λ book. All (λ seat. seat.sure ≤ B.sure book) seats.items) }
+        ensures rule { IfOk result (λ book. IsLast (told B.history B.room B.mark B.sure) self.start book) }
         ensures all { IfOk result (λ book. self.start.seats ≤ length seats.items) }
         ensures short { IfErr result (λ s. (s.gate ≡ self) × (s.seats ≡ seats)
             × (length seats.items < self.start.seats)) }

@@ -3,6 +3,7 @@
 
 mod deal;
 mod gate;
+mod lasting;
 mod laws;
 mod note;
 mod phase;
@@ -21,6 +22,7 @@ mod waiters;
 mod wall;
 
 pub use gate::Gate;
+pub use lasting::Lasting;
 pub use laws::what_one_entry_more_makes_known;
 pub use seat::Seat;
 pub use short::Short;

@@ -4,17 +4,16 @@ ghost use Rattle.turn_gate.specs.declared.phase.Phase.TheVariants.{Idle};
 ghost use Rattle.turn_gate.specs.Told.{told, start_from};
 ghost use Rattle.turn_gate.specs.Seats.{gate_of, IsSeatOf, noted};
 
-use crate::Seat;
 use crate::steps::Rejoin;
 use crate::tickets::{TableSeat, TicketTable};
-use desk_model::Booked;
+use crate::{Lasting, Seat};
 
 /// All notes of these seats together.
-pub(crate) fn rejoin<B: Booked>(tickets: &TicketTable<B>, mut seats: Vec<Seat<B>>) -> TableSeat<B>
+pub(crate) fn rejoin<B: Lasting>(tickets: &TicketTable<B>, mut seats: Vec<Seat<B>>) -> TableSeat<B>
     requires words { tickets.now.shared.table_id.words ≡ 2 }
     requires more { 0 < length seats.items }
     requires seats { All (IsSeatOf (gate_of tickets.now.shared.table_id
-        (start_from (told B.history B.room B.mark) tickets.now.shared.key))) seats.items }
+        (start_from (told B.history B.room B.mark B.sure) tickets.now.shared.key))) seats.items }
     ensures table { result.table_id ≡ tickets.now.shared.table_id }
     ensures notes { result.me.0.notes ≡ map noted seats.items }
     ensures idle { result.me.0.phase ≡ Idle }

@@ -13,7 +13,7 @@ pub struct Seat<B> {
 
 impl<B> Model for Seat<B> {
     ghost use Rattle.std.specs.Prelude.{◌≡◌, ◌+◌, []};
-    ghost use Rattle.turn_gate.specs.Seats.{SeatValue, seated, known_in};
+    ghost use Rattle.turn_gate.specs.Seats.{SeatValue, seated, known_in, sure_in};
 
     ghost Value = { SeatValue };
 
@@ -23,10 +23,15 @@ impl<B> Model for Seat<B> {
       number = s.number;
       known = known_in s.place.me.0.notes;
       calls = s.place.me.0.calls;
+      sure = sure_in s.place.me.0.notes;
     } };
 
     ghost invariant = { λ s.
-        (s.place.me ≡ (seated s.number (known_in s.place.me.0.notes) s.place.me.0.calls s.place.me.0.start, []))
+        (s.place.me ≡ (
+          seated s.number (known_in s.place.me.0.notes) (sure_in s.place.me.0.notes) s.place.me.0.calls
+              s.place.me.0.start,
+          [],
+        ))
         × (s.place.me.0.calls + s.left ≡ s.place.me.0.start.quota) };
 }
 
@@ -48,7 +53,7 @@ impl<B> Seat<B> {
     // What it is made of.
     pub(crate) fn into_parts(self) -> (TableSeat<B>, u8, u32)
         ensures table { result.0.table_id ≡ self.table }
-        ensures me { result.0.me ≡ (seated self.number self.known self.calls self.start, []) }
+        ensures me { result.0.me ≡ (seated self.number self.known self.sure self.calls self.start, []) }
         ensures number { result.1 ≡ self.number }
         ensures left { self.calls + result.2 ≡ self.start.quota }
     {

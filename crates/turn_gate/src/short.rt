@@ -1,9 +1,8 @@
-use crate::{Gate, Seat};
-use desk_model::Booked;
+use crate::{Gate, Lasting, Seat};
 
 /// Seats are missing, so the gate stays open. It and the seats come back.
 #[derive(Drop)]
-pub struct Short<B: Booked> {
+pub struct Short<B: Lasting> {
     /// The gate, as it was.
     pub gate: Gate<B>,
     /// The seats that were given.

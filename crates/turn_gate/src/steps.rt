@@ -1,12 +1,12 @@
 //! What each kind of step tells, and how notes are dealt and rejoined.
+use crate::Lasting;
 use crate::view::View;
 use atomic_table::{Join, Play, Split};
-use desk_model::Booked;
 
 /// A ticket is drawn.
 pub(crate) struct Draw;
 
-impl<B: Booked> Play<Option<B>, View> for Draw {
+impl<B: Lasting> Play<Option<B>, View> for Draw {
     ghost use Rattle.turn_gate.specs.Steps.{drew};
 
     ghost then = { drew };
@@ -15,21 +15,21 @@ impl<B: Booked> Play<Option<B>, View> for Draw {
 /// Whose ticket is served is found_served up; who has it has the book from then on.
 pub(crate) struct FindServed;
 
-impl<B: Booked> Play<Option<B>, View> for FindServed {
+impl<B: Lasting> Play<Option<B>, View> for FindServed {
     ghost use Rattle.turn_gate.specs.Told.{told};
     ghost use Rattle.turn_gate.specs.Steps.{found_served};
 
-    ghost then = { found_served (told B.history B.room B.mark) };
+    ghost then = { found_served (told B.history B.room B.mark B.sure) };
 }
 
 /// The book is back, and the next ticket is served.
 pub(crate) struct Pass;
 
-impl<B: Booked> Play<Option<B>, View> for Pass {
+impl<B: Lasting> Play<Option<B>, View> for Pass {
     ghost use Rattle.turn_gate.specs.Told.{told};
     ghost use Rattle.turn_gate.specs.Steps.{passed};
 
-    ghost then = { passed (told B.history B.room B.mark) };
+    ghost then = { passed (told B.history B.room B.mark B.sure) };
 }
 
 /// The first note goes to a seat of its own.

@@ -1,20 +1,20 @@
+use crate::Lasting;
 use crate::terms::Terms;
 use crate::view::View;
 use atomic_table::{Seat, Table, TableRule};
-use desk_model::Booked;
 use std::alloc::Global;
 
 /// The gate's rule.
 pub(crate) struct Tickets;
 
-impl<B: Booked> TableRule<Option<B>, View, Terms<B>> for Tickets {
+impl<B: Lasting> TableRule<Option<B>, View, Terms<B>> for Tickets {
     ghost use Rattle.turn_gate.specs.Told.{told, start_from};
     ghost use Rattle.turn_gate.specs.Gate.{Gated};
     ghost use Rattle.turn_gate.specs.Steps.{first_view};
 
-    ghost holds = { λ k. Gated (told B.history B.room B.mark) (start_from (told B.history B.room B.mark) k) };
+    ghost holds = { λ k. Gated (told B.history B.room B.mark B.sure) (start_from (told B.history B.room B.mark B.sure) k) };
 
-    ghost first = { λ k. first_view (start_from (told B.history B.room B.mark) k) };
+    ghost first = { λ k. first_view (start_from (told B.history B.room B.mark B.sure) k) };
 }
 
 /// Its table: word 0 is the next ticket, word 1 the ticket that is served, and the slot has the book.

@@ -13,7 +13,7 @@ pub struct Turn<B> {
 
 impl<B> Model for Turn<B> {
     ghost use Rattle.std.specs.Prelude.{◌≡◌, ◌+◌, [], ◌∷◌, None};
-    ghost use Rattle.turn_gate.specs.Seats.{TurnValue, turned, known_in, taken_in};
+    ghost use Rattle.turn_gate.specs.Seats.{TurnValue, turned, known_in, sure_in, taken_in};
 
     ghost Value = { TurnValue };
 
@@ -28,7 +28,7 @@ impl<B> Model for Turn<B> {
 
     ghost invariant = { λ t.
         (t.seat.me ≡ (
-          turned t.number (known_in t.seat.me.0.notes) t.seat.me.0.calls t.seat.me.0.start t.place
+          turned t.number (known_in t.seat.me.0.notes) (sure_in t.seat.me.0.notes) t.seat.me.0.calls t.seat.me.0.start t.place
               (taken_in t.seat.me.0),
           (0, None) ∷ [],
         ))

@@ -1,8 +1,8 @@
 //! How callers wait: at the door until the gate is free, and with a ticket until it is served.
 ghost use Rattle.std.specs.Prelude.{◌≡◌};
 
+use crate::Lasting;
 use crate::tickets::TicketTable;
-use desk_model::Booked;
 use std::array;
 use std::hint::spin_loop;
 use std::sync::Wait;
@@ -31,7 +31,7 @@ pub(crate) struct Waiters {
 
 // Nobody has the turn or waits for it.
 #[inline]
-fn is_free<B: Booked>(tickets: &TicketTable<B>) -> bool
+fn is_free<B: Lasting>(tickets: &TicketTable<B>) -> bool
     requires { tickets.now.shared.table_id.words ≡ 2 }
 {
     tickets.shared.peek(0) == tickets.shared.peek(1)
@@ -51,7 +51,7 @@ impl Waiters {
 
     /// Waits for a while where others have tickets, so that one who comes again at once need not hand over each time.
     #[inline]
-    pub(crate) fn come<R: Wait, B: Booked>(&self, rt: &R, tickets: &TicketTable<B>)
+    pub(crate) fn come<R: Wait, B: Lasting>(&self, rt: &R, tickets: &TicketTable<B>)
         requires { tickets.now.shared.table_id.words ≡ 2 }
     {
         if !is_free(tickets) {
@@ -61,7 +61,7 @@ impl Waiters {
 
     // A sign that a caller sleeps is set before its last look, and again by each caller who slept, since others may sleep too.
     #[cold]
-    fn wait_at_the_door<R: Wait, B: Booked>(&self, rt: &R, tickets: &TicketTable<B>)
+    fn wait_at_the_door<R: Wait, B: Lasting>(&self, rt: &R, tickets: &TicketTable<B>)
         requires { tickets.now.shared.table_id.words ≡ 2 }
     {
         for _ in 0..LOOKS_AT_THE_DOOR {
@@ -82,7 +82,7 @@ impl Waiters {
 
     /// Pauses after so many looks that found another ticket served.
     #[cold]
-    pub(crate) fn pause<R: Wait, B: Booked>(
+    pub(crate) fn pause<R: Wait, B: Lasting>(
         &self,
         rt: &R,
         tickets: &TicketTable<B>,
@@ -105,7 +105,7 @@ impl Waiters {
 
     /// After this ticket was served: wakes the caller with the next, or where there is none a caller at the door.
     #[inline]
-    pub(crate) fn go<B: Booked>(&self, tickets: &TicketTable<B>, ticket: u64)
+    pub(crate) fn go<B: Lasting>(&self, tickets: &TicketTable<B>, ticket: u64)
         requires { tickets.now.shared.table_id.words ≡ 2 }
     {
         let next = ticket.wrapping_add(1);

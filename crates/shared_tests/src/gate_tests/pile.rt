@@ -6,6 +6,7 @@ ghost use Rattle.desk_model.specs.declared.reply.Reply.TheVariants.{Done};
 use desk_base::{Minute, Month, PersonNo, Window};
 use desk_model::{Booked, Cmd, Edition, Entry, Opening, Reply, Stated};
 use std::alloc::Global;
+use turn_gate::Lasting;
 
 /// A book that is a heap of entries, all of one statement. It is not let go, but taken apart.
 pub(crate) struct Pile {
@@ -34,6 +35,13 @@ impl Booked for Pile {
     ghost use Rattle.std.proofs.Common.{rules};
 
     ghost within = { λ p. Prim.search rules };
+}
+
+// Each of its entries is sure.
+impl Lasting for Pile {
+    ghost use Rattle.std.specs.Prelude.{vec_len};
+
+    ghost sure = { λ p. vec_len p.entries };
 }
 
 impl Pile {

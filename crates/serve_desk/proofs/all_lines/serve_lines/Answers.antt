@@ -20,5 +20,5 @@ returns-clause-served g c =
     let attends = AttendsOne-session (λ post. post.seat) (λ post. let line = goal.CallerLine-dyn g (post.line.vtable, post.line.value) in line_of (line.faults post.line.value) (line.calls post.line.value)) _
     c.seat_lines.new.posts.items c.attend_all.new.posts.items _ c.in-Ok.ensures.book c.attend_all.ensures.each in
     AreServed-began _ _ _ _ _ c.in_ok-desk.ensures.start
-    (AreServed-all _ c.seat_lines.new.posts.items c.attend_all.new.posts.items _ _ _ _ (λ post. post.seat) (λ post. post.line) _ _ _ _ c.in-Ok.ensures.book attends (omega arith) c.seat_lines.ensures.lines
-    c.leave_posts.ensures.lines c.in_ok-desk.ensures.seats c.seat_lines.ensures.seats c.leave_posts.ensures.seats (ap (λ k. k.seats) c.in_ok-desk.ensures.start) (omega arith) c.in-Ok.ensures.known)
+    (AreServed-all (λ s. Unit {0}) _ c.seat_lines.new.posts.items c.attend_all.new.posts.items _ _ _ _ (λ post. post.seat) (λ post. post.line) _ _ _ _ c.in-Ok.ensures.book attends (omega arith) c.seat_lines.ensures.lines
+    c.leave_posts.ensures.lines c.in_ok-desk.ensures.seats c.seat_lines.ensures.seats c.leave_posts.ensures.seats (ap (λ k. k.seats) c.in_ok-desk.ensures.start) (omega arith) c.in-Ok.ensures.known (λ i d within. tt))

@@ -14,6 +14,7 @@ attend_all-requires-after_bounds g c κs bounds =
     All-manned c.seat_lines-2.new.posts.items c.seat_lines.new.posts.items c.in-Ok.made.1.items c.in-Ok.made.2.items (λ post. post.seat) (λ post. post.line) (λ viewed. viewed.seat) c.in-Ok.made.0 c.len-count.result
     c.seat_lines-2.ensures.lines c.seat_lines-2.ensures.seats c.seat_lines.ensures.seats c.in-Ok.ensures.seats c.in-Ok.ensures.each c.in-Ok.ensures.views
     (λ k d within. c.in-Ok.ensures.shown k d within ∙ sym (ap (λ k. k.book.entries) c.in-Ok.ensures.start))
+    (ap (λ k. k.book.sure) c.in-Ok.ensures.start ∙ sym (ap (λ k. length k.book.entries) c.in-Ok.ensures.start))
 
 pub leave_posts-requires-2-clause-seated : goal.leave_posts-requires-2-clause-seated
 leave_posts-requires-2-clause-seated g c =
@@ -29,11 +30,11 @@ pub returns-clause-watched : goal.returns-clause-watched
 returns-clause-watched g c =
     let posts = c.seat_lines-2.new.posts.items in
     let later = c.attend_all.new.posts.items in
-    let attends = AttendsOne-watched _ (λ post. post.seat) (λ post. post.line.seat)
+    let attends = AttendsOne-watched _ (g.B.Steps.kept c.in-Ok-close.book) (λ post. post.seat) (λ post. post.line.seat)
     (λ post. let line = goal.CallerLine-dyn g (post.line.line.vtable, post.line.line.value) in line_of (line.faults post.line.line.value) (line.calls post.line.line.value)) c.in-Ok.made.0
     posts later _ c.in-Ok-close.ensures.book c.attend_all.ensures.each in
     let taken = sym (map-map (λ post. post.line) (λ viewed. viewed.line) posts) ∙ (ap (map (λ viewed. viewed.line)) c.seat_lines-2.ensures.lines ∙ c.seat_lines.ensures.lines) in
     let left = c.leave_posts-2.ensures.lines ∙ (ap (map (λ viewed. viewed.line)) c.leave_posts.ensures.lines ∙ map-map (λ post. post.line) (λ viewed. viewed.line) later) in
-    AreWatched-began _ _ _ _ _ _ c.in-Ok.ensures.start
-    (AreServed-all _ posts later _ _ _ _ (λ post. post.seat) (λ post. post.line.line) _ _ _ _ c.in-Ok-close.ensures.book attends (omega arith) taken left c.in-Ok.ensures.seats c.seat_lines-2.ensures.seats
-    c.leave_posts.ensures.seats (ap (λ k. k.seats) c.in-Ok.ensures.start) (omega arith) c.in-Ok-close.ensures.known)
+    AreWatched-began _ _ _ _ _ _ _ c.in-Ok.ensures.start
+    (AreServed-all _ _ posts later _ _ _ _ (λ post. post.seat) (λ post. post.line.line) _ _ _ _ c.in-Ok-close.ensures.book attends (omega arith) taken left c.in-Ok.ensures.seats c.seat_lines-2.ensures.seats
+    c.leave_posts.ensures.seats (ap (λ k. k.seats) c.in-Ok.ensures.start) (omega arith) c.in-Ok-close.ensures.known c.in-Ok-close.ensures.kept)

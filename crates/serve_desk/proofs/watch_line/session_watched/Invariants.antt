@@ -1,5 +1,6 @@
 use Rattle.std.proofs.Common.{◌≡◌, ◌-◌, ◌≤◌, length}
 use Rattle.serve_desk.specs.declared.limits.TheConstants.{LINES_PER_CALLER}
+use Rattle.desk_shared.specs.Kept.{KnowsOnlySure}
 use Rattle.serve_desk.specs.Told.{line_of}
 use Rattle.serve_desk.specs.WatchAnswers.{IsCallerOf}
 use Rattle.serve_desk.proofs.WatchLemmas.{WatchedSoFar}
@@ -13,5 +14,6 @@ invariant-loop-heard g l =
           (line_of (entry.faults l.fn.line.value) (entry.calls l.fn.line.value)) (line_of (now.faults l.line.value) (now.calls l.line.value)) l.fn.seat l.seat l.fn.view l.view;
       few : l.heard ≤ LINES_PER_CALLER;
       caller : IsCallerOf l.desk l.seat l.view;
+      sure : KnowsOnlySure l.seat;
       faults : now.faults l.line.value ≡ entry.faults l.fn.line.value;
     }

@@ -7,7 +7,7 @@ use Rattle.turn_gate.proofs.deal.deal.Goals as goal
 
 pub split_seat-place-requires : goal.split_seat-place-requires
 split_seat-place-requires g c =
-    let tell = told g.B.Booked.history g.B.Booked.room g.B.Booked.mark in
+    let tell = told g.B.Booked.history g.B.Booked.room g.B.Booked.mark g.B.Lasting.sure in
     let terms = c.args.terms.now in
     let k = start_of terms.seats terms.quota (tell terms.book.value) in
     let key = c.args.tickets.now.shared.key in
@@ -21,7 +21,7 @@ split_seat-place-requires g c =
 
 pub loop-i-preserved : goal.loop-i-preserved
 loop-i-preserved g c =
-    let tell = told g.B.Booked.history g.B.Booked.room g.B.Booked.mark in
+    let tell = told g.B.Booked.history g.B.Booked.room g.B.Booked.mark g.B.Lasting.sure in
     let terms = c.args.terms.now in
     let k = start_of terms.seats terms.quota (tell terms.book.value) in
     let few : c.loop-i.i < terms.seats = search rules in

@@ -6,7 +6,7 @@ use Rattle.turn_gate.proofs.deal.deal.Given as goal
 
 abbrev pub invariant-loop-i : goal.invariant-loop-i
 invariant-loop-i g l =
-    let k = start_of l.terms.seats l.terms.quota (told g.B.Booked.history g.B.Booked.room g.B.Booked.mark l.terms.book.value) in record {
+    let k = start_of l.terms.seats l.terms.quota (told g.B.Booked.history g.B.Booked.room g.B.Booked.mark g.B.Lasting.sure l.terms.book.value) in record {
       table : l.all.table_id ≡ l.tickets.shared.table_id;
       me : l.all.me ≡ (left_view k l.i, []);
       made : l.made.items ≡ new_seats (gate_of l.tickets.shared.table_id k) 1 l.i;

@@ -8,7 +8,7 @@ use Rattle.turn_gate.proofs.rejoin.rejoin.Goals as goal
 
 pub join_seat-requires : goal.join_seat-requires
 join_seat-requires g c =
-    let tell = told g.B.Booked.history g.B.Booked.room g.B.Booked.mark in
+    let tell = told g.B.Booked.history g.B.Booked.room g.B.Booked.mark g.B.Lasting.sure in
     let key = c.args.tickets.now.shared.key in
     let k = start_of key.seats key.quota (tell key.book.value) in
     let inv = c.loop-next.invariant in
@@ -23,7 +23,7 @@ join_seat-requires g c =
 
 pub loop-next-preserved : goal.loop-next-preserved
 loop-next-preserved g c =
-    let tell = told g.B.Booked.history g.B.Booked.room g.B.Booked.mark in
+    let tell = told g.B.Booked.history g.B.Booked.room g.B.Booked.mark g.B.Lasting.sure in
     let key = c.args.tickets.now.shared.key in
     let k = start_of key.seats key.quota (tell key.book.value) in
     let inv = c.loop-next.invariant in

@@ -8,7 +8,7 @@ use Rattle.turn_gate.proofs.rejoin.rejoin.Given as goal
 abbrev pub invariant-loop-next : goal.invariant-loop-next
 invariant-loop-next g l =
     let key = l.tickets.shared.key in
-    let k = start_of key.seats key.quota (told g.B.Booked.history g.B.Booked.room g.B.Booked.mark key.book.value) in record {
+    let k = start_of key.seats key.quota (told g.B.Booked.history g.B.Booked.room g.B.Booked.mark g.B.Lasting.sure key.book.value) in record {
       table : l.all.table_id ≡ l.tickets.shared.table_id;
       start : l.all.me.0.start ≡ k;
       idle : l.all.me.0.phase ≡ Idle;

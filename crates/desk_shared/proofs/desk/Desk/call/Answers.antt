@@ -1,11 +1,11 @@
-use Rattle.std.proofs.Common.{refl, subst}
+use Rattle.std.proofs.Common.{refl, subst, arith}
 use Rattle.desk_shared.specs.Calls.{Calls}
 use Rattle.desk_shared.proofs.CallLemmas.{MayGive-next, Calls-gave}
 use Rattle.desk_shared.proofs.desk.Desk.call.Goals as goal
 
 pub give-requires-clause-book : goal.give-requires-clause-book
 give-requires-clause-book g c = MayGive-next c.args.seat c.in-Ok.turn _ _ c.seat_no.result c.args.stated c.in-Ok-step.entry c.in-Ok.ensures.took c.seat_no.ensures
-    c.in-Ok-step.ensures.answer c.in-Ok-step.ensures.kept c.step.ensures.room refl
+    c.in-Ok-step.ensures.answer c.in-Ok-step.ensures.kept c.step.ensures.room refl (omega arith)
 
 pub returns-in-Ok-step-clause-receipt : goal.returns-in-Ok-step-clause-receipt
 returns-in-Ok-step-clause-receipt g c =

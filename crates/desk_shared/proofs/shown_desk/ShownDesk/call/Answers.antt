@@ -15,7 +15,7 @@ give-requires-clause-book g c =
     let marked : WallName → Wall = λ name. record { mark = mark_of name } in
     let room : length later.history.entries + later.left ≡ length before.history.entries + before.left =
     omega (arith, ap (λ h. length h.entries) told.history, length-append before.history.entries (e ∷ []), told.left) in
-    MayGive-next c.args.seat c.in-Ok.turn _ _ c.seat_no.result c.args.stated e c.in-Ok.ensures.took c.seat_no.ensures told.answer told.history room (ap marked told.wall)
+    MayGive-next c.args.seat c.in-Ok.turn _ _ c.seat_no.result c.args.stated e c.in-Ok.ensures.took c.seat_no.ensures told.answer told.history room (ap marked told.wall) told.no_fewer
 
 pub returns-in-Ok-clause-receipt : goal.returns-in-Ok-clause-receipt
 returns-in-Ok-clause-receipt g c =

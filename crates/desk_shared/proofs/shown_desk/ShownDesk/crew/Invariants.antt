@@ -4,6 +4,7 @@ use Rattle.board_window.specs.declared.showing.Showing.{Showing}
 use Rattle.std.specs.declared.option.Option.{Option}
 use Rattle.crew_call.specs.CrewCalls.{CrewValue}
 use Rattle.desk_shared.specs.Crews.{MakesCalls}
+use Rattle.desk_shared.specs.Kept.{KnowsOnlySure}
 use Rattle.desk_shared.specs.Shown.{ShowsTo}
 use Rattle.desk_shared.proofs.shown_desk.ShownDesk.crew.Given as goal
 
@@ -18,6 +19,8 @@ pub record GoesOn (always : Bool) (desk : GateValue) (seat now : SeatValue) (t v
   pub shows : IfSome shown (λ showing. ShowsTo desk showing.note showing.behind now.known)
   pub begun : always ≡ true → IfNone shown (length crew.heard ≡ 0)
   pub all : always ≡ true → kept ≡ true
+  pub sure : IfSome shown (λ showing. KnowsOnlySure now)
+  pub no_fewer : seat.sure ≤ now.sure
 
 abbrev pub invariant-loop-stated : goal.invariant-loop-stated
 invariant-loop-stated g l = GoesOn g.B.Steps.always l.self l.fn.seat l.seat l.fn.minute l.fn.first l.fn.second l.crew l.shown l.kept × (l.fn.seat.calls + 3 ≤ l.self.start.quota)

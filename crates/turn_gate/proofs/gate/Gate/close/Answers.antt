@@ -9,12 +9,12 @@ use Rattle.turn_gate.specs.Notes.{IsNote}
 use Rattle.turn_gate.specs.Seats.{noted}
 use Rattle.turn_gate.specs.Turns.{Knows, IsLast}
 use Rattle.turn_gate.proofs.Keeps.{finished}
-use Rattle.turn_gate.proofs.Closing.{all-know, found-book}
+use Rattle.turn_gate.proofs.Closing.{all-know, all-sure, found-book}
 use Rattle.turn_gate.proofs.gate.Gate.close.Goals as goal
 
 pub unwrap-requires : goal.unwrap-requires
 unwrap-requires g c =
-    let tell = told g.B.Booked.history g.B.Booked.room g.B.Booked.mark in
+    let tell = told g.B.Booked.history g.B.Booked.room g.B.Booked.mark g.B.Lasting.sure in
     let key = c.self.inside.table.shared.key in
     let k = start_of key.seats key.quota (tell key.book.value) in
     let notes = ap length c.rejoin-all.ensures.notes ∙ length-map c.args.seats.items noted in
@@ -25,7 +25,7 @@ unwrap-requires g c =
 
 pub returns : goal.returns
 returns g c =
-    let tell = told g.B.Booked.history g.B.Booked.room g.B.Booked.mark in
+    let tell = told g.B.Booked.history g.B.Booked.room g.B.Booked.mark g.B.Lasting.sure in
     let key = c.self.inside.table.shared.key in
     let k = start_of key.seats key.quota (tell key.book.value) in
     let start : k ≡ c.args.self.start = ap (λ v. v.start) c.self.view_is in
@@ -36,7 +36,8 @@ returns g c =
     let same : closed.book ≡ c.unwrap.result = cc (found, c.unwrap.ensures) in
     record {
       book = subst (λ b. IsBookOf c.args.self.start (tell b)) same (subst (λ z. IsBookOf z (tell closed.book)) start closed.of_gate);
-      known = subst (λ b. All (Knows (tell b).entries) c.args.seats.items) same (all-know k.seats _ c.args.seats.items (subst (λ l. (m : ℕ) (a : Note) → get_elem? l m ≡ some a → IsNote k.seats (tell closed.book).entries a) c.rejoin-all.ensures.notes closed.notes));
+      known = subst (λ b. All (Knows (tell b).entries) c.args.seats.items) same (all-know k.seats _ c.args.seats.items (subst (λ l. (m : ℕ) (a : Note) → get_elem? l m ≡ some a → IsNote k.seats (tell closed.book) a) c.rejoin-all.ensures.notes closed.notes));
+      sure = subst (λ b. All (λ seat. seat.sure ≤ (tell b).sure) c.args.seats.items) same (all-sure k.seats _ c.args.seats.items (subst (λ l. (m : ℕ) (a : Note) → get_elem? l m ≡ some a → IsNote k.seats (tell closed.book) a) c.rejoin-all.ensures.notes closed.notes));
       rule = subst (λ b. IsLast tell c.args.self.start b) same (subst (λ z. IsLast tell z closed.book) start closed.last);
       all = search rules;
       short = tt;

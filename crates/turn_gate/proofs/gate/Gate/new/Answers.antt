@@ -11,7 +11,7 @@ use Rattle.turn_gate.proofs.gate.Gate.new.Goals as goal
 
 pub new-requires : goal.new-requires
 new-requires g c =
-    let tell = told g.B.Booked.history g.B.Booked.room g.B.Booked.mark in
+    let tell = told g.B.Booked.history g.B.Booked.room g.B.Booked.mark g.B.Lasting.sure in
     let k = start_of c.args.seats c.args.quota (tell c.of.result.value) in
     let items : c.push.new.self.items ≡ Some c.args.book ∷ [] = search rules in
     let from = c.from-first.ensures ∙ (c.count.ensures ∙ ap (λ b. length (g.B.Booked.history b).entries) (sym c.of.ensures)) in
@@ -20,7 +20,7 @@ new-requires g c =
 
 pub returns-in-Ok-new-clause-each : goal.returns-in-Ok-new-clause-each
 returns-in-Ok-new-clause-each g c =
-    let tell = told g.B.Booked.history g.B.Booked.room g.B.Booked.mark in
+    let tell = told g.B.Booked.history g.B.Booked.room g.B.Booked.mark g.B.Lasting.sure in
     let shared = c.in-Ok-new.table.shared in
     let gate = gate_of shared.table_id (start_of shared.key.seats shared.key.quota (tell shared.key.book.value)) in
     let items : c.deal-made.result.items ≡ new_seats gate 1 c.args.seats = search rules in

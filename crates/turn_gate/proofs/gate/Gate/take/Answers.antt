@@ -4,12 +4,12 @@ use Rattle.atomic_table.specs.Table.{rest}
 use Rattle.turn_gate.specs.Told.{told, start_of, IsNumber}
 use Rattle.turn_gate.specs.Seats.{taken_in}
 use Rattle.turn_gate.proofs.Keeps.{draws, looks}
-use Rattle.turn_gate.proofs.Turns.{is-waiting, turned-itself, found-is, IsServed, served, taken-out, knows-taken, numbered-taken}
+use Rattle.turn_gate.proofs.Turns.{is-waiting, turned-itself, found-is, IsServed, served, taken-out, knows-taken, sure-taken, numbered-taken}
 use Rattle.turn_gate.proofs.gate.Gate.take.Goals as goal
 
 pub fetch_add-ticket-requires : goal.fetch_add-ticket-requires
 fetch_add-ticket-requires g c =
-    let tell = told g.B.Booked.history g.B.Booked.room g.B.Booked.mark in
+    let tell = told g.B.Booked.history g.B.Booked.room g.B.Booked.mark g.B.Lasting.sure in
     let key = c.self.inside.table.shared.key in
     let k = start_of key.seats key.quota (tell key.book.value) in
     let start : c.args.seat.start ≡ k = c.requires.1 ∙ sym (ap (λ v. v.start) c.self.view_is) in
@@ -19,7 +19,7 @@ fetch_add-ticket-requires g c =
 
 pub load-serving-requires : goal.load-serving-requires
 load-serving-requires g c =
-    let tell = told g.B.Booked.history g.B.Booked.room g.B.Booked.mark in
+    let tell = told g.B.Booked.history g.B.Booked.room g.B.Booked.mark g.B.Lasting.sure in
     let key = c.self.inside.table.shared.key in
     let k = start_of key.seats key.quota (tell key.book.value) in
     let start : c.args.seat.start ≡ k = c.requires.1 ∙ sym (ap (λ v. v.start) c.self.view_is) in
@@ -28,14 +28,14 @@ load-serving-requires g c =
 
 pub exchange-requires : goal.exchange-requires
 exchange-requires g c =
-    let tell = told g.B.Booked.history g.B.Booked.room g.B.Booked.mark in
+    let tell = told g.B.Booked.history g.B.Booked.room g.B.Booked.mark g.B.Lasting.sure in
     let now = is-waiting c.args.seat c.fetch_add-ticket.result _ _ _ c.into_parts-seat.ensures.me c.fetch_add-ticket.ensures.2 c.loop.invariant.me in
     let took = served tell c.args.seat c.fetch_add-ticket.result _ _ _ now (c.load-serving.ensures.2.1 _ (ap (λ m. m.0.phase) now)) c.if-serving-ticket.true in
     (search rules, (Some took.0, took.1.carried ∙ ap (λ cs. (0, Some took.0) ∷ rest cs) (sym took.1.carried)))
 
 pub unwrap-book-requires : goal.unwrap-book-requires
 unwrap-book-requires g c =
-    let tell = told g.B.Booked.history g.B.Booked.room g.B.Booked.mark in
+    let tell = told g.B.Booked.history g.B.Booked.room g.B.Booked.mark g.B.Lasting.sure in
     let now = is-waiting c.args.seat c.fetch_add-ticket.result _ _ _ c.into_parts-seat.ensures.me c.fetch_add-ticket.ensures.2 c.loop.invariant.me in
     let took = served tell c.args.seat c.fetch_add-ticket.result _ _ _ now (c.load-serving.ensures.2.1 _ (ap (λ m. m.0.phase) now)) c.if-serving-ticket.true in
     let found = found-is _ c.exchange.result took.0 c.exchange.ensures.2 took.1.carried in
@@ -43,7 +43,7 @@ unwrap-book-requires g c =
 
 pub invariant_of-turn : goal.invariant_of-turn
 invariant_of-turn g c =
-    let tell = told g.B.Booked.history g.B.Booked.room g.B.Booked.mark in
+    let tell = told g.B.Booked.history g.B.Booked.room g.B.Booked.mark g.B.Lasting.sure in
     let now = is-waiting c.args.seat c.fetch_add-ticket.result _ _ _ c.into_parts-seat.ensures.me c.fetch_add-ticket.ensures.2 c.loop.invariant.me in
     let took = served tell c.args.seat c.fetch_add-ticket.result _ _ _ now (c.load-serving.ensures.2.1 _ (ap (λ m. m.0.phase) now)) c.if-serving-ticket.true in
     let out = taken-out tell c.args.seat c.fetch_add-ticket.result _ _ took.0 took.1 c.exchange.ensures.3 in
@@ -52,11 +52,11 @@ invariant_of-turn g c =
     let parts = c.into_parts-seat.ensures.left in
     let left = c.left.ensures in
     let more = c.if-left-eq0.false in
-    (turned-itself _ _ _ _ _ _ _ _ _ out c.into_parts-seat.ensures.number, omega arith)
+    (turned-itself _ _ _ _ _ _ _ _ _ _ out c.into_parts-seat.ensures.number, omega arith)
 
 pub returns-then-serving-ticket-clause-took : goal.returns-then-serving-ticket-clause-took
 returns-then-serving-ticket-clause-took g c =
-    let tell = told g.B.Booked.history g.B.Booked.room g.B.Booked.mark in
+    let tell = told g.B.Booked.history g.B.Booked.room g.B.Booked.mark g.B.Lasting.sure in
     let now = is-waiting c.args.seat c.fetch_add-ticket.result _ _ _ c.into_parts-seat.ensures.me c.fetch_add-ticket.ensures.2 c.loop.invariant.me in
     let took = served tell c.args.seat c.fetch_add-ticket.result _ _ _ now (c.load-serving.ensures.2.1 _ (ap (λ m. m.0.phase) now)) c.if-serving-ticket.true in
     let found = found-is _ c.exchange.result took.0 c.exchange.ensures.2 took.1.carried in
@@ -80,6 +80,7 @@ returns-then-serving-ticket-clause-took g c =
       caller = omega arith;
       of_gate = mine.taken.of_gate;
       knows = knows-taken tell c.args.seat c.fetch_add-ticket.result _ c.unwrap-book.result mine;
+      sure = sure-taken tell c.args.seat c.fetch_add-ticket.result _ c.unwrap-book.result mine;
     }
 
 pub loop-preserved : goal.loop-preserved
