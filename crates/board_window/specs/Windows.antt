@@ -6,13 +6,15 @@ use Rattle.board_window.specs.Walls.{FrontValue}
 use Rattle.board_window.specs.declared.change.Change.{Change}
 use Rattle.board_window.specs.declared.wall_name.WallName.{WallName}
 
--- which wall it is; the entries whose boards its views may see; and those that it has been given, of which the last may wait to be shown
+-- which wall it is; the entries whose boards its views may see; those whose boards they may see once they are published; and those that it has been
+-- given, of which the last may wait to be queued
 pub record WallValue : Type 0 where
   pub wall : WallName
   pub shown : List EntryValue
+  pub queued : List EntryValue
   pub added : List EntryValue
 
--- all that was added is shown; or all but the last, whose change waits
+-- all that was added is queued; or all but the last, whose change waits
 abbrev pub IsWaiting : FrontValue → FrontValue → Option Change → Type 0
-IsWaiting shown added None = shown ≡ added
-IsWaiting shown added (Some change) = (added ≡ change.front) × IsNextChange shown change
+IsWaiting queued added None = queued ≡ added
+IsWaiting queued added (Some change) = (added ≡ change.front) × IsNextChange queued change

@@ -27,17 +27,20 @@ use std::alloc::Global;
 use std::marker::Model;
 use std::sync::Wait;
 
-/// A wall of windows on a desk's boards. It is given the desk's entries, and shows its views the boards that these make.
-/// It is not `Drop`: end it by `end`.
+/// A wall of windows on a desk's boards. It is given the desk's entries, and shows its views the boards that these make, once they are
+/// published. It is not `Drop`: end it by `end`.
 pub struct Wall {
     copies: Copies,
+    /// The list whose boards are shown once it is published.
+    queued: Front,
     list: WallList,
-    /// The change of the last entry of the list, where it isn't shown yet.
+    /// The change of the last entry of the list, where it isn't queued yet.
     waiting: Option<Change>,
 }
 
 impl Model for Wall {
-    ghost use Rattle.std.specs.Prelude.{◌≡◌, [], drop, Some};
+    ghost use Rattle.std.specs.Prelude.{◌≡◌, drop, length, take, Some};
+    ghost use Rattle.board_window.specs.Shelves.{IsRight, after_all};
     ghost use Rattle.board_window.specs.Windows.{WallValue, IsWaiting};
 
     ghost Value = { WallValue };
@@ -45,30 +48,34 @@ impl Model for Wall {
     ghost view = { λ w. record {
       wall = w.list.wall;
       shown = w.copies.desk.shown.value.front.entries;
+      queued = w.queued.entries;
       added = w.list.entries;
     } };
 
-    ghost invariant = { λ w. (drop w.copies.behind w.copies.log.items ≡ [])
-        × (w.copies.desk.place.me.0.client ≡ Some w.list.wall)
+    ghost invariant = { λ w. (w.copies.desk.place.me.0.client ≡ Some w.list.wall)
         × (w.copies.desk.shown.value.front.wall ≡ w.list.wall)
-        × IsWaiting w.copies.desk.shown.value.front w.list w.waiting };
+        × (w.queued.wall ≡ w.list.wall)
+        × (w.queued ≡ (after_all w.copies.desk.shown.value (drop w.copies.behind w.copies.log.items)).front)
+        × (IsRight w.copies.desk.shown.value → IsRight (after_all w.copies.desk.shown.value (drop w.copies.behind w.copies.log.items)))
+        × (w.copies.desk.shown.value.front.entries ≡ take (length w.copies.desk.shown.value.front.entries) w.queued.entries)
+        × IsWaiting w.queued w.list w.waiting };
 }
 
-// What the entry behind those that are shown changes: it waits, or is given to the list; `None` where that could not be.
+// What the entry behind those that are queued changes: it waits, or is given to the list; `None` where that could not be.
 fn next_change(
-    shown: &Front,
+    queued: &Front,
     list: &mut WallList,
     waiting: Option<Change>,
     entry: &Entry,
 ) -> Option<Change>
-    requires waiting { IsWaiting shown.now list.old waiting }
-    requires few { length shown.now.entries + 1 < 2 ^ 32 }
-    requires legal { IsLegal (history_in (longer_by shown.now entry.now)) }
-    requires same { IsPrefix list.old.entries (shown.now.entries ++ entry.now ∷ []) }
-    ensures change { IfSome result (λ change. IsNextChange shown.now change) }
+    requires waiting { IsWaiting queued.now list.old waiting }
+    requires few { length queued.now.entries + 1 < 2 ^ 32 }
+    requires legal { IsLegal (history_in (longer_by queued.now entry.now)) }
+    requires same { IsPrefix list.old.entries (queued.now.entries ++ entry.now ∷ []) }
+    ensures change { IfSome result (λ change. IsNextChange queued.now change) }
     ensures entry { IfSome result (λ change. change.entry ≡ entry.now) }
     ensures front { IfSome result (λ change. list.new ≡ change.front) }
-    ensures none { IfNone result (list.new ≡ shown.now) }
+    ensures none { IfNone result (list.new ≡ queued.now) }
 {
     match waiting {
         Some(change) => Some(change),
@@ -123,6 +130,7 @@ impl Wall {
         requires most { views ≤ LAST_CALLER }
         ensures opening { IfOk result (λ made. made.0.wall.opening ≡ opening.now) }
         ensures shown { IfOk result (λ made. made.0.shown ≡ entries.now) }
+        ensures queued { IfOk result (λ made. made.0.queued ≡ entries.now) }
         ensures added { IfOk result (λ made. made.0.added ≡ entries.now) }
         ensures count { IfOk result (λ made. vec_len made.1 ≡ views) }
         ensures each { IfOk result (λ made. All (λ view. view ≡ front_of made.0.wall entries.now) made.1.items) }
@@ -138,6 +146,7 @@ impl Wall {
         publish(&mut copies, rt);
         let mut wall = Wall {
             copies,
+            queued: list.front().again(),
             list,
             waiting: None,
         };
@@ -178,13 +187,13 @@ impl Wall {
         Ok(views)
     }
 
-    // How many entries are shown.
+    // How many entries are queued.
     fn count(&self) -> u32
-        ensures count { result ≡ length self.now.shown }
-        ensures begins { IsPrefix self.now.shown self.now.added }
-        ensures most { length self.now.added ≤ length self.now.shown + 1 }
+        ensures count { result ≡ length self.now.queued }
+        ensures begins { IsPrefix self.now.queued self.now.added }
+        ensures most { length self.now.added ≤ length self.now.queued + 1 }
     {
-        self.copies.published().front.count()
+        self.queued.count()
     }
 
     // The list that is shown, as a note.
@@ -196,29 +205,26 @@ impl Wall {
         }
     }
 
-    // Shows the next entry, and says whether it did; else there is no memory for it.
-    fn show_one<R: Wait>(&mut self, rt: &R, entry: &Entry) -> bool
-        requires few { length self.old.shown + 1 < 2 ^ 32 }
-        requires legal { IsLegal (history_of self.old.wall.opening (self.old.shown ++ entry.now ∷ [])) }
-        requires added { IsPrefix self.old.added (self.old.shown ++ entry.now ∷ []) }
+    // Queues the next entry, and says whether it did; else there is no memory for it.
+    fn queue_one(&mut self, entry: &Entry) -> bool
+        requires few { length self.old.queued + 1 < 2 ^ 32 }
+        requires legal { IsLegal (history_of self.old.wall.opening (self.old.queued ++ entry.now ∷ [])) }
+        requires added { IsPrefix self.old.added (self.old.queued ++ entry.now ∷ []) }
         ensures wall { self.new.wall ≡ self.old.wall }
-        ensures shown { MatchBool result (self.new.shown ≡ self.old.shown ++ entry.now ∷ []) (self.new.shown ≡ self.old.shown) }
-        ensures added { IsPrefix self.new.added (self.old.shown ++ entry.now ∷ []) }
+        ensures shown { self.new.shown ≡ self.old.shown }
+        ensures queued { MatchBool result (self.new.queued ≡ self.old.queued ++ entry.now ∷ []) (self.new.queued ≡ self.old.queued) }
+        ensures added { IsPrefix self.new.added (self.old.queued ++ entry.now ∷ []) }
     {
         what_an_entry_makes_of_the_boards();
         the_last_entry_is_next();
         let waiting = self.waiting.take();
-        let Some(change) = next_change(
-            &self.copies.published().front,
-            &mut self.list,
-            waiting,
-            entry,
-        ) else {
+        let Some(change) = next_change(&self.queued, &mut self.list, waiting, entry) else {
             return false;
         };
+        let front = change.front.again();
         match self.copies.append(change) {
             Ok(()) => {
-                publish(&mut self.copies, rt);
+                self.queued = front;
                 true
             }
             Err(change) => {
@@ -228,23 +234,55 @@ impl Wall {
         }
     }
 
-    // Shows the entries behind those that are shown, up to the first for which there is no memory.
-    fn show_all<R: Wait>(&mut self, rt: &R, entries: &[Entry])
+    // Queues the entries behind those that are queued, up to the first for which there is no memory.
+    fn queue_all(&mut self, entries: &[Entry])
         requires legal { IsLegal (history_of self.old.wall.opening entries.now) }
         requires few { length entries.now < 2 ^ 32 }
         requires added { IsPrefix self.old.added entries.now }
         ensures wall { self.new.wall ≡ self.old.wall }
-        ensures shown { IsPrefix self.new.shown entries.now }
+        ensures shown { self.new.shown ≡ self.old.shown }
+        ensures queued { IsPrefix self.new.queued entries.now }
         ensures added { IsPrefix self.new.added entries.now }
-        ensures more { IsPrefix self.old.shown self.new.shown }
+        ensures more { IsPrefix self.old.queued self.new.queued }
     {
         the_first_entries_are_legal();
         for place in self.count() as usize..entries.len() {
             self.count();
-            if !self.show_one(rt, &entries[place]) {
+            if !self.queue_one(&entries[place]) {
                 return;
             }
         }
+    }
+
+    /// Takes a desk's entries, all of them, fewer than 2^32, of which those that it was given before are the first. They are shown once they are
+    /// published. The note is of all that were taken: the others, the last, are for want of memory not.
+    pub fn add(&mut self, entries: &[Entry]) -> Note
+        requires legal { IsLegal (history_of self.old.wall.opening entries.now) }
+        requires few { length entries.now < 2 ^ 32 }
+        requires added { IsPrefix self.old.added entries.now }
+        ensures wall { self.new.wall ≡ self.old.wall }
+        ensures shown { self.new.shown ≡ self.old.shown }
+        ensures note { result ≡ front_of self.new.wall self.new.added }
+        ensures added { IsPrefix self.new.added entries.now }
+    {
+        self.queue_all(entries);
+        Note {
+            front: self.list.front().again(),
+        }
+    }
+
+    /// Shows the entries that were taken: all, or for want of memory all but the last.
+    pub fn publish<R: Wait>(&mut self, rt: &R)
+        ensures wall { self.new.wall ≡ self.old.wall }
+        ensures shown { self.new.shown ≡ self.old.queued }
+        ensures queued { self.new.queued ≡ self.old.queued }
+        ensures added { self.new.added ≡ self.old.added }
+        ensures begins { IsPrefix self.old.queued self.old.added }
+        ensures most { length self.old.added ≤ length self.old.queued + 1 }
+        ensures more { IsPrefix self.old.shown self.new.shown }
+    {
+        self.count();
+        publish(&mut self.copies, rt);
     }
 
     /// Shows a desk's entries, all of them, fewer than 2^32, of which those that it was given before are the first. What is shown grows, and
@@ -260,7 +298,8 @@ impl Wall {
         ensures added { IsPrefix self.new.added entries.now }
         ensures more { IsPrefix self.old.shown self.new.shown }
     {
-        self.show_all(rt, entries);
+        self.queue_all(entries);
+        self.publish(rt);
         Showing {
             note: self.note(),
             behind: entries.len() as u32 - self.count(),
@@ -271,6 +310,7 @@ impl Wall {
     pub fn end<R: Wait>(self, rt: &R) {
         let Wall {
             copies,
+            queued: _,
             list: _,
             waiting: _,
         } = self;

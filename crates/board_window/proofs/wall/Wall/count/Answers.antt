@@ -5,4 +5,4 @@ use Rattle.board_window.proofs.WallLemmas.{waiting-begins}
 use Rattle.board_window.proofs.wall.Wall.count.Goals as goal
 
 pub returns-clause-begins : goal.returns-clause-begins
-returns-clause-begins c = subst (λ (w : WallValue). IsPrefix w.shown w.added) c.self.view_is (waiting-begins _ _ _ c.self.invariant.3)
+returns-clause-begins c = subst (λ (w : WallValue). IsPrefix w.queued w.added) c.self.view_is (waiting-begins _ _ _ c.self.invariant.6)
