@@ -1,3 +1,4 @@
 mod ThroughLemmas
 mod WholeLemmas
 mod OpenedLemmas
+mod AheadLemmas

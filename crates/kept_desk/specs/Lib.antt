@@ -2,3 +2,8 @@ pub mod WholeLines
 pub mod EntryLines
 pub mod UntilEnd
 pub mod Opened
+pub mod Ahead
+pub mod Beginning
+pub mod Guarded
+pub mod Offset
+pub mod SetClock
