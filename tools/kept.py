@@ -3,7 +3,9 @@
 (12), and started again behind the journal that it left. Of the callers some leave and come back, one says garbage between its commands, and
 one reads nothing. In the end each caller's replies have to be entries of the journal, in their order; each caller's entries have to be what
 it said, in its order; and the journal has to be legal. Beside that: a torn last line of each length is cut off, a second desk is refused, and a
-journal that is none, is wrong, or can't be opened is told and stays as it was. The last line is 'N passed, M failed'."""
+journal that is none, is wrong, or can't be opened is told and stays as it was; and with a clock, what is stated too far ahead of it is answered
+with its minute and leaves no entry. The last line is 'N passed, M failed'."""
+import datetime
 import os
 import random
 import selectors
@@ -220,11 +222,66 @@ def shared(program, checks):
         checks.is_so("the first goes on", (first.run.returncode, told[0].split()[0]), (0, "begun"))
 
 
+def minute(time):
+    return time.strftime("%Y-%m-%d %H:%M")
+
+
+def guarded(program, checks):
+    """Desks with a clock at three offsets; one that is started again without it; and words that are no guard."""
+    for offset, minutes in [("+0000", 0), ("-0600", -360), ("+0530", 330)]:
+        with tempfile.TemporaryDirectory() as room:
+            def civil(ahead=0):
+                return minute(datetime.datetime.now(datetime.timezone.utc) + datetime.timedelta(minutes=minutes + ahead))
+
+            def keep(words, said):
+                with open(f"{room}/c1.in", "w") as lines:
+                    lines.write("".join(line + "\n" for line in said))
+                run = subprocess.run([program, "keep", *words, "journal", "c1"], cwd=room, input=day, capture_output=True)
+                with open(f"{room}/c1.out") as replies:
+                    return run.returncode, replies.read().splitlines()
+
+            begin = f"{civil()[:7]}-01 00:00"
+            day = f"{begin},open,{begin[:7]},2,15\n{begin},board,P1,pool,HOM\n".encode()
+            month = civil(31 * 1440)
+            near = civil(60)
+            ahead = [f"{month},at,P1,1", f"{month},crew,1,2", f"{civil(70)},at,P1,2", f'"{month}",at,P1,3']
+            before = civil()
+            status, replies = keep(["--clock", offset, "--ahead", "60"], [*ahead, f"{month},at,P1", f"{near},at,P1,4", "look,P1,1", "end", f"{near},at,P1,5"])
+            answers = [f"ahead {told}" for told in sorted({before, civil()})]
+            checks.is_so(f"{offset}: status", status, 0)
+            checks.is_so(f"{offset}: what is ahead is answered with the clock's minute", [reply in answers for reply in replies[:4]], [True] * 4)
+            checks.is_so(f"{offset}: the rest is answered as ever", replies[4:], ["malformed 4", f"1|{near},at,P1,4|{near}|no one 0", "look 2 no one 0"])
+            with open(f"{room}/journal") as journal:
+                lines = journal.read().splitlines()
+            checks.is_so(f"{offset}: what is ahead has no entry", lines[2:], [f"1|{near},at,P1,4|{near}|no one 0"])
+            status, replies = keep([], [f"{month},at,P1,6", "end"])
+            checks.is_so(f"{offset}: without a clock it is heard", (status, replies), (0, [f"1|{month},at,P1,6|{month}|no one 0"]))
+    for words in [
+        ["--clock", "+0000", "journal", "c1"],
+        ["--ahead", "60", "journal", "c1"],
+        ["--ahead", "60", "--clock", "+0000", "journal", "c1"],
+        ["journal", "--clock", "+0000", "--ahead", "60", "c1"],
+        ["--clock", "0000", "--ahead", "60", "journal", "c1"],
+        ["--clock", "+2400", "--ahead", "60", "journal", "c1"],
+        ["--clock", "+0060", "--ahead", "60", "journal", "c1"],
+        ["--clock", "+0000", "--ahead", "060", "journal", "c1"],
+        ["--clock", "+0000", "--ahead", "1000001", "journal", "c1"],
+        ["--clock", "+0000", "--ahead", "-1", "journal", "c1"],
+        ["--clock", "+0000", "--ahead", "60", "journal"],
+        ["--clock", "+0000", "--ahead", "60"],
+        ["--clock", "journal", "c1"],
+        ["-journal", "c1"],
+    ]:
+        came = subprocess.run([program, "keep", *words], input=b"", capture_output=True)
+        checks.is_so(f"{words} are no form", (came.returncode, came.stderr, came.stdout), (2, b"usage\n", b""))
+
+
 def main(program, kills=12):
     checks = piped.Checks("kept")
     program = os.path.abspath(program)
     ended(program, checks)
     shared(program, checks)
+    guarded(program, checks)
     killed(program, int(kills), checks)
     return checks.end()
 

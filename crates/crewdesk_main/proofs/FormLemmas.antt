@@ -1,11 +1,12 @@
 -- Words that name callers.
-use Rattle.std.proofs.Common.{◌≡◌, ℕ, ◌+◌, ◌-◌, ◌≤◌, arith, Bool, true, false, ◌&&◌, nat_le, Option, None, Some, if◌then◌else◌, List, [], ◌∷◌, codes, length, drop, refl, ap}
+use Rattle.std.proofs.Common.{◌≡◌, inl, inr, ℕ, ◌+◌, ◌-◌, ◌≤◌, arith, Bool, true, false, not, ◌&&◌, nat_le, Option, None, Some, if◌then◌else◌, List, [], ◌∷◌, codes, length, drop, refl, ap}
 use Rattle.std.proofs.lemmas.Bool.Decides.{nat_tests}
 use Rattle.std.specs.Prelude.{String, string_bytes}
 use Rattle.std.specs.Global.{Global}
 use Rattle.desk_model.specs.declared.edition.Edition.{Edition}
 use Rattle.desk_model.specs.declared.edition.Edition.TheVariants as edition
 use Rattle.desk_model.specs.declared.limits.TheConstants.{LAST_CALLER}
+use Rattle.serve_desk.specs.Serve.{IsNoNumberOfLines}
 use Rattle.serve_desk.specs.declared.sessions.Sessions.{Sessions}
 use Rattle.serve_desk.specs.declared.sessions.Sessions.TheVariants as sessions
 use Rattle.day_gen.specs.declared.numbers.TheConstants.{SET_UP}
@@ -13,14 +14,16 @@ use Rattle.day_gen.specs.Generator.{most_commands}
 use Rattle.day_replay.specs.declared.day_form.DayForm.TheVariants as day
 use Rattle.crewdesk_main.specs.declared.tour_form.TourForm.TheVariants as tour
 use Rattle.crewdesk_main.specs.declared.limits.TheConstants.{MOST_SUPPOSED}
+use Rattle.kept_desk.specs.Offset.{offset_in}
+use Rattle.kept_desk.specs.declared.guard.Guard.{Guard}
 use Rattle.crewdesk_main.specs.declared.form.Form.{Form}
 use Rattle.crewdesk_main.specs.declared.form.Form.TheVariants as form
-use Rattle.crewdesk_main.specs.Words.{form_of, named_form, numbered_form, record_form, forecast_form, gen_form, when_form, serve_form, keep_form, are_names, is_alone, is_word, is_number, number_in}
+use Rattle.crewdesk_main.specs.Words.{form_of, named_form, numbered_form, record_form, forecast_form, gen_form, when_form, serve_form, keep_form, journal_form, guarded_form, guard_of, behind_guard, has_dash, are_names, is_alone, is_word, is_number, number_in}
 
 -- whether callers are served
 abbrev serves : Option Form → Bool
 serves (Some (form.Serve how callers)) = true
-serves (Some (form.Keep callers)) = true
+serves (Some (form.Keep callers guard)) = true
 serves other = false
 
 both : (b : Bool) (x y : Option Form) → serves x ≡ false → serves y ≡ false → serves (if b then x else y) ≡ false
@@ -79,34 +82,84 @@ both-true true true is = (refl, refl)
 both-true true false is = absurd (cc)
 both-true false b is = absurd (cc)
 
-keep_form-count : (words : List (String Global)) (n : ℕ) → keep_form words ≡ Some (form.Keep n) → (2 ≤ length words) × (length words ≤ LAST_CALLER + 1)
-keep_form-count [] n is = absurd (cc)
-keep_form-count (journal ∷ names) n is = go (nat_le 1 (length names) && nat_le (length names) LAST_CALLER && are_names names) refl is
+-- the journal's name and those of callers, behind the words of a guard
+abbrev pub NamesFit : Option Guard → List (String Global) → Type 0
+NamesFit guard words = (2 ≤ length (behind_guard guard words)) × (length (behind_guard guard words) ≤ LAST_CALLER + 1)
+
+journal_form-count : (guard given : Option Guard) (words : List (String Global)) (n : ℕ) → journal_form guard words ≡ Some (form.Keep n given)
+    → (given ≡ guard) × ((2 ≤ length words) × (length words ≤ LAST_CALLER + 1))
+journal_form-count guard given [] n is = absurd (cc)
+journal_form-count guard given (journal ∷ names) n is = go _ refl is
   where
-    go : (b : Bool) → (nat_le 1 (length names) && nat_le (length names) LAST_CALLER && are_names names) ≡ b → (if b then Some (form.Keep (length names)) else None) ≡ Some (form.Keep n)
-        → (2 ≤ length (journal ∷ names)) × (length (journal ∷ names) ≤ LAST_CALLER + 1)
+    go : (b : Bool) → (not (has_dash (string_bytes journal)) && (nat_le 1 (length names) && nat_le (length names) LAST_CALLER && are_names names)) ≡ b
+        → (if b then Some (form.Keep (length names) guard) else None) ≡ Some (form.Keep n given)
+        → (given ≡ guard) × ((2 ≤ length (journal ∷ names)) × (length (journal ∷ names) ≤ LAST_CALLER + 1))
     go true within is =
-        let parts = both-true (nat_le 1 (length names) && nat_le (length names) LAST_CALLER) (are_names names) within in
+        let same : given ≡ guard = cc in
+        let all = both-true (not (has_dash (string_bytes journal))) (nat_le 1 (length names) && nat_le (length names) LAST_CALLER && are_names names) within in
+        let parts = both-true (nat_le 1 (length names) && nat_le (length names) LAST_CALLER) (are_names names) all.1 in
         let numbers = both-true (nat_le 1 (length names)) (nat_le (length names) LAST_CALLER) parts.0 in
         let few = numbers.0 in
         let many = numbers.1 in
-        (grind (arith, nat_tests, few), grind (arith, nat_tests, many))
+        (same, (grind (arith, nat_tests, few), grind (arith, nat_tests, many)))
     go false within is = absurd (cc)
 
-serve_form-keeps-not : (how : Sessions) (m n : ℕ) → serve_form how m ≡ Some (form.Keep n) → ⊥
-serve_form-keeps-not how m n is = go (nat_le 1 m && nat_le m LAST_CALLER) is
+unguarded-count : (words : List (String Global)) (n : ℕ) (given : Option Guard) → journal_form None words ≡ Some (form.Keep n given) → NamesFit given words
+unguarded-count words n given is = let fits = journal_form-count None given words n is in rw (fits.0) fits.1
+
+keep_form-count : (words : List (String Global)) (n : ℕ) (given : Option Guard) → keep_form words ≡ Some (form.Keep n given) → NamesFit given words
+keep_form-count [] n given is = unguarded-count [] n given is
+keep_form-count (a ∷ []) n given is = unguarded-count (a ∷ []) n given is
+keep_form-count (a ∷ b ∷ []) n given is = unguarded-count (a ∷ b ∷ []) n given is
+keep_form-count (a ∷ b ∷ c ∷ []) n given is = unguarded-count (a ∷ b ∷ c ∷ []) n given is
+keep_form-count (clock ∷ offset ∷ ahead ∷ minutes ∷ words) n given is = go (is_word (codes "--clock") clock && is_word (codes "--ahead") ahead) is
   where
-    go : (b : Bool) → (if b then Some (form.Serve how m) else None) ≡ Some (form.Keep n) → ⊥
+    guarded : (guard : Option Guard) → guarded_form guard words ≡ Some (form.Keep n given) → NamesFit given (clock ∷ offset ∷ ahead ∷ minutes ∷ words)
+    guarded None is = absurd (cc)
+    guarded (Some guard) is = let fits = journal_form-count (Some guard) given words n is in rw (fits.0) fits.1
+
+    go : (b : Bool) → (if b then guarded_form (guard_of (offset_in (string_bytes offset)) (number_in (string_bytes minutes))) words else journal_form None (clock ∷ offset ∷ ahead ∷ minutes ∷ words)) ≡ Some (form.Keep n given)
+        → NamesFit given (clock ∷ offset ∷ ahead ∷ minutes ∷ words)
+    go true is = guarded _ is
+    go false is = unguarded-count (clock ∷ offset ∷ ahead ∷ minutes ∷ words) n given is
+
+serve_form-keeps-not : (how : Sessions) (m n : ℕ) (given : Option Guard) → serve_form how m ≡ Some (form.Keep n given) → ⊥
+serve_form-keeps-not how m n given is = go (nat_le 1 m && nat_le m LAST_CALLER) is
+  where
+    go : (b : Bool) → (if b then Some (form.Serve how m) else None) ≡ Some (form.Keep n given) → ⊥
     go true is = cc
     go false is = cc
 
+-- whether callers are served whose journal isn't kept
+abbrev is_serve : Option Form → Bool
+is_serve (Some (form.Serve how callers)) = true
+is_serve other = false
+
+either : (b : Bool) (x y : Option Form) → is_serve x ≡ false → is_serve y ≡ false → is_serve (if b then x else y) ≡ false
+either true x y p q = p
+either false x y p q = q
+
+journal_form-other : (guard : Option Guard) (words : List (String Global)) → is_serve (journal_form guard words) ≡ false
+journal_form-other guard [] = refl
+journal_form-other guard (journal ∷ names) =
+    either (not (has_dash (string_bytes journal)) && (nat_le 1 (length names) && nat_le (length names) LAST_CALLER && are_names names)) (Some (form.Keep (length names) guard)) None refl refl
+
+guarded_form-other : (guard : Option Guard) (words : List (String Global)) → is_serve (guarded_form guard words) ≡ false
+guarded_form-other None words = refl
+guarded_form-other (Some guard) words = journal_form-other (Some guard) words
+
+keep_form-other : (words : List (String Global)) → is_serve (keep_form words) ≡ false
+keep_form-other [] = refl
+keep_form-other (a ∷ []) = journal_form-other None (a ∷ [])
+keep_form-other (a ∷ b ∷ []) = journal_form-other None (a ∷ b ∷ [])
+keep_form-other (a ∷ b ∷ c ∷ []) = journal_form-other None (a ∷ b ∷ c ∷ [])
+keep_form-other (clock ∷ offset ∷ ahead ∷ minutes ∷ words) =
+    let guard = guard_of (offset_in (string_bytes offset)) (number_in (string_bytes minutes)) in
+    let all = clock ∷ offset ∷ ahead ∷ minutes ∷ words in
+    either (is_word (codes "--clock") clock && is_word (codes "--ahead") ahead) (guarded_form guard words) (journal_form None all) (guarded_form-other guard words) (journal_form-other None all)
+
 keep_form-serves-not : (words : List (String Global)) (how : Sessions) (n : ℕ) → keep_form words ≡ Some (form.Serve how n) → ⊥
-keep_form-serves-not [] how n is = cc
-keep_form-serves-not (journal ∷ names) how n is = go (nat_le 1 (length names) && nat_le (length names) LAST_CALLER && are_names names) is
-  where
-    go : (b : Bool) → (if b then Some (form.Keep (length names)) else None) ≡ Some (form.Serve how n) → ⊥
-    go true is = cc
-    go false is = cc
+keep_form-serves-not words how n is = let other = keep_form-other words in let said = ap is_serve is in cc
 
 named_form-count : (words : List (String Global)) (how : Sessions) (n : ℕ) → named_form words ≡ Some (form.Serve how n) → length (drop 1 words) ≡ n
 named_form-count [] how n is = absurd (cc)
@@ -137,30 +190,35 @@ form_of-count words how n is =
     let g = skip (is_alone (codes "--version") words) (Some form.Version) _ how n refl f in
     named_form-count words how n g
 
-named_form-keep : (words : List (String Global)) (n : ℕ) → named_form words ≡ Some (form.Keep n) → (2 ≤ length (drop 1 words)) × (length (drop 1 words) ≤ LAST_CALLER + 1)
-named_form-keep [] n is = absurd (cc)
-named_form-keep (word ∷ names) n is = go (is_word (codes "serve") word) (is_word (codes "watch") word) (is_word (codes "keep") word) is
+named_form-keep : (words : List (String Global)) (n : ℕ) (given : Option Guard) → named_form words ≡ Some (form.Keep n given) → NamesFit given (drop 1 words)
+named_form-keep [] n given is = absurd (cc)
+named_form-keep (word ∷ names) n given is = go (is_word (codes "serve") word) (is_word (codes "watch") word) (is_word (codes "keep") word) is
   where
     go : (a b c : Bool)
         → (if a then serve_form sessions.WithoutLooks (length names) else if b then serve_form sessions.WithLooks (length names) else if c then keep_form names else numbered_form (word ∷ names))
-        ≡ Some (form.Keep n) → (2 ≤ length names) × (length names ≤ LAST_CALLER + 1)
-    go true b c is = absurd (serve_form-keeps-not sessions.WithoutLooks (length names) n is)
-    go false true c is = absurd (serve_form-keeps-not sessions.WithLooks (length names) n is)
-    go false false true is = keep_form-count names n is
+        ≡ Some (form.Keep n given) → NamesFit given names
+    go true b c is = absurd (serve_form-keeps-not sessions.WithoutLooks (length names) n given is)
+    go false true c is = absurd (serve_form-keeps-not sessions.WithLooks (length names) n given is)
+    go false false true is = keep_form-count names n given is
     go false false false is = absurd (let other = numbered_form-other (word ∷ names) in let said = ap serves is in cc)
 
-skip-keep : (b : Bool) (x y : Option Form) (n : ℕ) → serves x ≡ false → (if b then x else y) ≡ Some (form.Keep n) → y ≡ Some (form.Keep n)
-skip-keep true x y n other is = absurd (let said = ap serves is in cc)
-skip-keep false x y n other is = is
+skip-keep : (b : Bool) (x y : Option Form) (n : ℕ) (given : Option Guard) → serves x ≡ false → (if b then x else y) ≡ Some (form.Keep n given) → y ≡ Some (form.Keep n given)
+skip-keep true x y n given other is = absurd (let said = ap serves is in cc)
+skip-keep false x y n given other is = is
 
 -- behind the first word stand the journal's name and those of the callers
-pub form_of-keep : (words : List (String Global)) (n : ℕ) → form_of words ≡ Some (form.Keep n) → (2 ≤ length (drop 1 words)) × (length (drop 1 words) ≤ LAST_CALLER + 1)
-form_of-keep words n is =
-    let a = skip-keep (is_alone (codes "replay") words) (Some (form.Day day.Replay)) _ n refl is in
-    let b = skip-keep (is_alone (codes "tally") words) (Some (form.Day day.Tally)) _ n refl a in
-    let c = skip-keep (is_alone (codes "audit") words) (Some form.Audit) _ n refl b in
-    let d = skip-keep (is_alone (codes "continue") words) (Some form.Continue) _ n refl c in
-    let e = skip-keep (is_alone (codes "excess") words) (Some (form.Tours tour.Excess)) _ n refl d in
-    let f = skip-keep (is_alone (codes "--help") words) (Some form.Help) _ n refl e in
-    let g = skip-keep (is_alone (codes "--version") words) (Some form.Version) _ n refl f in
-    named_form-keep words n g
+pub form_of-keep : (words : List (String Global)) (n : ℕ) (given : Option Guard) → form_of words ≡ Some (form.Keep n given) → NamesFit given (drop 1 words)
+form_of-keep words n given is =
+    let a = skip-keep (is_alone (codes "replay") words) (Some (form.Day day.Replay)) _ n given refl is in
+    let b = skip-keep (is_alone (codes "tally") words) (Some (form.Day day.Tally)) _ n given refl a in
+    let c = skip-keep (is_alone (codes "audit") words) (Some form.Audit) _ n given refl b in
+    let d = skip-keep (is_alone (codes "continue") words) (Some form.Continue) _ n given refl c in
+    let e = skip-keep (is_alone (codes "excess") words) (Some (form.Tours tour.Excess)) _ n given refl d in
+    let f = skip-keep (is_alone (codes "--help") words) (Some form.Help) _ n given refl e in
+    let g = skip-keep (is_alone (codes "--version") words) (Some form.Version) _ n given refl f in
+    named_form-keep words n given g
+
+-- callers who may be served are some, and no more than may be
+pub some-served : (n : ℕ) → (1 ≤ n) × (n ≤ LAST_CALLER) → ¬ IsNoNumberOfLines n
+some-served n some (inl none) = omega (arith, some.0, none)
+some-served n some (inr many) = omega (arith, some.1, many)

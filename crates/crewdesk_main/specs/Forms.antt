@@ -45,4 +45,4 @@ Ends form.Audit result left left' asked asked' held held' given given' = EndsAud
 Ends form.Continue result left left' asked asked' held held' given given' = EndsContinue result left left' asked asked' held held' given given'
 Ends (form.Serve how callers) result left left' asked asked' held held' given given' =
     EndsDay result (ServesNames how callers left left') left left' asked asked' held held' given given'
-Ends (form.Keep callers) result left left' asked asked' held held' given given' = result ≢ Usage
+Ends (form.Keep callers guard) result left left' asked asked' held held' given given' = result ≢ Usage

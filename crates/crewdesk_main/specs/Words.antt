@@ -1,5 +1,5 @@
 -- The words that the program is given, and the forms of its command line.
-use Rattle.std.specs.Prelude.{ℕ, ◌^◌, ◌≤◌, ◌==◌, ⊤, Bool, true, false, not, ◌&&◌, nat_eq, nat_le, nat_lt, Option, None, Some, if◌then◌else◌, List, [], ◌∷◌, length, codes, decimal, String, string_bytes}
+use Rattle.std.specs.Prelude.{ℕ, ◌^◌, ◌≤◌, ◌==◌, ⊤, Bool, true, false, not, ◌&&◌, nat_eq, nat_le, nat_lt, Option, None, Some, if◌then◌else◌, List, [], ◌∷◌, length, drop, codes, decimal, String, string_bytes}
 use Rattle.desk_base.specs.declared.limits.TheConstants.{NUMBER_LIMIT}
 use Rattle.std.specs.Cmp.Lexicographic.{pointwise}
 use Rattle.std.specs.List.{list_any}
@@ -8,6 +8,10 @@ use Rattle.std.specs.Global.{Global}
 use Rattle.desk_model.specs.declared.edition.Edition.{Edition}
 use Rattle.desk_model.specs.declared.edition.Edition.TheVariants as edition
 use Rattle.desk_model.specs.declared.limits.TheConstants.{LAST_CALLER}
+use Rattle.kept_desk.specs.Offset.{offset_in}
+use Rattle.kept_desk.specs.declared.guard.Guard.{Guard}
+use Rattle.kept_desk.specs.declared.limits.TheConstants.{MOST_AHEAD}
+use Rattle.kept_desk.specs.declared.offset.Offset.{Offset}
 use Rattle.day_gen.specs.declared.numbers.TheConstants.{SET_UP}
 use Rattle.day_gen.specs.Generator.{most_commands}
 use Rattle.day_replay.specs.declared.day_form.DayForm.TheVariants as day
@@ -29,7 +33,7 @@ is_alone form (word ∷ other ∷ more) = false
 abbrev pub HasNumbers : Form → Type 0
 HasNumbers (form.Gen commands number edition) = (SET_UP ≤ commands) × (commands ≤ most_commands edition)
 HasNumbers (form.Serve how callers) = (1 ≤ callers) × (callers ≤ LAST_CALLER)
-HasNumbers (form.Keep callers) = (1 ≤ callers) × (callers ≤ LAST_CALLER)
+HasNumbers (form.Keep callers guard) = (1 ≤ callers) × (callers ≤ LAST_CALLER)
 HasNumbers other = ⊤
 
 -- a word is this one
@@ -100,13 +104,39 @@ unfoldable pub are_names : List (String Global) → Bool
 are_names [] = true
 are_names (name ∷ others) = if is_before (string_bytes name) others then are_names others else false
 
--- a journal is kept and callers are served, by the journal's name and those of the callers; none where nobody is named, or more than a desk
--- may have, or where they can't be names
-abbrev pub keep_form : List (String Global) → Option Form
-keep_form [] = None
-keep_form (journal ∷ names) = if nat_le 1 (length names) && nat_le (length names) LAST_CALLER && are_names names then Some (form.Keep (length names)) else None
+-- minutes are heard up to so many ahead of the clock at this offset; none where either is none, or where these are too many
+abbrev pub guard_of : Option Offset → Option ℕ → Option Guard
+guard_of None ahead = None
+guard_of (Some offset) None = None
+guard_of (Some offset) (Some ahead) = if nat_le ahead MOST_AHEAD then Some (record { offset = offset; ahead = ahead }) else None
 
--- the form that words with callers' names are, `serve NAME ..`, `watch NAME ..` and `keep JOURNAL NAME ..`, or with numbers
+-- a journal is kept and callers are served, by the journal's name and those of the callers; none where the journal's begins with a dash, where
+-- nobody is named, or more than a desk may have, or where they can't be names
+abbrev pub journal_form : Option Guard → List (String Global) → Option Form
+journal_form guard [] = None
+journal_form guard (journal ∷ names) =
+    if not (has_dash (string_bytes journal)) && (nat_le 1 (length names) && nat_le (length names) LAST_CALLER && are_names names)
+    then Some (form.Keep (length names) guard) else None
+
+-- so with a guard, if there is one
+abbrev pub guarded_form : Option Guard → List (String Global) → Option Form
+guarded_form None words = None
+guarded_form (Some guard) words = journal_form (Some guard) words
+
+-- with one by the words `--clock ±HHMM --ahead N` in front of the names, or without
+abbrev pub keep_form : List (String Global) → Option Form
+keep_form (clock ∷ offset ∷ ahead ∷ minutes ∷ words) =
+    if is_word (codes "--clock") clock && is_word (codes "--ahead") ahead
+    then guarded_form (guard_of (offset_in (string_bytes offset)) (number_in (string_bytes minutes))) words
+    else journal_form None (clock ∷ offset ∷ ahead ∷ minutes ∷ words)
+keep_form words = journal_form None words
+
+-- the words behind those of a guard, if there is one
+abbrev pub behind_guard : Option Guard → List (String Global) → List (String Global)
+behind_guard None words = words
+behind_guard (Some guard) words = drop 4 words
+
+-- the form that words with callers' names are, `serve NAME ..`, `watch NAME ..` and `keep .. JOURNAL NAME ..`, or with numbers
 abbrev pub named_form : List (String Global) → Option Form
 named_form [] = None
 named_form (word ∷ names) =
@@ -132,13 +162,13 @@ abbrev pub runs : Form → Bool
 runs form.Help = false
 runs form.Version = false
 runs (form.Serve how callers) = false
-runs (form.Keep callers) = false
+runs (form.Keep callers guard) = false
 runs other = true
 
 -- the form serves callers
 abbrev pub serves : Form → Bool
 serves (form.Serve how callers) = true
-serves (form.Keep callers) = true
+serves (form.Keep callers guard) = true
 serves other = false
 
 -- the form reads a source
@@ -148,7 +178,7 @@ reads form.Audit = true
 reads form.Continue = true
 reads (form.Tours how) = true
 reads (form.Serve how callers) = true
-reads (form.Keep callers) = true
+reads (form.Keep callers guard) = true
 reads other = false
 
 -- and runs the desk for it and the sink alone

@@ -1,13 +1,15 @@
-ghost use Rattle.std.specs.Prelude.{◌≡◌, IfSome};
-ghost use Rattle.crewdesk_main.specs.Words.{form_of, named_form, numbered_form, forecast_form, gen_form, record_form, serve_form, keep_form, when_form, number_in, HasNumbers};
+ghost use Rattle.std.specs.Prelude.{◌≡◌, IfSome, string_bytes};
+ghost use Rattle.kept_desk.specs.Offset.{offset_in};
+ghost use Rattle.crewdesk_main.specs.Words.{form_of, named_form, numbered_form, forecast_form, gen_form, record_form, serve_form, journal_form, keep_form, guard_of, when_form, number_in, HasNumbers};
 
 use crate::limits::MOST_SUPPOSED;
 use crate::tour_form::TourForm;
-use crate::words::{are_names, is_alone, read_number};
+use crate::words::{are_names, has_dash, is_alone, read_number};
 use day_gen::{SET_UP, most_commands};
 use day_replay::DayForm;
 use desk_base::{NUMBER_LIMIT, PersonNo, VacNo};
 use desk_model::{Edition, LAST_CALLER};
+use kept_desk::{Guard, MOST_AHEAD, Offset};
 use serve_desk::Sessions;
 
 /// The forms of the command line.
@@ -45,6 +47,8 @@ pub enum Form {
     Keep {
         /// How many names there are, 1 to 63.
         callers: u8,
+        /// How far ahead minutes are heard; `None` where any is.
+        guard: Option<Guard>,
     },
 }
 
@@ -86,23 +90,59 @@ fn named(words: &[String]) -> Option<Form>
         [word, names @ ..] if word.as_str() == "watch" => {
             serve_form(Sessions::WithLooks, names.len())
         }
-        [word, journal_and_names @ ..] if word.as_str() == "keep" => keep_form(journal_and_names),
+        [word, others @ ..] if word.as_str() == "keep" => keep_form(others),
         _ => numbered(words),
     }
 }
 
-// The form that keeps a journal and serves callers, by the journal's name and those of the callers; `None` where none are named, or more
-// than a desk may have, or where they can't be names.
+// The form that keeps a journal and serves callers, by the words of a guard, or none, and names.
 fn keep_form(words: &[String]) -> Option<Form>
     ensures is { result ≡ keep_form words.now }
     ensures numbers { IfSome result HasNumbers }
 {
-    let [_journal, names @ ..] = words else {
+    match words {
+        [clock, offset, ahead, minutes, others @ ..]
+            if clock.as_str() == "--clock" && ahead.as_str() == "--ahead" => {
+            let guard = read_guard(offset, minutes)?;
+            journal_form(Some(guard), others)
+        }
+        _ => journal_form(None, words),
+    }
+}
+
+// The guard of an offset and of a number of minutes; `None` where these are none, or too many.
+fn read_guard(offset: &String, minutes: &String) -> Option<Guard>
+    ensures { result ≡ guard_of (offset_in (string_bytes offset.now)) (number_in (string_bytes minutes.now)) }
+{
+    let offset = Offset::read(offset.as_bytes())?;
+    let ahead = read_number(minutes.as_str())?;
+    if ahead <= u64::from(MOST_AHEAD) {
+        Some(Guard {
+            offset,
+            ahead: ahead as u32,
+        })
+    } else {
+        None
+    }
+}
+
+// The same by the journal's name and those of the callers; `None` where the journal's begins with a dash, where none are named, or more
+// than a desk may have, or where they can't be names.
+fn journal_form(guard: Option<Guard>, words: &[String]) -> Option<Form>
+    ensures is { result ≡ journal_form guard words.now }
+    ensures numbers { IfSome result HasNumbers }
+{
+    let [journal, names @ ..] = words else {
         return None;
     };
-    if !names.is_empty() && names.len() <= usize::from(LAST_CALLER) && are_names(names) {
+    if !has_dash(journal.as_bytes())
+        && !names.is_empty()
+        && names.len() <= usize::from(LAST_CALLER)
+        && are_names(names)
+    {
         Some(Form::Keep {
             callers: names.len() as u8,
+            guard,
         })
     } else {
         None

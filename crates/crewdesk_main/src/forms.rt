@@ -18,6 +18,7 @@ crewdesk when V P        reads a day file from standard input and writes from wh
 crewdesk serve NAME ...  reads a day file from standard input, serves the caller of each name from NAME.in to NAME.out, and writes the journal of all
 crewdesk watch NAME ...  does so, and hears lines `look,B,K`: who stands at place K of board B; and `M,crew,V,W`: both vacancies are called, or neither
 crewdesk keep J NAME ...  serves so at a desk whose journal is in file J, made from a day file or gone on with; no reply is put before its entry is synced there
+crewdesk keep --clock Z --ahead N J NAME ...  does so, and answers what is stated more than N minutes ahead of the clock, at Z from UTC, such as -0600, with the clock's minute
 crewdesk audit           reads a journal from standard input and writes whether it is legal, or what is wrong in it
 crewdesk continue        reads a journal, a line + and commands from standard input and writes the journal that goes on with them
 crewdesk record P        reads a journal from standard input and writes the records of the tours of person P as JSON

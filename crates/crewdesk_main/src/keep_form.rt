@@ -13,7 +13,10 @@ use desk_io::{Sink, Source, Status};
 use desk_model::{Booked, LAST_CALLER};
 use fast_core::FastCore;
 use journal_device::{Found, JournalFile};
-use kept_desk::{JOURNAL_ENTRIES, Opened, Refused, UntilEnd, open_desk, serve_kept, whole_lines};
+use kept_desk::{
+    Guard, Guarded, JOURNAL_ENTRIES, Opened, Refused, SystemClock, UntilEnd, open_desk, serve_kept,
+    whole_lines,
+};
 use std::fs::{self, File, Files, OpenOptions};
 use std::sync::Wait;
 use std::thread::Threads;
@@ -25,9 +28,12 @@ const NEARLY_FULL: usize = 20_000;
 /// Serves callers at a desk whose journal is kept in the file of the first name: each entry's line is in it, and synced, before its reply is
 /// put. A file that has a journal is gone on with, and the source is left alone; for one that has none the source has a day file. The
 /// other names are the callers': the caller of each says what is in the file `NAME.in`, up to the line `end`, and has the replies in
-/// `NAME.out`. What is in the files no clause says.
+/// `NAME.out`. Where there is a guard, what they state too far ahead of the clock is answered with the clock's minute. What is in the files
+/// no clause says.
 pub fn keep_callers<R, S: Source, K: Sink>(
     rt: &R,
+    clock: &SystemClock<HostRuntime>,
+    guard: Option<Guard>,
     words: &[String],
     source: &mut S,
     sink: &mut K,
@@ -58,7 +64,7 @@ where
         Ok(opened) => {
             say_opened(rt, &text, &opened);
             drop(text);
-            serve_names(rt, opened, names)
+            serve_names(rt, clock, guard, opened, names)
         }
         Err(Refused::Ended(status)) => status,
         Err(Refused::Found(verdict)) => tell(rt.alloc(), &verdict, sink),
@@ -97,7 +103,13 @@ fn say_opened<R: Eprint, D: Found>(rt: &R, text: &[u8], opened: &Opened<D>) {
 
 // Serves the callers of these names at a desk that was opened for as many. Where the files of one can't be opened the others are served, and the
 // run ends as one with a fault.
-fn serve_names<R, D: Found + Send>(rt: &R, opened: Opened<D>, names: &[String]) -> Status
+fn serve_names<R, D: Found + Send>(
+    rt: &R,
+    clock: &SystemClock<HostRuntime>,
+    guard: Option<Guard>,
+    opened: Opened<D>,
+    names: &[String],
+) -> Status
 where
     R: Files<File = File> + Threads + Wait + Sync + AllocGlobal + Eprint,
     requires opened { IsOpened opened.opening (⟦<Book<FastCore> as Booked>⟧.history opened.book.book)
@@ -109,7 +121,7 @@ where
     let mut lines: Vec<Box<dyn CallerLine + Send>> = Vec::new(rt.alloc());
     let mut all_there = true;
     for name in names {
-        let Ok((line, is_there)) = line_of(rt, name.as_str()) else {
+        let Ok((line, is_there)) = line_of(rt, clock, guard, name.as_str()) else {
             return Status::NoMemory;
         };
         all_there &= is_there;
@@ -124,11 +136,16 @@ where
     }
 }
 
-// A caller's line over files, which ends with the caller's line `end`.
-type KeptLine = UntilEnd<FileLine<File, File>>;
+// A caller's line over files, which ends with the caller's line `end`, and is held against a clock; one at no offset tells no minute.
+type KeptLine = UntilEnd<Guarded<FileLine<File, File>, SystemClock<HostRuntime>>>;
 
 // The line of a caller over the files of this name, and whether they could be opened.
-fn line_of<R>(rt: &R, name: &str) -> Result<(Box<KeptLine>, bool), NoMemory>
+fn line_of<R>(
+    rt: &R,
+    clock: &SystemClock<HostRuntime>,
+    guard: Option<Guard>,
+    name: &str,
+) -> Result<(Box<KeptLine>, bool), NoMemory>
 where
     R: Files<File = File> + AllocGlobal + Eprint,
 {
@@ -141,6 +158,11 @@ where
         let _ = eprintln!(rt; "{name}: cannot be opened");
     }
     let line = FileLine::new(reader.ok(), writer.ok());
+    let (clock, ahead) = match guard {
+        Some(guard) => (clock.at(Some(guard.offset)), guard.ahead),
+        None => (clock.at(None), 0),
+    };
+    let line = Guarded::new(rt.alloc(), line, clock, ahead);
     Ok((Box::new(rt.alloc(), UntilEnd::new(line))?, is_there))
 }
 

@@ -25,6 +25,7 @@ mod write_text;
 
 use desk_io::{ReaderSource, Status, WriterSink};
 use exit::exit;
+use kept_desk::SystemClock;
 use start::start;
 use std::env;
 use std::io::ErrorKind;
@@ -35,8 +36,9 @@ use words::behind_the_name;
 fn main(rt: HostRuntime) -> ExitCode {
     let mut source = ReaderSource::new(rt.stdin());
     let mut sink = WriterSink::new(rt.stdout());
+    let clock = SystemClock::new(rt);
     let status = match given_words(&rt) {
-        Ok(words) => start(&rt, &words, &mut source, &mut sink),
+        Ok(words) => start(&rt, &clock, &words, &mut source, &mut sink),
         Err(status) => status,
     };
     exit(&rt, status)

@@ -8,8 +8,9 @@ use crate::form::Form;
 use crate::forms::perform;
 use crate::keep_form::keep_callers;
 use crate::serve_form::serve_callers;
-use crate::words::behind_the_first;
+use crate::words::{behind_the_first, behind_the_guard};
 use desk_io::{Sink, Source, Status};
+use kept_desk::SystemClock;
 use std::fs::{File, Files};
 use std::sync::Wait;
 use std::thread::Threads;
@@ -17,6 +18,7 @@ use std::thread::Threads;
 /// Does what the words say: serves the callers who are named, with a journal that is kept or without, or else what `perform` does, which waits for nobody.
 pub fn start<R, S: Source, K: Sink>(
     rt: &R,
+    clock: &SystemClock<HostRuntime>,
     words: &[String],
     source: &mut S,
     sink: &mut K,
@@ -38,7 +40,10 @@ where
         Some(Form::Serve { sessions, .. }) => {
             serve_callers(rt, sessions, behind_the_first(words), source, sink)
         }
-        Some(Form::Keep { .. }) => keep_callers(rt, behind_the_first(words), source, sink),
+        Some(Form::Keep { guard, .. }) => {
+            let names = behind_the_guard(guard, behind_the_first(words));
+            keep_callers(rt, clock, guard, names, source, sink)
+        }
         Some(form) => perform(rt.alloc(), form, source, sink),
         None => Status::Usage,
     }

@@ -1,10 +1,11 @@
 //! The words that the program is given.
 ghost use Rattle.std.specs.Prelude.{◌≡◌, drop, string_bytes, IfOk};
 ghost use Rattle.std.specs.Vec.Iter.{into_iter_items};
-ghost use Rattle.crewdesk_main.specs.Words.{are_names, has_dash, is_alone, is_before, number_in};
+ghost use Rattle.crewdesk_main.specs.Words.{are_names, behind_guard, has_dash, is_alone, is_before, number_in};
 
 use desk_base::NoMemory;
 use itoa::Buffer;
+use kept_desk::Guard;
 use std::alloc::Global;
 use std::env::Args;
 
@@ -28,6 +29,16 @@ pub fn behind_the_first(words: &[String]) -> &[String]
     match words {
         [_, others @ ..] => others,
         [] => words,
+    }
+}
+
+/// The words behind those of a guard, if there is one.
+pub fn behind_the_guard(guard: Option<Guard>, words: &[String]) -> &[String]
+    ensures { result.now ≡ behind_guard guard words.now }
+{
+    match guard {
+        Some(_) => words.get(4..).unwrap_or(&[]),
+        None => words,
     }
 }
 
@@ -73,8 +84,8 @@ fn is_before(word: &String, others: &[String]) -> bool
     !has_dash(bytes) && !bytes.contains(&b'/') && !others.contains(word)
 }
 
-// Whether a text begins with a dash.
-fn has_dash(text: &[u8]) -> bool
+/// Whether a text begins with a dash.
+pub fn has_dash(text: &[u8]) -> bool
     ensures { result ≡ has_dash text.now }
 {
     match text {

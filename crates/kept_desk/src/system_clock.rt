@@ -7,20 +7,32 @@ use std::time::{Clock as HostClock, SystemTime};
 
 /// The system's clock, which counts UTC, read at an offset; at none it tells no minute. What it tells no clause says.
 #[derive(Drop)]
-pub struct SystemClock<R: HostClock + Drop> {
+pub struct SystemClock<R: HostClock + Copy> {
     rt: R,
     offset: Option<Offset>,
     told: Option<Minute>,
     asked: u64,
 }
 
-impl<R: HostClock + Drop> SystemClock<R> {
-    /// The clock of this system at this offset, which was not asked yet.
-    pub fn new(rt: R, offset: Option<Offset>) -> SystemClock<R>
+impl<R: HostClock + Copy> SystemClock<R> {
+    /// The clock of this system at no offset, which was not asked yet.
+    pub fn new(rt: R) -> SystemClock<R>
         ensures { ⟦<SystemClock<R> as Clock>⟧.minute result ≡ None }
     {
         SystemClock {
             rt,
+            offset: None,
+            told: None,
+            asked: 0,
+        }
+    }
+
+    /// A clock of the same system at this offset, or at none, which was not asked yet.
+    pub fn at(&self, offset: Option<Offset>) -> SystemClock<R>
+        ensures { ⟦<SystemClock<R> as Clock>⟧.minute result ≡ None }
+    {
+        SystemClock {
+            rt: self.rt,
             offset,
             told: None,
             asked: 0,
@@ -40,7 +52,7 @@ impl<R: HostClock + Drop> SystemClock<R> {
     }
 }
 
-impl<R: HostClock + Drop> Clock for SystemClock<R> {
+impl<R: HostClock + Copy> Clock for SystemClock<R> {
     ghost minute = { λ s. s.told };
 
     ghost asked = { λ s. s.asked };

@@ -3,6 +3,8 @@
 #![tactic(auto)]
 
 #[cfg(test)]
+mod guard_tests;
+#[cfg(test)]
 mod open_tests;
 #[cfg(test)]
 mod serve_tests;
