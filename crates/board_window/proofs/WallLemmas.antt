@@ -77,14 +77,13 @@ Stand-more law client shown pending later queued list now waiting c stand more i
     let wall : list.wall ≡ now.wall = sym (ap (λ f. f.wall) (given ∙ is.front) ∙ stand.2) in
     let n = length shown.front.entries in
     let begins = take-begins n queued.entries in
-    let few : n ≤ length queued.entries = omega (arith, ap length stand.5, ap length begins.1, length-append (take n queued.entries) begins.0) in
-    (
+    let few : n ≤ length queued.entries = omega (arith, ap length stand.5, ap length begins.1, length-append (take n queued.entries) begins.0) in (
       stand.0 ∙ ap Some wall,
       stand.1 ∙ wall,
       ap (λ f. f.wall) (sym given),
       sym (ap (λ (x : Shelf). x.front) longer),
       λ right. subst IsRight (sym longer) (right-after law s c (c ∷ []) refl (subst (λ (f : FrontValue). IsNextChange f c) stand.3 is)
-      (subst (λ (f : FrontValue). IsLegal (history_in f)) stand.3 legal) (subst (λ (f : FrontValue). IsNext (history_in f) c.entry) stand.3 next) (stand.4 right)),
+          (subst (λ (f : FrontValue). IsLegal (history_in f)) stand.3 legal) (subst (λ (f : FrontValue). IsNext (history_in f) c.entry) stand.3 next) (stand.4 right)),
       stand.5 ∙ sym (take-append-le n queued.entries (c.entry ∷ []) few) ∙ ap (λ (f : FrontValue). take n f.entries) (sym is.front),
       sym given,
     )

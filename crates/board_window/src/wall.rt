@@ -196,15 +196,6 @@ impl Wall {
         self.queued.count()
     }
 
-    // The list that is shown, as a note.
-    fn note(&self) -> Note
-        ensures { result ≡ front_of self.now.wall self.now.shown }
-    {
-        Note {
-            front: self.copies.published().front.again(),
-        }
-    }
-
     // Queues the next entry, and says whether it did; else there is no memory for it.
     fn queue_one(&mut self, entry: &Entry) -> bool
         requires few { length self.old.queued + 1 < 2 ^ 32 }
@@ -254,20 +245,26 @@ impl Wall {
         }
     }
 
-    /// Takes a desk's entries, all of them, fewer than 2^32, of which those that it was given before are the first. They are shown once they are
-    /// published. The note is of all that were taken: the others, the last, are for want of memory not.
-    pub fn add(&mut self, entries: &[Entry]) -> Note
+    /// Takes a desk's entries, all of them, fewer than 2^32, of which those that it was given before are the first. What is shown once it is
+    /// published is all but the last `behind` of them; above 0 is a want of memory. Views learn by the note what is shown then.
+    pub fn add(&mut self, entries: &[Entry]) -> Showing
         requires legal { IsLegal (history_of self.old.wall.opening entries.now) }
         requires few { length entries.now < 2 ^ 32 }
         requires added { IsPrefix self.old.added entries.now }
         ensures wall { self.new.wall ≡ self.old.wall }
         ensures shown { self.new.shown ≡ self.old.shown }
-        ensures note { result ≡ front_of self.new.wall self.new.added }
+        ensures note { result.note ≡ front_of self.new.wall self.new.queued }
+        ensures queued { IsPrefix self.new.queued entries.now }
+        ensures behind { length self.new.queued + result.behind ≡ length entries.now }
         ensures added { IsPrefix self.new.added entries.now }
+        ensures more { IsPrefix self.old.queued self.new.queued }
     {
         self.queue_all(entries);
-        Note {
-            front: self.list.front().again(),
+        Showing {
+            note: Note {
+                front: self.queued.again(),
+            },
+            behind: entries.len() as u32 - self.count(),
         }
     }
 
@@ -298,12 +295,9 @@ impl Wall {
         ensures added { IsPrefix self.new.added entries.now }
         ensures more { IsPrefix self.old.shown self.new.shown }
     {
-        self.queue_all(entries);
+        let showing = self.add(entries);
         self.publish(rt);
-        Showing {
-            note: self.note(),
-            behind: entries.len() as u32 - self.count(),
-        }
+        showing
     }
 
     /// Ends the windows: from then on no view sees anything. It waits for views that are just looking.

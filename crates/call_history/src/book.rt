@@ -162,4 +162,8 @@ impl<C: DeskCore> Booked for Book<C> {
 // It keeps no journal, so none is sure.
 impl<C: DeskCore> Lasting for Book<C> {
     ghost sure = { λ _. 0 };
+
+    fn defers(&self) -> bool {
+        false
+    }
 }

@@ -3,10 +3,8 @@
 
 mod book;
 mod full;
-mod stepped;
 mod steps;
 
 pub use book::Book;
 pub use full::Full;
-pub use stepped::Stepped;
 pub use steps::Steps;

@@ -20,7 +20,11 @@ use kept_desk::{
 use std::fs::{self, File, Files, OpenOptions};
 use std::sync::Wait;
 use std::thread::Threads;
+use std::time::{Clock, Instant};
 use std::{io, str};
+
+// A sync that takes more microseconds is slow: more than the wakes by which callers hand a turn on.
+const SLOW_SYNC: u128 = 50;
 
 // A journal with room for fewer entries than this is nearly full.
 const NEARLY_FULL: usize = 20_000;
@@ -39,7 +43,7 @@ pub fn keep_callers<R, S: Source, K: Sink>(
     sink: &mut K,
 ) -> Status
 where
-    R: Files<File = File> + Threads + Wait + Sync + AllocGlobal + Eprint,
+    R: Files<File = File> + Threads + Wait + Sync + AllocGlobal + Eprint + Clock,
     requires some { 2 ≤ length words.now }
     requires most { length words.now ≤ LAST_CALLER + 1 }
     ensures form { result ≢ Status.Usage }
@@ -60,16 +64,29 @@ where
         Ok(text) => text,
         Err(fault) => return no_journal(rt, journal.as_str(), Status::from(fault)),
     };
+    let is_slow = is_slow(rt, &mut file, text.len() as u64);
     match open_desk(rt.alloc(), source, file, &text, names.len() as u8, sink) {
         Ok(opened) => {
             say_opened(rt, &text, &opened);
             drop(text);
+            let opened = opened.deferring(is_slow);
             serve_names(rt, clock, guard, opened, names)
         }
         Err(Refused::Ended(status)) => status,
         Err(Refused::Found(verdict)) => tell(rt.alloc(), &verdict, sink),
         Err(Refused::Fault(_file)) => Status::WriteFault,
     }
+}
+
+// Whether the file takes so long to sync that several entries are better kept by one sync: it is synced once, at the length that it has.
+fn is_slow<R: Clock>(rt: &R, file: &mut JournalFile<File>, len: u64) -> bool {
+    let Ok(before) = Instant::now(rt) else {
+        return false;
+    };
+    file.cut(len)
+        && before
+            .elapsed(rt)
+            .is_ok_and(|took| took.as_micros() > SLOW_SYNC)
 }
 
 // Says that a journal could not be read, and passes on how the run ends by that.

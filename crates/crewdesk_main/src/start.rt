@@ -14,6 +14,7 @@ use kept_desk::SystemClock;
 use std::fs::{File, Files};
 use std::sync::Wait;
 use std::thread::Threads;
+use std::time::Clock;
 
 /// Does what the words say: serves the callers who are named, with a journal that is kept or without, or else what `perform` does, which waits for nobody.
 pub fn start<R, S: Source, K: Sink>(
@@ -24,7 +25,7 @@ pub fn start<R, S: Source, K: Sink>(
     sink: &mut K,
 ) -> Status
 where
-    R: Files<File = File> + Threads + Wait + Sync + AllocGlobal + Eprint,
+    R: Files<File = File> + Threads + Wait + Sync + AllocGlobal + Eprint + Clock,
     ensures usage { result ≡ Status.Usage ↔ (form_of words.now ≡ None) }
     ensures ends { (form : FormValue) → form_of words.now ≡ Some form → Ends form result
         (S.left source.old) (S.left source.new) (S.faults source.old) (S.faults source.new)

@@ -1,5 +1,5 @@
 -- A call, from the turn that it takes to the one that it gives back.
-use Rattle.std.proofs.Common.{◌≡◌, ◌≤◌, ◌∙◌, arith, ℕ, List, [], ◌∷◌, ◌++◌, sym, ap, subst}
+use Rattle.std.proofs.Common.{◌≡◌, ◌≤◌, ◌<◌, ◌∙◌, arith, length, length-append, ℕ, List, [], ◌∷◌, ◌++◌, sym, ap, subst}
 use mathlib.Core.List.{IsPrefix}
 use Rattle.desk_model.specs.statements.Entry.{EntryValue}
 use Rattle.desk_model.specs.histories.History.{history_of}
@@ -11,6 +11,8 @@ use Rattle.turn_gate.specs.Seats.{SeatValue, TurnValue}
 use Rattle.turn_gate.specs.Told.{own}
 use Rattle.turn_gate.specs.Turns.{Took, MayGive, Gave}
 use Rattle.desk_shared.specs.Calls.{Calls}
+use Rattle.desk_shared.specs.Kept.{KnowsOnlySure}
+use Rattle.desk_shared.specs.declared.receipt.Receipt.{Receipt}
 
 -- an entry that comes next is of who states it
 next-caller : (o : OpeningValue) (es : List EntryValue) (caller : ℕ) (s : StatedValue) (e : EntryValue) → e ≡ next (history_of o es) caller s → e.caller ≡ caller
@@ -56,3 +58,22 @@ Calls-gave mine begins seat later turn book given caller place s e took gave who
       number = gave.number ∙ took.number;
       calls = gave.calls ∙ took.calls;
     }
+
+-- a seat that knows more as sure made the same call
+pub Calls-sure : (o : OpeningValue) (seat later now : SeatValue) (s : StatedValue) (receipt : Receipt) → Calls o seat later s receipt → now ≡ record later { sure = now.sure } → Calls o seat now s receipt
+Calls-sure o seat later now s receipt call same = subst (λ (l : SeatValue). Calls o seat l s receipt) (sym same) (record {
+  before = call.before;
+  place = call.place;
+  entry = call.entry;
+  known = call.known;
+  knew = call.knew;
+  begins = call.begins;
+  own_calls = call.own_calls;
+  legal = call.legal;
+  number = call.number;
+  calls = call.calls;
+})
+
+-- where its call's entry is sure, it knows no other
+pub Calls-knows : (o : OpeningValue) (seat later : SeatValue) (s : StatedValue) (receipt : Receipt) → Calls o seat later s receipt → receipt.place < later.sure → KnowsOnlySure later
+Calls-knows o seat later s receipt call sure = omega (arith, sure, call.place, ap length call.known, length-append call.before (receipt.entry ∷ []))

@@ -1,7 +1,8 @@
 -- Entries that are kept.
-use Rattle.std.proofs.Common.{◌≡◌, ◌∙◌, ℕ, ◌+◌, ◌-◌, ◌≤◌, true, false, Bool, List, [], ◌∷◌, ◌++◌, length, take, drop, refl, sym, ap, subst, arith, append_assoc, length-append, Option, None, Some}
+use Rattle.std.proofs.Common.{◌≡◌, ◌∙◌, ℕ, ◌+◌, ◌-◌, ◌≤◌, true, false, Bool, List, [], ◌∷◌, ◌++◌, length, take, drop, sym, ap, subst, arith, append_assoc, Option, None, Some}
 use Rattle.std.specs.Prelude.{slice_index_or}
 use Rattle.std.specs.List.{All}
+use Rattle.std.specs.Bool.{OnTrue, OnFalse}
 use Rattle.std.proofs.Math.Seq.{take-append_seam, take-add, take-length}
 use Rattle.std.proofs.lemmas.Grind.{flat_map-append}
 use Rattle.std.proofs.lemmas.List.{take-append-drop, take-append-le, take_all}
@@ -54,3 +55,15 @@ pub each-kept : (found : Option (List ℕ)) (h later : History) (n : ℕ) (seats
     → All (λ seat. AreKept found later.opening (take seat.sure later.entries)) seats
 each-kept found h later n seats same kept each = λ i d within.
     subst (λ (x : History). AreKept found x.opening (take (slice_index_or seats i d).sure x.entries)) (sym same) (fewer-kept found h.opening h.entries (slice_index_or seats i d).sure n (each i d within) kept)
+
+-- ---- after all sessions
+
+-- where entries are kept, so many of the first are
+taken-kept : (found : Option (List ℕ)) (o : OpeningValue) (es : List EntryValue) (m : ℕ) → AreKept found o es → AreKept found o (take m es)
+taken-kept found o es m kept = front-kept found o (take m es) (drop m es) (subst (AreKept found o) (sym (take-append-drop m es)) kept)
+
+-- the first entries that were kept are, whatever came of another try to keep all
+pub kept-still : (done : Bool) (was found : Option (List ℕ)) (h : History) → OnTrue done (Tells found (journal h)) → OnFalse done (found ≡ was) → (m : ℕ) → AreKept was h.opening (take m h.entries)
+    → AreKept found h.opening (take m h.entries)
+kept-still true was found h tells same m kept = taken-kept found h.opening h.entries m (whole-kept found h tells)
+kept-still false was found h tells same m kept = subst (λ f. AreKept f h.opening (take m h.entries)) (sym same) kept

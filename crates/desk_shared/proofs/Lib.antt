@@ -1,4 +1,5 @@
 mod CallLemmas
 mod CrewLemmas
 mod FrontLemmas
-mod KeptLemmas
+pub mod KeptLemmas
+mod ShownLemmas

@@ -1,11 +1,10 @@
 //! What a desk with windows keeps.
 
-ghost use Rattle.std.specs.Prelude.{◌≡◌, ◌≢◌, ◌+◌, ◌<◌, ◌≤◌, IfSome, IfNone, length, take, true};
+ghost use Rattle.std.specs.Prelude.{◌≡◌, ◌+◌, ◌<◌, ◌≤◌, length, take, true, false};
+ghost use Rattle.std.specs.Bool.{OnTrue};
 ghost use mathlib.Core.List.{IsPrefix};
 ghost use Rattle.desk_model.specs.histories.History.{with_entry};
 ghost use Rattle.desk_model.specs.histories.Legal.{IsLegal, next};
-ghost use Rattle.desk_model.specs.texts.Journal.{journal};
-ghost use Rattle.journal_device.specs.Device.{Begins, Tells};
 ghost use Rattle.desk_model.specs.declared.limits.TheConstants.{LAST_CALLER};
 ghost use Rattle.board_window.specs.declared.wall_name.WallName.{WallName as Name};
 ghost use Rattle.desk_shared.specs.Shown.{IsWallOf};
@@ -33,42 +32,51 @@ pub fn a_desk_has_one_wall()
 {}
 
 impl<B: Steps> ShownBook<B> {
-    /// Answers what caller 0 to 63 states, keeps the entry, and shows it where it is told as kept; else nothing more is shown. There is room
-    /// for it.
-    pub(crate) fn step<R: Wait>(
-        &mut self,
-        rt: &R,
-        caller: u8,
-        stated: Stated,
-    ) -> (Entry, Option<Showing>)
+    /// Answers what caller 0 to 63 states, and tells what is shown once the entry is kept. There is room for it.
+    pub(crate) fn step(&mut self, caller: u8, stated: Stated) -> (Entry, Showing)
         requires caller { caller ≤ LAST_CALLER }
         requires room { 0 < self.old.left }
         ensures answer { result.0 ≡ next self.old.history caller stated }
         ensures history { self.new.history ≡ with_entry self.old.history result.0 }
         ensures left { self.new.left + 1 ≡ self.old.left }
         ensures wall { self.new.wall ≡ self.old.wall }
-        ensures note_wall { IfSome result.1 (λ showing. showing.note.wall ≡ self.old.wall) }
-        ensures note { IfSome result.1 (λ showing. IsPrefix showing.note.entries self.new.history.entries) }
-        ensures behind { IfSome result.1 (λ showing.
-            length showing.note.entries + showing.behind ≡ length self.new.history.entries) }
-        ensures always { IfNone result.1 (B.always ≢ true) }
-
-        // What is shown to be told is kept: the journal up to the entry, with its line. And what was kept stays kept.
-        ensures kept { IfSome result.1 (λ showing. Tells self.new.kept (journal self.new.history)) }
-        ensures grows { Begins self.old.kept self.new.kept }
-        ensures sure { IfSome result.1 (λ showing. self.new.sure ≡ length self.new.history.entries) }
-        ensures no_fewer { self.old.sure ≤ self.new.sure }
+        ensures note_wall { result.1.note.wall ≡ self.old.wall }
+        ensures note { IsPrefix result.1.note.entries self.new.history.entries }
+        ensures behind { length result.1.note.entries + result.1.behind ≡ length self.new.history.entries }
+        ensures sure { self.new.sure ≡ self.old.sure }
     {
-        let Ok(stepped) = self.book.step(caller, stated) else {
+        let Ok(entry) = self.book.step(caller, stated) else {
             unreachable!()
         };
         self.book.is_legal();
-        if !stepped.kept {
-            return (stepped.entry, None);
+        (entry, self.wall.add(self.book.entries()))
+    }
+
+    /// Has all entries kept, and shown, and says whether they are kept; where that is left to a later turn, nothing is done.
+    pub(crate) fn keep<R: Wait>(&mut self, rt: &R, is_later: bool) -> bool
+        ensures history { self.new.history ≡ self.old.history }
+        ensures left { self.new.left ≡ self.old.left }
+        ensures wall { self.new.wall ≡ self.old.wall }
+        ensures sure { OnTrue result (self.new.sure ≡ length self.new.history.entries) }
+        ensures no_fewer { self.old.sure ≤ self.new.sure }
+        ensures always { B.always ≡ true → is_later ≡ false → result ≡ true }
+    {
+        if is_later {
+            return false;
+        }
+        if !self.book.keep() {
+            return false;
         }
         self.sure = self.book.count();
-        let showing = self.wall.show(rt, self.book.entries());
-        (stepped.entry, Some(showing))
+        self.wall.publish(rt);
+        true
+    }
+
+    /// Whether the entries of several turns are better kept at once.
+    pub(crate) fn is_slow(&self) -> bool
+        ensures always { B.always ≡ true → result ≡ false }
+    {
+        self.book.defers()
     }
 
     /// What it keeps is a legal history, and its wall is of a desk that was opened so. It does nothing: its clauses are the laws.
@@ -138,4 +146,8 @@ impl<B: Steps> Booked for ShownBook<B> {
 
 impl<B: Steps> Lasting for ShownBook<B> {
     ghost sure = { λ b. b.sure };
+
+    fn defers(&self) -> bool {
+        self.is_slow()
+    }
 }

@@ -1,4 +1,5 @@
-ghost use Rattle.std.specs.Prelude.{◌≡◌, ◌≢◌, ◌+◌, ◌*◌, ◌<◌, ◌≤◌, [], length, take, vec_len, IfOk, IfErr, IfSome, IfNone, true};
+ghost use Rattle.std.specs.Prelude.{◌≡◌, ◌≢◌, ◌+◌, ◌*◌, ◌<◌, ◌≤◌, [], length, take, vec_len, IfOk, IfErr, IfSome, IfNone, true, false};
+ghost use Rattle.std.specs.Bool.{OnTrue};
 ghost use Rattle.std.specs.List.{All};
 ghost use Rattle.turn_gate.specs.Told.{told, start_of, IsBookOf};
 ghost use Rattle.turn_gate.specs.Seats.{IsSeatOf, new_seats};
@@ -43,6 +44,14 @@ impl<B: Steps> Model for ShownDesk<B> {
 
     // the book has room for all calls
     ghost invariant = { λ desk. end desk.gate.start ≤ desk.gate.start.book.room };
+}
+
+// What is told of what is shown: nothing where the entry isn't kept.
+fn if_kept(is_kept: bool, showing: Showing) -> Option<Showing>
+    ensures some { IfSome result (λ told. (told ≡ showing) × (is_kept ≡ true)) }
+    ensures none { IfNone result (is_kept ≡ false) }
+{
+    if is_kept { Some(showing) } else { None }
 }
 
 impl<B: Steps + Drop> ShownDesk<B> {
@@ -106,12 +115,17 @@ impl<B: Steps + Drop> ShownDesk<B> {
         match self.gate.take(rt, seat) {
             Ok((turn, mut book)) => {
                 let place = turn.place();
-                let (entry, showing) = book.step(rt, turn.seat_no(), stated);
+                let (entry, showing) = book.step(turn.seat_no(), stated);
                 book.is_legal();
+                let is_slow = book.is_slow();
+                let is_later = is_slow && self.gate.has_next(&turn);
+                let is_kept = book.keep(rt, is_later);
+                let seat = self.gate.give(turn, book);
+                let (seat, is_kept) = self.settle(rt, seat, place, is_slow, is_later, is_kept);
                 CalledShown {
-                    seat: self.gate.give(turn, book),
+                    seat,
                     outcome: Ok(Receipt { place, entry }),
-                    showing,
+                    showing: if_kept(is_kept, showing),
                 }
             }
             Err(spent) => CalledShown {
@@ -120,6 +134,38 @@ impl<B: Steps + Drop> ShownDesk<B> {
                 showing: None,
             },
         }
+    }
+
+    // What comes of an entry behind its turn, and whether it is kept: where the turn kept it, all who wait for that are told; where that is
+    // left to a later turn, it waits; and where it can't be kept, nobody waits any more.
+    fn settle<R: Wait>(
+        &self,
+        rt: &R,
+        seat: Seat<ShownBook<B>>,
+        place: u32,
+        is_slow: bool,
+        is_later: bool,
+        is_kept: bool,
+    ) -> (Seat<ShownBook<B>>, bool)
+        requires seat { IsSeatOf self.now seat }
+        requires sure { OnTrue is_kept (place < seat.sure) }
+        ensures same { result.0 ≡ record seat { sure = result.0.sure } }
+        ensures no_fewer { seat.sure ≤ result.0.sure }
+        ensures sure { OnTrue result.1 (place < result.0.sure) }
+        ensures kept { OnTrue is_kept (result.1 ≡ true) }
+    {
+        if is_kept {
+            let mut seat = seat;
+            if is_slow {
+                self.gate.tell(&mut seat, place.saturating_add(1));
+            }
+            return (seat, true);
+        }
+        if is_later {
+            return self.gate.wait_sure(rt, seat, place);
+        }
+        self.gate.stop();
+        (seat, false)
     }
 
     // A call of a seat that has one left: its entry, and what is shown then.

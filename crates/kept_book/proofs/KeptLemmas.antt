@@ -40,7 +40,7 @@ tells-IsProp : (known : Option (List ℕ)) (bytes : List ℕ) → IsProp (Tells 
 tells-IsProp None bytes = hlevel props
 tells-IsProp (Some known) bytes = hlevel props
 
-pub whole-IsProp : (sound : Bool) (known : Option (List ℕ)) (bytes : List ℕ) → IsProp (OnTrue sound (Tells known bytes))
+whole-IsProp : (sound : Bool) (known : Option (List ℕ)) (bytes : List ℕ) → IsProp (OnTrue sound (Tells known bytes))
 whole-IsProp true known bytes = tells-IsProp known bytes
 whole-IsProp false known bytes = hlevel props
 
@@ -79,47 +79,65 @@ keeps-next known h e keeps = record {
 pub keeps-all : (known : Option (List ℕ)) (h : History) → Tells known (journal h) → KeepsFront known h
 keeps-all known h tells = record { entries = h.entries; later = []; begins = append-nil h.entries; tells = tells }
 
--- whatever came of the device, what it has stands so to the history with one entry more
-stands-next : (sound done : Bool) (written kept after later : Option (List ℕ)) (h : History) (e : EntryValue) → Stands sound written kept h
-    → OnTrue done (after ≡ append_known written (entry_line e)) → OnTrue done (later ≡ after)
-    → OnFalse done (AddsSome written after (entry_line e)) → OnFalse done (later ≡ kept)
-    → OnFalse sound (done ≡ false) → OnFalse sound (after ≡ written)
-    → Stands done after later (with_entry h e)
-stands-next true true written kept after later h e stands all synced front same unsound stays =
-    let whole = subst (λ w. Tells w (journal (with_entry h e))) (sym all) (tells-next written h e stands.0) in
-    (whole, subst (λ k. Tells k (journal (with_entry h e))) (sym synced) whole)
-stands-next true false written kept after later h e stands all synced front same unsound stays =
-    (front-some written after h e stands.0 front, keeps-next later h e (keeps-all later h (subst (λ k. Tells k (journal h)) (sym same) stands.1)))
-stands-next false true written kept after later h e stands all synced front same unsound stays = absurd (false≢true (sym unsound))
-stands-next false false written kept after later h e stands all synced front same unsound stays =
-    (subst (λ w. TellsFront w (with_entry h e)) (sym stays) (front-next written h e stands.0), keeps-next later h e (subst (λ k. KeepsFront k h) (sym same) stands.1))
+-- a whole journal is a front of itself
+front-all : (known : Option (List ℕ)) (h : History) → Tells known (journal h) → TellsFront known h
+front-all None h tells = tt
+front-all (Some known) h tells = ([], append-nil known ∙ tells)
 
--- and the entries that are kept are a front of it
+-- whatever came of an append, what the device has stands so to the history with one entry more
+stands-next : (sound done : Bool) (written kept after : Option (List ℕ)) (h : History) (e : EntryValue) → Stands sound written kept h
+    → OnTrue done (after ≡ append_known written (entry_line e)) → OnFalse done (AddsSome written after (entry_line e)) → OnFalse sound (done ≡ false) → OnFalse sound (after ≡ written)
+    → Stands done after kept (with_entry h e)
+stands-next true true written kept after h e stands all front unsound stays = (subst (λ w. Tells w (journal (with_entry h e))) (sym all) (tells-next written h e stands.0), keeps-next kept h e stands.1)
+stands-next true false written kept after h e stands all front unsound stays = (front-some written after h e stands.0 front, keeps-next kept h e stands.1)
+stands-next false true written kept after h e stands all front unsound stays = absurd (false≢true (sym unsound))
+stands-next false false written kept after h e stands all front unsound stays =
+    (subst (λ w. TellsFront w (with_entry h e)) (sym stays) (front-next written h e stands.0), keeps-next kept h e stands.1)
+
+-- and of a sync
+stands-synced : (sound done : Bool) (written kept later : Option (List ℕ)) (h : History) → Stands sound written kept h → OnTrue done (later ≡ written) → OnFalse done (later ≡ kept) → OnFalse sound (done ≡ false)
+    → Stands done written later h
+stands-synced true true written kept later h stands synced same unsound = (stands.0, keeps-all later h (subst (λ k. Tells k (journal h)) (sym synced) stands.0))
+stands-synced true false written kept later h stands synced same unsound = (front-all written h stands.0, subst (λ k. KeepsFront k h) (sym same) stands.1)
+stands-synced false true written kept later h stands synced same unsound = absurd (false≢true (sym unsound))
+stands-synced false false written kept later h stands synced same unsound = (stands.0, subst (λ k. KeepsFront k h) (sym same) stands.1)
+
+-- where it was done, the whole journal is kept
+synced-whole : (sound done : Bool) (written kept later : Option (List ℕ)) (h : History) → Stands sound written kept h → OnTrue done (later ≡ written) → OnFalse sound (done ≡ false)
+    → OnTrue done (Tells later (journal h))
+synced-whole true true written kept later h stands synced unsound = subst (λ k. Tells k (journal h)) (sym synced) stands.0
+synced-whole true false written kept later h stands synced unsound = tt
+synced-whole false true written kept later h stands synced unsound = absurd (false≢true (sym unsound))
+synced-whole false false written kept later h stands synced unsound = tt
+
+-- the entries that are kept are a front
 keeps-first : (sound : Bool) (written kept : Option (List ℕ)) (h : History) → Stands sound written kept h → KeepsFront kept h
-keeps-first true written kept h stands = keeps-all kept h stands.1
+keeps-first true written kept h stands = stands.1
 keeps-first false written kept h stands = stands.1
+
+-- the same where how it stands is only known to be so
+pub stands-kept : (sound : Bool) (written kept : Option (List ℕ)) (h : History) → Tells written (journal h) → Tells kept (journal h) → ∥ Stands true written kept h ∥₁
+stands-kept sound written kept h written_all kept_all = ∣ (written_all, keeps-all kept h kept_all) ∣₁
 
 pub keeps-front : (sound : Bool) (written kept : Option (List ℕ)) (h : History) → ∥ Stands sound written kept h ∥₁ → ∥ KeepsFront kept h ∥₁
 keeps-front sound written kept h stands = ∥∥₁_elim stands squash₁ (λ so. ∣ keeps-first sound written kept h so ∣₁)
 
--- all of it, where the device had no fault
-all-kept : (sound : Bool) (written kept : Option (List ℕ)) (h : History) → Stands sound written kept h → OnTrue sound (Tells kept (journal h))
-all-kept true written kept h stands = stands.1
-all-kept false written kept h stands = tt
-
-pub keeps-whole : (sound : Bool) (written kept : Option (List ℕ)) (h : History) → ∥ Stands sound written kept h ∥₁ → OnTrue sound (Tells kept (journal h))
-keeps-whole sound written kept h stands = ∥∥₁_elim stands (whole-IsProp sound kept (journal h)) (all-kept sound written kept h)
-
--- whatever came of the device, it stands so with one entry more, whose line was appended or was to be
-pub stands-after : (sound done : Bool) (written kept after later : Option (List ℕ)) (h g : History) (e : EntryValue) (line : List ℕ) → ∥ Stands sound written kept h ∥₁
-    → g ≡ with_entry h e → line ≡ entry_line e
-    → OnTrue done (after ≡ append_known written line) → OnTrue done (later ≡ after)
-    → OnFalse done (AddsSome written after line) → OnFalse done (later ≡ kept)
-    → OnFalse sound (done ≡ false) → OnFalse sound (after ≡ written)
+pub stands-after : (sound done : Bool) (written kept after later : Option (List ℕ)) (h g : History) (e : EntryValue) (line : List ℕ) → ∥ Stands sound written kept h ∥₁ → g ≡ with_entry h e → line ≡ entry_line e
+    → OnTrue done (after ≡ append_known written line) → OnFalse done (AddsSome written after line) → OnFalse sound (done ≡ false) → OnFalse sound (after ≡ written) → later ≡ kept
     → ∥ Stands done after later g ∥₁
-stands-after sound done written kept after later h g e line stands next is all synced front same unsound stays =
-    ∥∥₁_elim stands squash₁ (λ so. ∣ subst (Stands done after later) (sym next) (stands-next sound done written kept after later h e so
-    (subst (λ l. OnTrue done (after ≡ append_known written l)) is all) synced (subst (λ l. OnFalse done (AddsSome written after l)) is front) same unsound stays) ∣₁)
+stands-after sound done written kept after later h g e line stands next is all front unsound stays same =
+    ∥∥₁_elim stands squash₁ (λ so. ∣ subst (λ k. Stands done after k g) (sym same) (subst (Stands done after kept) (sym next) (stands-next sound done written kept after h e so
+    (subst (λ l. OnTrue done (after ≡ append_known written l)) is all) (subst (λ l. OnFalse done (AddsSome written after l)) is front) unsound stays)) ∣₁)
+
+pub stands-sync : (sound done : Bool) (written kept after later : Option (List ℕ)) (h : History) → ∥ Stands sound written kept h ∥₁ → after ≡ written → OnTrue done (later ≡ written) → OnFalse done (later ≡ kept)
+    → OnFalse sound (done ≡ false) → ∥ Stands done after later h ∥₁
+stands-sync sound done written kept after later h stands same synced unkept unsound =
+    ∥∥₁_elim stands squash₁ (λ so. ∣ subst (λ w. Stands done w later h) (sym same) (stands-synced sound done written kept later h so synced unkept unsound) ∣₁)
+
+pub sync-whole : (sound done : Bool) (written kept later : Option (List ℕ)) (h : History) → ∥ Stands sound written kept h ∥₁ → OnTrue done (later ≡ written) → OnFalse sound (done ≡ false)
+    → OnTrue done (Tells later (journal h))
+sync-whole sound done written kept later h stands synced unsound =
+    ∥∥₁_elim stands (whole-IsProp done later (journal h)) (λ so. synced-whole sound done written kept later h so synced unsound)
 
 -- ---- a journal that is written as a whole
 

@@ -25,7 +25,7 @@ pub record KeepsFront (kept : Option (List ℕ)) (h : History) : Type 0 where
   pub begins : entries ++ later ≡ h.entries
   pub tells : Tells kept (journal (history_of h.opening entries))
 
--- a device that had no fault has written and kept the whole journal; one that had a fault has a front of it, and keeps that of the first entries
+-- a device that had no fault has the whole journal written; one that had a fault has a front of it. Each keeps that of the first entries
 abbrev pub Stands : Bool → Option (List ℕ) → Option (List ℕ) → History → Type 0
-Stands true written kept h = Tells written (journal h) × Tells kept (journal h)
+Stands true written kept h = Tells written (journal h) × KeepsFront kept h
 Stands false written kept h = TellsFront written h × KeepsFront kept h

@@ -5,24 +5,26 @@ ghost use Rattle.desk_io.specs.Faults.{Rose};
 ghost use Rattle.desk_model.specs.declared.limits.TheConstants.{LAST_CALLER};
 ghost use Rattle.desk_model.specs.histories.History.{history_of, with_entry};
 ghost use Rattle.desk_model.specs.histories.Legal.{IsLegal, next};
-ghost use Rattle.desk_model.specs.texts.Journal.{journal};
+ghost use Rattle.desk_model.specs.texts.Journal.{entry_line, journal};
 ghost use Rattle.journal_device.specs.Device.{AddsSome, Begins, Tells};
 ghost use Rattle.kept_book.specs.Kept.{KeepsFront};
 
-use call_history::{Full, Stepped, Steps};
+use call_history::{Full, Steps};
 use desk_model::{Booked, Entry, Opening, Stated};
 use journal_device::Device;
 use line_writer::{LineText, fill_with_entry, write_opening};
 use record_rows::LastMinute;
 use std::marker::Model;
 
-/// A book whose journal is on a device: the line of each entry is appended and synced before the entry is told as kept. After the first
-/// fault of the device nothing is appended any more, and no later entry is told as kept.
+/// A book whose journal is on a device: the line of each entry is appended as it is answered, and the lines of all are kept once the device is
+/// synced. After the first fault of the device nothing is appended and synced any more, and no later entry is told as kept.
 #[derive(Drop)]
 pub struct KeptBook<B: Steps + Drop, D: Device> {
     book: B,
     device: D,
     sound: bool,
+    // Whether the device is slow to sync.
+    defers: bool,
     // The line at hand, and the minutes that the lines before it named.
     line: LineText,
     stated: LastMinute,
@@ -50,6 +52,7 @@ impl<B: Steps + Drop, D: Device> KeptBook<B, D> {
             book,
             device,
             sound: true,
+            defers: false,
             line: LineText::new(),
             stated: LastMinute::new(),
             moment: LastMinute::new(),
@@ -73,6 +76,15 @@ impl<B: Steps + Drop, D: Device> KeptBook<B, D> {
         Err(device)
     }
 
+    /// The same, with several entries kept by one sync where they can be: for a device that is slow to sync.
+    pub fn deferring(self, defers: bool) -> KeptBook<B, D>
+        ensures { result ≡ self }
+    {
+        let mut deferring = self;
+        deferring.defers = defers;
+        deferring
+    }
+
     /// The book and the device.
     pub fn into_parts(self) -> (B, D)
         ensures { result ≡ (self.book, self.device) }
@@ -81,6 +93,7 @@ impl<B: Steps + Drop, D: Device> KeptBook<B, D> {
             book,
             device,
             sound: _,
+            defers: _,
             line: _,
             stated: _,
             moment: _,
@@ -88,11 +101,9 @@ impl<B: Steps + Drop, D: Device> KeptBook<B, D> {
         (book, device)
     }
 
-    /// Whether the device had no fault. What is kept is the journal of a front of the book's entries at all times, and of all of them
-    /// where it had none.
+    /// Whether the device had no fault. What is kept is the journal of a front of the book's entries at all times.
     pub fn is_sound(&self) -> bool
         ensures sound { result ≡ self.now.sound }
-        ensures whole { OnTrue result (Tells (D.kept self.now.device) (journal (B.history self.now.book))) }
         ensures front { ∥ KeepsFront (D.kept self.now.device) (B.history self.now.book) ∥₁ }
     {
         self.sound
@@ -123,16 +134,13 @@ fn put_history<D: Device>(device: &mut D, opening: &Opening, entries: &[Entry]) 
     D::sync(device)
 }
 
-// Appends a line to a device that had no fault so far, and has it kept; and says whether both were done. One that had a fault is asked
-// nothing.
-fn keep_line<D: Device>(device: &mut D, sound: bool, line: &[u8]) -> bool
+// Appends a line to a device that had no fault so far, and says whether that was done. One that had a fault is asked nothing.
+fn append_line<D: Device>(device: &mut D, sound: bool, line: &[u8]) -> bool
     ensures done { OnTrue result (D.written device.new ≡ append_known (D.written device.old) line.now) }
-    ensures kept { OnTrue result (D.kept device.new ≡ D.written device.new) }
     ensures front { OnFalse result (AddsSome (D.written device.old) (D.written device.new) line.now) }
-    ensures same { OnFalse result (D.kept device.new ≡ D.kept device.old) }
+    ensures kept { D.kept device.new ≡ D.kept device.old }
     ensures unsound { OnFalse sound (result ≡ false) }
     ensures stays { OnFalse sound (device.new ≡ device.old) }
-    ensures grows { Begins (D.kept device.old) (D.kept device.new) }
     ensures faults_grow { D.faults device.old ≤ D.faults device.new }
     ensures cause { OnTrue sound (OnFalse result (Rose (D.faults device.old) (D.faults device.new))) }
     ensures no_fault { OnTrue result (D.faults device.new ≡ D.faults device.old) }
@@ -140,7 +148,22 @@ fn keep_line<D: Device>(device: &mut D, sound: bool, line: &[u8]) -> bool
     if !sound {
         return false;
     }
-    if !device.append(line) {
+    device.append(line)
+}
+
+// Has all that was appended to a device kept that had no fault so far, and says whether that was done. One that had a fault is asked nothing.
+fn sync_all<D: Device>(device: &mut D, sound: bool) -> bool
+    ensures kept { OnTrue result (D.kept device.new ≡ D.written device.old) }
+    ensures unkept { OnFalse result (D.kept device.new ≡ D.kept device.old) }
+    ensures written { D.written device.new ≡ D.written device.old }
+    ensures grows { Begins (D.kept device.old) (D.kept device.new) }
+    ensures unsound { OnFalse sound (result ≡ false) }
+    ensures stays { OnFalse sound (device.new ≡ device.old) }
+    ensures faults_grow { D.faults device.old ≤ D.faults device.new }
+    ensures cause { OnTrue sound (OnFalse result (Rose (D.faults device.old) (D.faults device.new))) }
+    ensures no_fault { OnTrue result (D.faults device.new ≡ D.faults device.old) }
+{
+    if !sound {
         return false;
     }
     device.sync()
@@ -167,31 +190,46 @@ impl<B: Steps + Drop, D: Device> Steps for KeptBook<B, D> {
 
     ghost always = { false };
 
-    fn step(&mut self, caller: u8, stated: Stated) -> Result<Stepped, Full>
+    fn step(&mut self, caller: u8, stated: Stated) -> Result<Entry, Full>
         requires { caller ≤ LAST_CALLER }
-        ensures answer { IfOk result (λ s. s.entry ≡ next (B.history self.old.book) caller stated) }
-        ensures history { IfOk result (λ s. B.history self.new.book ≡ with_entry (B.history self.old.book) s.entry) }
+        ensures answer { IfOk result (λ entry. entry ≡ next (B.history self.old.book) caller stated) }
+        ensures history { IfOk result (λ entry. B.history self.new.book ≡ with_entry (B.history self.old.book) entry) }
         ensures full { IsErr result ↔ (length (B.history self.old.book).entries ≡ B.room self.old.book) }
         ensures same { IsErr result → B.history self.new.book ≡ B.history self.old.book }
         ensures room { B.room self.new.book ≡ B.room self.old.book }
         ensures mark { B.mark self.new.book ≡ B.mark self.old.book }
-        ensures kept { IfOk result (λ s. OnTrue s.kept (Tells (D.kept self.new.device) (journal (B.history self.new.book)))) }
-        ensures unkept { IfOk result (λ s. OnFalse s.kept (D.kept self.new.device ≡ D.kept self.old.device)) }
+        ensures unkept { D.kept self.new.device ≡ D.kept self.old.device }
+
+        // The entry's line is appended, or the device has a fault; after one it is asked nothing any more.
+        ensures written { IfOk result (λ entry. OnTrue self.new.sound
+            (D.written self.new.device ≡ append_known (D.written self.old.device) (entry_line entry))) }
+        ensures stays { OnFalse self.old.sound ((self.new.device ≡ self.old.device) × (self.new.sound ≡ self.old.sound)) }
+        ensures cause { OnTrue self.old.sound (IfOk result (λ entry.
+            OnFalse self.new.sound (Rose (D.faults self.old.device) (D.faults self.new.device)))) }
+    {
+        let entry = self.book.step(caller, stated)?;
+        fill_with_entry(&mut self.line, &mut self.stated, &mut self.moment, &entry);
+        self.sound = append_line(&mut self.device, self.sound, self.line.as_slice());
+        Ok(entry)
+    }
+
+    fn keep(&mut self) -> bool
+        ensures book { self.new.book ≡ self.old.book }
+        ensures kept { OnTrue result (Tells (D.kept self.new.device) (journal (B.history self.new.book))) }
+        ensures unkept { OnFalse result (D.kept self.new.device ≡ D.kept self.old.device) }
         ensures grows { Begins (D.kept self.old.device) (D.kept self.new.device) }
 
-        // An entry is told as kept exactly where the device has had no fault, and after a fault the device is asked nothing any more.
-        ensures sound { IfOk result (λ s. s.kept ≡ self.new.sound) }
+        // All is told as kept exactly where the device has had no fault, and after a fault the device is asked nothing any more.
+        ensures sound { result ≡ self.new.sound }
         ensures stays { OnFalse self.old.sound ((self.new.device ≡ self.old.device) × (self.new.sound ≡ self.old.sound)) }
-        ensures cause { OnTrue self.old.sound (IfOk result (λ s.
-            OnFalse s.kept (Rose (D.faults self.old.device) (D.faults self.new.device)))) }
+        ensures cause { OnTrue self.old.sound (OnFalse result (Rose (D.faults self.old.device) (D.faults self.new.device))) }
     {
-        let entry = self.book.step(caller, stated)?.entry;
-        fill_with_entry(&mut self.line, &mut self.stated, &mut self.moment, &entry);
-        self.sound = keep_line(&mut self.device, self.sound, self.line.as_slice());
-        Ok(Stepped {
-            entry,
-            kept: self.sound,
-        })
+        self.sound = sync_all(&mut self.device, self.sound);
+        self.sound
+    }
+
+    fn defers(&self) -> bool {
+        self.defers
     }
 
     fn entries(&self) -> &[Entry] {

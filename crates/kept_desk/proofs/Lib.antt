@@ -2,3 +2,4 @@ mod ThroughLemmas
 mod WholeLemmas
 mod OpenedLemmas
 mod AheadLemmas
+mod ServedLemmas

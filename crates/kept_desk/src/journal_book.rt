@@ -65,7 +65,7 @@ fn step_through<B: Steps>(book: &mut B, text: &[u8])
         let Some(_outcome) = put_statement(&mut statement, &mut fields, &mut last, line) else {
             unreachable!()
         };
-        let Ok(_stepped) = book.step(statement.caller, statement.stated) else {
+        let Ok(_entry) = book.step(statement.caller, statement.stated) else {
             unreachable!()
         };
         left = behind;

@@ -1,3 +1,5 @@
+ghost use Rattle.std.specs.Prelude.{◌≡◌};
+
 use call_history::Book;
 use desk_model::Opening;
 use fast_core::FastCore;
@@ -13,4 +15,22 @@ pub struct Opened<D: Device> {
     pub book: KeptBook<Book<FastCore>, D>,
     /// How many calls each caller has, 1 to 5,000.
     pub quota: u32,
+}
+
+impl<D: Device> Opened<D> {
+    /// The same, with several entries kept by one sync where they can be: for a device that is slow to sync.
+    pub fn deferring(self, defers: bool) -> Opened<D>
+        ensures { result ≡ self }
+    {
+        let Opened {
+            opening,
+            book,
+            quota,
+        } = self;
+        Opened {
+            opening,
+            book: book.deferring(defers),
+            quota,
+        }
+    }
 }

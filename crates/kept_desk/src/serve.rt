@@ -11,7 +11,7 @@ ghost use Rattle.serve_desk.specs.WatchLines.{watched_with};
 ghost use Rattle.kept_desk.specs.Opened.{IsOpened};
 
 use crate::Opened;
-use call_history::Book;
+use call_history::{Book, Steps};
 use caller_lines::CallerLine;
 use desk_base::NoMemory;
 use desk_model::{Booked, LAST_CALLER};
@@ -47,7 +47,7 @@ pub fn serve_kept<D: Device + Send, R: Threads + Wait + Sync>(
         (lines_of ⟦<(dyn CallerLine + Send) as CallerLine>⟧ lines.new.items)) }
     ensures unasked { IsErr result → lines.new ≡ lines.old }
 
-    // What is kept is the journal of the first entries, and of all of them where the device had no fault.
+    // What is kept is the journal of the first entries, and of all of them where the device had no fault, also when it was synced at last.
     ensures front { IfOk result (λ kept. ∥ KeepsFront (D.kept kept.device) (⟦<Book<FastCore> as Booked>⟧.history kept.book) ∥₁) }
     ensures whole { IfOk result (λ kept. OnTrue kept.sound
         (Tells (D.kept kept.device) (journal (⟦<Book<FastCore> as Booked>⟧.history kept.book)))) }
@@ -57,7 +57,8 @@ pub fn serve_kept<D: Device + Send, R: Threads + Wait + Sync>(
         book,
         quota,
     } = opened;
-    let book = watch_lines(rt, alloc, &opening, book, quota, lines)?;
+    let mut book = watch_lines(rt, alloc, &opening, book, quota, lines)?;
+    book.keep();
     book.is_sound();
     Ok(book)
 }

@@ -6,7 +6,10 @@ use journal_device::MemoryDevice;
 use kept_desk::{open_desk, serve_kept};
 use line_writer::write_entry;
 use std::alloc::Global;
+use std::process::Abort;
+use std::sync::Wait;
 use std::test::Fail;
+use std::thread::Threads;
 
 const DAY: &[u8] = b"2024-03-04 00:00,open,2024-03,1,15\n2024-03-04 00:01,board,P1,pool,HOM\n";
 
@@ -52,49 +55,70 @@ fn has_kept(line: &Box<dyn CallerLine + Send>, number: u8, kept: &[Entry], lost:
     line.put_count() == count
 }
 
+// Three callers at a desk whose device fails at the call of this number, with several entries kept by one sync or each by its own: how many entries
+// are kept, and whether all are. Their lines have what is kept, and no other.
+fn serve_three<R: Threads + Wait + Abort + Sync>(
+    rt: &R,
+    alloc: Global,
+    failing: u64,
+    defers: bool,
+) -> Result<(usize, bool), Fail> {
+    let mut source = MemorySource::new(DAY.to_vec(alloc)?, 100, Vec::new(alloc));
+    let mut sink = MemorySink::new(alloc, 1_000, 1_000, Vec::new(alloc))?;
+    let mut calls = Vec::new(alloc);
+    calls.push(failing)?;
+    let device = MemoryDevice::new(alloc, 20_000, 9, calls)?;
+    let Ok(opened) = open_desk(alloc, &mut source, device, b"", 3, &mut sink) else {
+        panic!(rt; "not opened, with a fault at call {failing}")
+    };
+    let mut lines: Vec<Box<dyn CallerLine + Send>> = Vec::new(alloc);
+    lines.push(line(alloc)?)?;
+    lines.push(line(alloc)?)?;
+    lines.push(line(alloc)?)?;
+    let kept = serve_kept(rt, alloc, opened.deferring(defers), &mut lines)?;
+    let is_sound = kept.is_sound();
+    let (book, device) = kept.into_parts();
+    let mut journal = JOURNAL.to_vec(alloc)?;
+    let mut count = 1;
+    for (index, entry) in book.entries().iter().enumerate() {
+        if index > 0 && journal.len() < device.left(0).len() {
+            journal.extend_from_slice(write_entry(entry).as_slice())?;
+            count = index + 1;
+        }
+    }
+    assert_eq!(rt;
+        device.left(0),
+        journal.as_slice(),
+        "with a fault at call {failing}"
+    );
+    let Some((kept, lost)) = book.entries().split_at_checked(count) else {
+        panic!(rt; "too few entries, with a fault at call {failing}")
+    };
+    assert_eq!(rt; is_sound, lost.is_empty(), "with a fault at call {failing}");
+    for (index, line) in lines.iter().enumerate() {
+        assert!(rt;
+            has_kept(line, index as u8 + 1, kept, lost),
+            "caller {index}, with a fault at call {failing}"
+        );
+    }
+    Ok((count, is_sound))
+}
+
 #[test]
 fn only_what_is_kept_is_put(rt: HostRuntime) -> Result<(), Fail> {
-    let alloc = rt.alloc();
     for failing in [5, 6, 17, 40, 1_000] {
-        let mut source = MemorySource::new(DAY.to_vec(alloc)?, 100, Vec::new(alloc));
-        let mut sink = MemorySink::new(alloc, 1_000, 1_000, Vec::new(alloc))?;
-        let mut calls = Vec::new(alloc);
-        calls.push(failing)?;
-        let device = MemoryDevice::new(alloc, 20_000, 9, calls)?;
-        let Ok(opened) = open_desk(alloc, &mut source, device, b"", 3, &mut sink) else {
-            panic!(rt; "not opened, with a fault at call {failing}")
-        };
-        let mut lines: Vec<Box<dyn CallerLine + Send>> = Vec::new(alloc);
-        lines.push(line(alloc)?)?;
-        lines.push(line(alloc)?)?;
-        lines.push(line(alloc)?)?;
-        let kept = serve_kept(&rt, alloc, opened, &mut lines)?;
+        let (count, _) = serve_three(&rt, rt.alloc(), failing, false)?;
         let all = 1 + 3 * COMMANDS;
-        let count = all.min(1 + (failing as usize - 1 - BEGINS) / CALLS);
-        assert_eq!(rt;
-            kept.is_sound(),
-            count == all,
-            "with a fault at call {failing}"
-        );
-        let (book, device) = kept.into_parts();
-        let Some((kept, lost)) = book.entries().split_at_checked(count) else {
-            panic!(rt; "too few entries, with a fault at call {failing}")
-        };
-        let mut journal = JOURNAL.to_vec(alloc)?;
-        for entry in &kept[1..] {
-            journal.extend_from_slice(write_entry(entry).as_slice())?;
-        }
-        assert_eq!(rt;
-            device.left(0),
-            journal.as_slice(),
-            "with a fault at call {failing}"
-        );
-        for (index, line) in lines.iter().enumerate() {
-            assert!(rt;
-                has_kept(line, index as u8 + 1, kept, lost),
-                "caller {index}, with a fault at call {failing}"
-            );
-        }
+        assert_eq!(rt; count, all.min(1 + (failing as usize - 1 - BEGINS) / CALLS));
+    }
+    Ok(())
+}
+
+#[test]
+fn only_what_one_sync_kept_of_several_is_put(rt: HostRuntime) -> Result<(), Fail> {
+    for failing in [5, 6, 7, 17, 30, 40, 1_000] {
+        let (count, is_sound) = serve_three(&rt, rt.alloc(), failing, true)?;
+        assert!(rt; is_sound || count < 1 + 3 * COMMANDS);
     }
     Ok(())
 }

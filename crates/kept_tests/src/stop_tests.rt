@@ -1,4 +1,6 @@
 //! A run that stops while callers call: what is found then.
+ghost use Rattle.std.specs.Prelude.{◌≤◌};
+
 use call_history::{Book, Steps};
 use desk_base::{Code, Minute, Month, Window};
 use desk_model::{Cmd, Edition, Entry, Opening, Stated};
@@ -60,21 +62,24 @@ fn open(alloc: Global, failing: u64, torn: usize) -> Result<KeptBook<Plain, Memo
     Ok(KeptBook::new(book, device))
 }
 
-// Has all commands answered, and tells how many of the first entries were told as kept; none behind them is.
-fn answer_all(kept: &mut KeptBook<Plain, MemoryDevice>) -> Result<u16, Fail> {
+// Has all commands answered, with one sync for so many, and tells how many of the first entries were told as kept; none behind them is.
+fn answer_all(kept: &mut KeptBook<Plain, MemoryDevice>, at_once: u16) -> Result<u16, Fail>
+    requires { 1 ≤ at_once }
+{
     let mut count = 0;
     for number in 0..COMMANDS {
         let stated = command(number).ok_or("no command")?;
         let caller = (number % 3) as u8 + 1;
-        let Ok(stepped) = kept.step(caller, stated) else {
+        let Ok(_entry) = kept.step(caller, stated) else {
             return Err(Fail::from("there was room"));
         };
-        if stepped.kept && count < number {
+        if (number + 1) % at_once > 0 || !kept.keep() {
+            continue;
+        }
+        if at_once.saturating_add(count) < number + 1 {
             return Err(Fail::from("an entry was kept behind one that was not"));
         }
-        if stepped.kept {
-            count = number + 1;
-        }
+        count = number + 1;
     }
     Ok(count)
 }
@@ -94,7 +99,7 @@ fn journal_of(alloc: Global, entries: &[Entry]) -> Result<Vec<u8>, Fail> {
 fn two_hundred_entries_and_their_journal(rt: HostRuntime) -> Result<(), Fail> {
     let alloc = rt.alloc();
     let mut kept = open(alloc, 1_000, 0)?;
-    assert_eq!(rt; answer_all(&mut kept)?, COMMANDS);
+    assert_eq!(rt; answer_all(&mut kept, 1)?, COMMANDS);
     assert!(rt; kept.is_sound());
     let (book, device) = kept.into_parts();
     assert_eq!(rt; book.entries().len(), 200);
@@ -116,7 +121,7 @@ fn what_was_told_as_kept_is_found_at_every_stop(rt: HostRuntime) -> Result<(), F
     let alloc = rt.alloc();
     for failing in 1..u64::from(COMMANDS) * CALLS + 1 {
         let mut kept = open(alloc, failing, failing as usize % 80)?;
-        let count = usize::from(answer_all(&mut kept)?);
+        let count = usize::from(answer_all(&mut kept, 1)?);
         assert_eq!(rt; count as u64, (failing - 1) / CALLS, "at call {failing}");
         assert!(rt; !kept.is_sound(), "at call {failing}");
         let (book, device) = kept.into_parts();
@@ -133,6 +138,32 @@ fn what_was_told_as_kept_is_found_at_every_stop(rt: HostRuntime) -> Result<(), F
                 next.as_slice().strip_prefix(more).is_some(),
                 "at call {failing}, with {unsynced} more"
             );
+        }
+    }
+    Ok(())
+}
+
+// The same with one sync for five entries: what is found begins with the journal of all that were told as kept, and goes on with a front of that of
+// the others.
+#[test]
+fn what_one_sync_keeps_of_five_entries_is_found_at_every_stop(rt: HostRuntime) -> Result<(), Fail> {
+    let alloc = rt.alloc();
+    let calls = u64::from(COMMANDS) / 5 * 6;
+    for failing in 1..calls + 1 {
+        let mut kept = open(alloc, failing, failing as usize % 80)?;
+        let count = usize::from(answer_all(&mut kept, 5)?);
+        assert_eq!(rt; count as u64, (failing - 1) / 6 * 5, "at call {failing}");
+        assert!(rt; !kept.is_sound(), "at call {failing}");
+        let (book, device) = kept.into_parts();
+        let entries = book.entries();
+        assert!(rt; count < entries.len(), "at call {failing}");
+        let told = journal_of(alloc, &entries[..count])?;
+        let whole = journal_of(alloc, entries)?;
+        assert_eq!(rt; device.left(0), told.as_slice(), "at call {failing}");
+        for unsynced in 0..60 {
+            let left = device.left(unsynced * 7);
+            assert!(rt; left.starts_with(&told), "at call {failing}");
+            assert!(rt; whole.starts_with(left), "at call {failing}");
         }
     }
     Ok(())

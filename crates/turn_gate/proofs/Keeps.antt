@@ -5,6 +5,8 @@ use mathlib.Core.Option.{none, some, some-injective, some-ne-none}
 use mathlib.Core.Option as maybe
 use native.Mathlib.Decide.{ℕ_discrete}
 use lib.ListN.{get_elem?, length-map}
+use Rattle.std.proofs.Math.Nat.{max-le}
+use Rattle.std.specs.Prelude.{max}
 use Rattle.std.proofs.lemmas.List.Elements.{All-cons, All-append}
 use Rattle.atomic_table.specs.Table.{State, Me, step, Act, keeps, takes, gives, stepped, put_back, rest, homes_after, carried_after, Valid, Allows, Splits, Joins, Final, Seen}
 use Rattle.atomic_table.specs.Table as table
@@ -18,7 +20,7 @@ use Rattle.turn_gate.specs.declared.view.View.{View}
 use Rattle.turn_gate.specs.Told.{base, end, IsNumber, IsBookOf}
 use Rattle.turn_gate.specs.Notes.{total, is_numbered, numbered, notes, calls, busy_in, busy, HasTicket, IsTurn, IsNote, IsPhase}
 use Rattle.turn_gate.specs.Gate.{IsView, IsHome, IsOut, Gated}
-use Rattle.turn_gate.specs.Steps.{first_view, waits, drew, turns, IsTaken, found_served, knows, passes, passed, first_note, other_notes, kept, dealt, joined, spent}
+use Rattle.turn_gate.specs.Steps.{first_view, waits, drew, turns, IsTaken, found_served, knows, passes, passed, tells, heard, hears, heard_sure, first_note, other_notes, kept, dealt, joined, spent}
 use Rattle.turn_gate.specs.Turns.{IsLast}
 use Rattle.turn_gate.proofs.Totals.{total-set, total-append, total-push, total-one, total-two, total-most}
 use Rattle.turn_gate.proofs.Notes.{note-later, note-all, is_numbered-self, is_numbered-as, ticket-in, turn-ticket, turn-one, phase-drawn, phase-passed, length-notes_from, once_numbered, note-new}
@@ -94,16 +96,17 @@ module _ {B : Type 0} (tell : B → Told) (k : Start) where
       (at_set s.views id i w v at)
 
   -- one view changes, and with it the words, the slot and the book
-  moves : (s : St) (r : Rule s) (id : ℕ) (v w : View) → get_elem? s.views id ≡ some v → (words : List ℕ) (homes : Homes) (next serving : ℕ) (now : Told)
-      → words ≡ next ∷ serving ∷ [] → ((number : ℕ) → numbered number w ≡ numbered number v) → notes w ≡ notes v
+  moves : (s : St) (r : Rule s) (id : ℕ) (v w : View) → get_elem? s.views id ≡ some v → (words : List ℕ) (homes : Homes) (next serving told : ℕ) (now : Told)
+      → words ≡ next ∷ serving ∷ told ∷ [] → ((number : ℕ) → numbered number w ≡ numbered number v) → notes w ≡ notes v
       → next + calls v ≡ r.next + calls w → serving + r.next + busy w ≡ next + r.serving + busy v
       → IsView k next serving now w → ((j : ℕ) (u : View) → j ≢ id → get_elem? s.views j ≡ some u → IsView k next serving now u)
       → ((ticket j : ℕ) (u : View) → j ≢ id → get_elem? s.views j ≡ some u → HasTicket w.phase ticket → ¬ HasTicket u.phase ticket)
-      → Slot homes (set s.views id w) now → length now.entries ≡ serving → IsBookOf k now
+      → Slot homes (set s.views id w) now → length now.entries ≡ serving → IsBookOf k now → told ≤ now.sure
       → Rule record { words = words; homes = homes; views = set s.views id w }
-  moves s r id v w at words homes next serving now are same_numbers same_notes same_calls same_busy mine others apart slot long book = record {
+  moves s r id v w at words homes next serving told now are same_numbers same_notes same_calls same_busy mine others apart slot long book sure = record {
     next = next;
     serving = serving;
+    told = told;
     now = now;
     words = are;
     numbers = λ number low high. let t = total-set (numbered number) s.views id v w at in let n = r.numbers number low high in let e = same_numbers number in omega arith;
@@ -115,6 +118,7 @@ module _ {B : Type 0} (tell : B → Told) (k : Start) where
     slot = slot;
     long = long;
     book = book;
+    sure = sure;
   }
 
   -- notes pass from one view to another, and nobody's phase changes
@@ -127,6 +131,7 @@ module _ {B : Type 0} (tell : B → Told) (k : Start) where
   reshaped s r views same_numbers same_notes same_calls same_busy each back forth = record {
     next = r.next;
     serving = r.serving;
+    told = r.told;
     now = r.now;
     words = r.words;
     numbers = λ number low high. same_numbers number ∙ r.numbers number low high;
@@ -147,6 +152,7 @@ module _ {B : Type 0} (tell : B → Told) (k : Start) where
         (λ (o : IsOut s.homes s.views). inr (record { away = o.away; seat = o.seat; view = o.view; there = forth o.seat o.view o.there o.turn; turn = o.turn })) r.slot;
     long = r.long;
     book = r.book;
+    sure = r.sure;
   }
 
   slot-stays : (homes : Homes) (views : List View) (now : Told) (id : ℕ) (v w : View) → get_elem? views id ≡ some v → ¬ IsTurn v.phase → ¬ IsTurn w.phase → Slot homes views now → Slot homes (set views id w) now
@@ -185,8 +191,8 @@ module _ {B : Type 0} (tell : B → Told) (k : Start) where
         w,
         keeps,
         tt,
-        moves s r id v w at ((r.next + 1) % 2 ^ 64 ∷ r.serving ∷ []) s.homes (r.next + 1) r.serving r.now
-            (ap (λ (n : ℕ). n ∷ r.serving ∷ []) (one-more r.next (let b = bounded s r in omega arith))) (λ number. refl) refl (omega arith) (let b = ap busy_in idle in omega arith)
+        moves s r id v w at ((r.next + 1) % 2 ^ 64 ∷ r.serving ∷ r.told ∷ []) s.homes (r.next + 1) r.serving r.told r.now
+            (ap (λ (n : ℕ). n ∷ r.serving ∷ r.told ∷ []) (one-more r.next (let b = bounded s r in omega arith))) (λ number. refl) refl (omega arith) (let b = ap busy_in idle in omega arith)
             (record {
               start = was.start;
               notes = was.notes;
@@ -197,7 +203,8 @@ module _ {B : Type 0} (tell : B → Told) (k : Start) where
             (λ ticket j u other there mine too. let t = ticket-in r.next r.serving (length u.notes) ticket r.now u.phase (r.each j u there).phase too in omega arith)
             (slot-stays s.homes s.views r.now id v w at (λ turn. subst IsTurn idle turn) (λ turn. turn) r.slot)
             r.long
-            r.book,
+            r.book
+            r.sure,
         (refl, refl),
       )
 
@@ -217,7 +224,7 @@ module _ {B : Type 0} (tell : B → Told) (k : Start) where
   waiting-is p x y a b = cc
 
   looks-mine : (id : ℕ) (me : Me (Option B) View) (s : St) (r : Rule s) (x : ℕ) → me.0.phase ≡ Waiting x → me.0.start ≡ k → get_elem? s.views id ≡ some me.0 → r.serving ≡ x
-      → Looks id me s (r.next ∷ r.serving ∷ [])
+      → Looks id me s (r.next ∷ r.serving ∷ r.told ∷ [])
   looks-mine id me s r x is start at same =
       let v : View = me.0 in
       let was = r.each id v at in
@@ -230,13 +237,14 @@ module _ {B : Type 0} (tell : B → Told) (k : Start) where
         w,
         takes 0 (Some h.book),
         ap (λ hs. get_elem? hs 0) h.home,
-        moves s r id v w at (r.next ∷ r.serving ∷ []) (set s.homes 0 none) r.next r.serving r.now refl (λ number. refl) refl (omega arith) (let b = ap busy_in is in omega arith)
+        moves s r id v w at (r.next ∷ r.serving ∷ r.told ∷ []) (set s.homes 0 none) r.next r.serving r.told r.now refl (λ number. refl) refl (omega arith) (let b = ap busy_in is in omega arith)
             (record { start = was.start; notes = was.notes; calls = was.calls; phase = (phase.0, refl, omega arith, h.told) })
             (λ j u other there. r.each j u there)
             (λ t j u other there mine too. other (r.apart j id u v t there at too (subst (HasTicket v.phase) mine ticket)))
             (inr (record { away = ap (λ hs. set hs 0 none) h.home; seat = id; view = w; there = set-there s.views id v w at; turn = tt }))
             r.long
-            r.book,
+            r.book
+            r.sure,
         (
           subst (λ (z : Start). r.serving ≤ end z) (sym start) (omega arith),
           λ t now_is. let e = waiting-is v.phase x t is now_is in record {
@@ -249,7 +257,7 @@ module _ {B : Type 0} (tell : B → Told) (k : Start) where
       (one-at s.views o.seat id o.view v o.there at (r.apart o.seat id o.view v r.serving o.there at (turn-of s r o.seat o.view o.there o.turn) ticket)) o.turn))) r.slot
 
   looks-other : (id : ℕ) (me : Me (Option B) View) (s : St) (r : Rule s) (x : ℕ) → me.0.phase ≡ Waiting x → me.0.start ≡ k → get_elem? s.views id ≡ some me.0 → r.serving ≢ x
-      → Looks id me s (r.next ∷ r.serving ∷ [])
+      → Looks id me s (r.next ∷ r.serving ∷ r.told ∷ [])
   looks-other id me s r x is start at other =
       let v : View = me.0 in
       let most = bounded s r in
@@ -316,8 +324,8 @@ module _ {B : Type 0} (tell : B → Told) (k : Start) where
         w,
         gives,
         tt,
-        moves s r id v w at (r.next ∷ (r.serving + 1) % 2 ^ 64 ∷ []) (put_back s.homes me.1) r.next (r.serving + 1) now
-            (ap (λ (n : ℕ). r.next ∷ n ∷ []) (one-more r.serving (omega arith))) (λ n. numbered-knows n now v.notes) (sym long) (omega arith) (let c = ap busy_in is in omega arith)
+        moves s r id v w at (r.next ∷ (r.serving + 1) % 2 ^ 64 ∷ r.told ∷ []) (put_back s.homes me.1) r.next (r.serving + 1) r.told now
+            (ap (λ (n : ℕ). r.next ∷ n ∷ r.told ∷ []) (one-more r.serving (omega arith))) (λ n. numbered-knows n now v.notes) (sym long) (omega arith) (let c = ap busy_in is in omega arith)
             (record {
               start = λ have. was.start (omega arith);
               notes = subst (λ (n : List Note). (m : ℕ) (c : Note) → get_elem? (map (knows now) n) m ≡ some c → IsNote k.seats now c) (sym note) (note-one k.seats now a number);
@@ -345,8 +353,80 @@ module _ {B : Type 0} (tell : B → Told) (k : Start) where
               later = r.book.later ++ e ∷ [];
               begins = sym (append_assoc k.book.entries r.book.later (e ∷ [])) ∙ (ap (λ (n : List EntryValue). n ++ e ∷ []) r.book.begins ∙ sym grown);
               callers = All-append (λ c. IsNumber k.seats c.caller) r.book.later (e ∷ []) r.book.callers (All-cons (λ c. IsNumber k.seats c.caller) e [] (subst (IsNumber k.seats) (sym caller) number) (λ i d within. absurd (omega arith)));
-            }),
+            })
+            (let was = r.sure in omega arith),
         (ap rest carried, λ c again. let same = same-carried me.1 b c carried again in ap (λ z. passes v (tell z)) same),
+      )
+
+  -- so many entries are told to be sure, by who knows it
+  pub tells_it : (slots id : ℕ) (me : Me (Option B) View) (a : Note) (sure : ℕ) → me.0.notes ≡ a ∷ [] → sure ≤ a.sure → Allows Rule slots id me 2 (λ n. max n sure) (tells (step slots 2 sure 0 none) me)
+  tells_it slots id me a sure note known s r deep at wide =
+      let v : View = me.0 in
+      let mine = ((r.each id v at).notes 0 a (ap (λ (l : List Note). get_elem? l 0) note)).sure in
+      let most : max r.told sure ≤ r.now.sure = max-le r.sure (omega arith) in
+      let rule : Rule record { words = r.next ∷ r.serving ∷ max r.told sure ∷ []; homes = s.homes; views = s.views } = record {
+        next = r.next;
+        serving = r.serving;
+        told = max r.told sure;
+        now = r.now;
+        words = refl;
+        numbers = r.numbers;
+        all_notes = r.all_notes;
+        all_calls = r.all_calls;
+        all_busy = r.all_busy;
+        each = r.each;
+        apart = r.apart;
+        slot = r.slot;
+        long = r.long;
+        book = r.book;
+        sure = most;
+      } in
+      subst (λ (ws : List ℕ). (y : View) × (act : Act (Option B)) × Valid s.homes me.1 act
+      × Rule (record { words = set ws 2 (max (get_or ws 2 0) sure); homes = homes_after s.homes me.1 act; views = set s.views id y }) × tells (step slots 2 sure 0 none) me (get_or ws 2 0) (y, carried_after me.1 act)) (sym r.words) (
+        v,
+        keeps,
+        tt,
+        subst (λ (views : List View). Rule record { words = r.next ∷ r.serving ∷ max r.told sure ∷ []; homes = s.homes; views = views }) (sym (set_again s.views id v at)) rule,
+        refl,
+      )
+
+  heard-one : (seats sure : ℕ) (now : Told) (l : List Note) → sure ≤ now.sure → ((m : ℕ) (a : Note) → get_elem? l m ≡ some a → IsNote seats now a) → (m : ℕ) (b : Note) → get_elem? (map (heard sure) l) m ≡ some b → IsNote seats now b
+  heard-one seats sure now [] few each m b at = absurd (some-ne-none b (sym at))
+  heard-one seats sure now (a ∷ l) few each zero b at =
+      let was = each zero a refl in
+      subst (IsNote seats now) (some-injective (heard sure a) b at) (record { number = was.number; known = was.known; own = was.own; sure = max-le was.sure few })
+  heard-one seats sure now (a ∷ l) few each (suc m) b at = heard-one seats sure now l few (λ i c. each (suc i) c) m b at
+
+  numbered-heard : (number sure : ℕ) (l : List Note) → total (is_numbered number) (map (heard sure) l) ≡ total (is_numbered number) l
+  numbered-heard number sure [] = refl
+  numbered-heard number sure (a ∷ l) = ap (λ (n : ℕ). is_numbered number a + n) (numbered-heard number sure l)
+
+  -- and who hears it knows it
+  pub hears_it : (slots id : ℕ) (me : Me (Option B) View) → me.0.phase ≡ Idle → Allows Rule slots id me 2 (λ n. n) (heard_sure (step slots 2 0 0 none) me)
+  hears_it slots id me idle s r deep at wide =
+      let v : View = me.0 in
+      let w : View = hears v r.told in
+      let was = r.each id v at in
+      let long : length v.notes ≡ length w.notes = sym (length-map v.notes (heard r.told)) in
+      subst (λ (ws : List ℕ). (y : View) × (act : Act (Option B)) × Valid s.homes me.1 act
+      × Rule (record { words = set ws 2 (get_or ws 2 0); homes = homes_after s.homes me.1 act; views = set s.views id y }) × heard_sure (step slots 2 0 0 none) me (get_or ws 2 0) (y, carried_after me.1 act)) (sym r.words) (
+        w,
+        keeps,
+        tt,
+        moves s r id v w at (r.next ∷ r.serving ∷ r.told ∷ []) s.homes r.next r.serving r.told r.now refl (λ n. numbered-heard n r.told v.notes) (sym long) (omega arith) (omega arith)
+            (record {
+              start = λ have. was.start (omega arith);
+              notes = heard-one k.seats r.told r.now v.notes r.sure was.notes;
+              calls = subst (λ (n : ℕ). v.calls ≤ k.quota * n) long was.calls;
+              phase = subst (IsPhase r.next r.serving r.now (length w.notes)) (sym idle) tt;
+            })
+            (λ j u other there. r.each j u there)
+            (λ t j u other there mine. absurd (subst (λ p. HasTicket p t) idle mine))
+            (slot-stays s.homes s.views r.now id v w at (λ turn. subst IsTurn idle turn) (λ turn. subst IsTurn idle turn) r.slot)
+            r.long
+            r.book
+            r.sure,
+        (refl, refl),
       )
 
   pub deals : (id : ℕ) (v : View) → v.phase ≡ Idle → v.calls ≡ 0 → 0 < length v.notes → Splits Rule id v (kept v) (dealt v)
@@ -404,10 +484,11 @@ module _ {B : Type 0} (tell : B → Told) (k : Start) where
       let not-other : i ≢ other = λ same. subst IsTurn resting (subst (λ (x : View). IsTurn x.phase) (one-at s.views i other u w one here same) turn) in
       set_else middle other i spent not-other ∙ (set_else s.views id i j not-id ∙ one))
 
-  pub begins : (n : ℕ) (b : B) → tell b ≡ k.book → n ≡ base k → Rule (table.opening (n ∷ n ∷ []) (Some b ∷ []) (first_view k))
+  pub begins : (n : ℕ) (b : B) → tell b ≡ k.book → n ≡ base k → Rule (table.opening (n ∷ n ∷ 0 ∷ []) (Some b ∷ []) (first_view k))
   begins n b is from = record {
     next = n;
     serving = n;
+    told = 0;
     now = k.book;
     words = refl;
     numbers = λ number low high. let once = once_numbered number 1 k.seats k.book low (omega arith) in omega arith;
@@ -424,6 +505,7 @@ module _ {B : Type 0} (tell : B → Told) (k : Start) where
     slot = inl (record { book = b; home = refl; told = is; nobody = λ j v at turn. subst (λ (x : View). IsTurn x.phase) (sym (at-single (first_view k) j v at).1) turn });
     long = sym from;
     book = record { opening = refl; room = refl; wall = refl; later = []; begins = append-nil k.book.entries; callers = λ i d within. absurd (omega arith) };
+    sure = omega arith;
   }
 
   -- what is known of a gate whose notes all came together

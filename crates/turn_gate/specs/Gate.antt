@@ -1,4 +1,4 @@
--- The gate's rule: what holds of its two words, its slot and what the seats know, between any two steps of any threads.
+-- The gate's rule: what holds of its three words, its slot and what the seats know, between any two steps of any threads.
 use Rattle.std.specs.Prelude.{◌≡◌, ℕ, ◌+◌, ◌*◌, ◌<◌, ◌≤◌, ◌⊎◌, List, [], ◌∷◌, length, Option, Some}
 use mathlib.Core.Option.{some, none}
 use mathlib.Core.Option as maybe
@@ -39,9 +39,10 @@ pub record IsOut {B : Type 0} (homes : List (maybe.Option (Option B))) (views : 
 pub record Gated {B : Type 0} (tell : B → Told) (k : Start) (s : State (Option B) View) : Type 0 where
   pub next : ℕ
   pub serving : ℕ
+  pub told : ℕ
   pub now : Told
-  -- the next ticket, and the one that is served
-  pub words : s.words ≡ next ∷ serving ∷ []
+  -- the next ticket, the one that is served, and how many entries are told to be sure
+  pub words : s.words ≡ next ∷ serving ∷ told ∷ []
   -- Notes: they have the numbers 1 to `seats`, each once; as many tickets were drawn as there were calls
   pub numbers : (number : ℕ) → 1 ≤ number → number ≤ k.seats → total (numbered number) s.views ≡ 1
   pub all_notes : total notes s.views ≡ k.seats
@@ -54,3 +55,5 @@ pub record Gated {B : Type 0} (tell : B → Told) (k : Start) (s : State (Option
   pub slot : IsHome tell s.homes s.views now ⊎ IsOut s.homes s.views
   pub long : length now.entries ≡ serving
   pub book : IsBookOf k now
+  -- no more are told to be sure than are
+  pub sure : told ≤ now.sure

@@ -1,5 +1,5 @@
 -- What a view becomes at each kind of step, and what the step tells.
-use Rattle.std.specs.Prelude.{◌≡◌, ◌≢◌, ℕ, zero, suc, ◌+◌, ◌<◌, ◌≤◌, List, [], ◌∷◌, ◌++◌, length, map, Option, Some}
+use Rattle.std.specs.Prelude.{◌≡◌, ◌≢◌, ℕ, zero, suc, ◌+◌, ◌<◌, ◌≤◌, max, List, [], ◌∷◌, ◌++◌, length, map, Option, Some}
 use mathlib.Core.Option.{some}
 use lib.ListN.{get_elem?}
 use Rattle.atomic_table.specs.Table.{Me, Step}
@@ -63,6 +63,20 @@ passes v now = record v { notes = map (knows now) v.notes; phase = Idle }
 
 abbrev pub passed : {B : Type 0} → (B → Told) → Step (Option B) → Me (Option B) View → ℕ → Me (Option B) View → Type 0
 passed tell st m found m' = (m'.1 ≡ []) × ((b : _) → m.1 ≡ (0, Some b) ∷ [] → m'.0 ≡ passes m.0 (tell b))
+
+-- so many entries are told to be sure, and who tells it knows no more than before
+abbrev pub tells : {B : Type 0} → Step (Option B) → Me (Option B) View → ℕ → Me (Option B) View → Type 0
+tells st m found m' = m' ≡ m
+
+-- and who hears it knows it
+abbrev pub heard : ℕ → Note → Note
+heard sure a = note_of a.number a.known (max a.sure sure)
+
+abbrev pub hears : View → ℕ → View
+hears v sure = record v { notes = map (heard sure) v.notes }
+
+abbrev pub heard_sure : {B : Type 0} → Step (Option B) → Me (Option B) View → ℕ → Me (Option B) View → Type 0
+heard_sure st m found m' = (m'.1 ≡ m.1) × (m'.0 ≡ hears m.0 found)
 
 -- the first note goes to a seat of its own
 abbrev pub first_note : List Note → List Note

@@ -16,7 +16,7 @@ pub(crate) fn deal<B: Lasting>(
     mut made: Vec<Seat<B>>,
 ) -> Vec<Seat<B>>
     requires key { tickets.now.shared.key ≡ terms.now }
-    requires words { tickets.now.shared.table_id.words ≡ 2 }
+    requires words { tickets.now.shared.table_id.words ≡ 3 }
     requires table { all.table_id ≡ tickets.now.shared.table_id }
     requires me { all.me ≡ (first_view (start_from (told B.history B.room B.mark B.sure) terms.now), []) }
     requires empty { made.items ≡ [] }

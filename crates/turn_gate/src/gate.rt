@@ -1,4 +1,5 @@
-ghost use Rattle.std.specs.Prelude.{◌≡◌, ◌+◌, ◌*◌, ◌^◌, ◌<◌, ◌≤◌, length, IfOk, IfErr};
+ghost use Rattle.std.specs.Prelude.{◌≡◌, ◌+◌, ◌*◌, ◌^◌, ◌<◌, ◌≤◌, max, length, IfOk, IfErr};
+ghost use Rattle.std.specs.Bool.{OnTrue};
 ghost use Rattle.std.specs.List.{All};
 ghost use Rattle.turn_gate.specs.Told.{told, start_of, IsBookOf};
 ghost use Rattle.turn_gate.specs.Seats.{IsSeatOf, IsTurnOf, new_seats};
@@ -6,7 +7,7 @@ ghost use Rattle.turn_gate.specs.Turns.{Knows, Took, MayGive, Gave, IsLast};
 
 use crate::deal::deal;
 use crate::rejoin::rejoin;
-use crate::steps::{Draw, FindServed, Pass};
+use crate::steps::{Draw, FindServed, HearSure, Pass, TellSure};
 use crate::terms::Terms;
 use crate::tickets::TicketTable;
 use crate::waiters::Waiters;
@@ -36,7 +37,7 @@ impl<B: Lasting> Model for Gate<B> {
 
     ghost view = { λ g. gate_of g.table.shared.table_id (start_from (told B.history B.room B.mark B.sure) g.table.shared.key) };
 
-    ghost invariant = { λ g. (g.table.shared.table_id.words ≡ 2) × (g.table.shared.table_id.slots ≡ 1)
+    ghost invariant = { λ g. (g.table.shared.table_id.words ≡ 3) × (g.table.shared.table_id.slots ≡ 1)
         × (g.seats ≡ g.table.shared.key.seats) × (g.seats ≤ LAST_CALLER)
         × (end (start_from (told B.history B.room B.mark B.sure) g.table.shared.key) < 2 ^ 32)
         × (1 ≤ g.seats) };
@@ -64,19 +65,20 @@ impl<B: Lasting> Gate<B> {
             book: Snapshot::of(&book),
         };
         let first = u64::from(book.count());
+        let has_door = !book.defers();
         let mut slots = Vec::new(alloc);
         if let Err(failed) = slots.push(Some(book)) {
             let AllocFailed { value } = failed;
             slots.destroy_empty();
             return Err(value.unwrap());
         }
-        match Table::new(alloc, &[first, first], slots, &terms) {
+        match Table::new(alloc, &[first, first, 0], slots, &terms) {
             Ok((table, all)) => {
                 let made = deal(&table, all, &terms, made);
                 let gate = Gate {
                     table,
                     seats,
-                    waiters: Waiters::new(),
+                    waiters: Waiters::new(has_door),
                 };
                 Ok((gate, made))
             }
@@ -145,6 +147,61 @@ impl<B: Lasting> Gate<B> {
             number,
             left,
         }
+    }
+
+    /// Whether a ticket is drawn behind this turn's, so that another turn comes. It only hints: no clause says so.
+    pub fn has_next(&self, turn: &Turn<B>) -> bool {
+        self.table.shared.peek(0) != u64::from(turn.place) + 1
+    }
+
+    /// Tells all callers that so many entries are sure, which the seat knows, and wakes those who wait for that.
+    pub fn tell(&self, seat: &mut Seat<B>, sure: u32)
+        requires seat { IsSeatOf self.now seat.old }
+        requires known { sure ≤ seat.old.sure }
+        ensures { seat.new ≡ seat.old }
+    {
+        self.table
+            .shared
+            .fetch_max::<TellSure>(&mut seat.place, 2, u64::from(sure));
+        self.waiters.wake();
+    }
+
+    /// Says that no more entries will be sure: who waits for one waits no more.
+    pub fn stop(&self) {
+        self.waiters.stop();
+    }
+
+    // How many entries are told to be sure, which the seat knows then.
+    fn hear(&self, seat: &mut Seat<B>) -> u64
+        requires { IsSeatOf self.now seat.old }
+        ensures { seat.new ≡ record seat.old { sure = max seat.old.sure result } }
+    {
+        self.table.shared.load::<HearSure>(&mut seat.place, 2)
+    }
+
+    /// Waits until more than `place` entries are told to be sure, and says whether they are; where no more will be, they may not.
+    pub fn wait_sure<R: Wait>(&self, rt: &R, seat: Seat<B>, place: u32) -> (Seat<B>, bool)
+        requires { IsSeatOf self.now seat }
+        ensures same { result.0 ≡ record seat { sure = result.0.sure } }
+        ensures no_fewer { seat.sure ≤ result.0.sure }
+        ensures sure { OnTrue result.1 (place < result.0.sure) }
+    {
+        let mut seat = seat;
+        let mut looks = 0u32;
+        for _ in rt.forever() {
+            let is_stopped = self.waiters.is_stopped();
+            let sure = self.hear(&mut seat);
+            if sure > u64::from(place) {
+                return (seat, true);
+            }
+            if is_stopped {
+                return (seat, false);
+            }
+            self.waiters
+                .rest(rt, &self.table, seat.seat_no(), place, looks);
+            looks = looks.saturating_add(1);
+        }
+        unreachable!()
     }
 
     /// How many turns a seat has still to take.

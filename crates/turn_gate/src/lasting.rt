@@ -7,4 +7,8 @@ pub trait Lasting: Booked {
 
     // How many of its entries, the first, are sure.
     ghost sure: { Self → ℕ };
+
+    /// Whether an entry may become sure by a later turn than its own. Then who comes to the gate draws a ticket at once, so that whoever has the
+    /// turn may know of it.
+    fn defers(&self) -> bool;
 }

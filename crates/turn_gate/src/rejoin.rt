@@ -10,7 +10,7 @@ use crate::{Lasting, Seat};
 
 /// All notes of these seats together.
 pub(crate) fn rejoin<B: Lasting>(tickets: &TicketTable<B>, mut seats: Vec<Seat<B>>) -> TableSeat<B>
-    requires words { tickets.now.shared.table_id.words ≡ 2 }
+    requires words { tickets.now.shared.table_id.words ≡ 3 }
     requires more { 0 < length seats.items }
     requires seats { All (IsSeatOf (gate_of tickets.now.shared.table_id
         (start_from (told B.history B.room B.mark B.sure) tickets.now.shared.key))) seats.items }

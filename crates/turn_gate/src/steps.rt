@@ -32,6 +32,24 @@ impl<B: Lasting> Play<Option<B>, View> for Pass {
     ghost then = { passed (told B.history B.room B.mark B.sure) };
 }
 
+/// So many entries are told to be sure.
+pub(crate) struct TellSure;
+
+impl<B: Lasting> Play<Option<B>, View> for TellSure {
+    ghost use Rattle.turn_gate.specs.Steps.{tells};
+
+    ghost then = { tells };
+}
+
+/// How many are is heard.
+pub(crate) struct HearSure;
+
+impl<B: Lasting> Play<Option<B>, View> for HearSure {
+    ghost use Rattle.turn_gate.specs.Steps.{heard_sure};
+
+    ghost then = { heard_sure };
+}
+
 /// The first note goes to a seat of its own.
 pub(crate) struct Deal;
 

@@ -17,7 +17,8 @@ impl<B: Lasting> TableRule<Option<B>, View, Terms<B>> for Tickets {
     ghost first = { λ k. first_view (start_from (told B.history B.room B.mark B.sure) k) };
 }
 
-/// Its table: word 0 is the next ticket, word 1 the ticket that is served, and the slot has the book.
+/// Its table: word 0 is the next ticket, word 1 the ticket that is served, word 2 how many entries are told to be sure, and the slot has the
+/// book.
 pub(crate) type TicketTable<B> = Table<Option<B>, View, Terms<B>, Tickets, Global>;
 
 /// A seat of that table, with what its caller knows.

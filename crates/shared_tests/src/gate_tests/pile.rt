@@ -42,6 +42,10 @@ impl Lasting for Pile {
     ghost use Rattle.std.specs.Prelude.{vec_len};
 
     ghost sure = { λ p. vec_len p.entries };
+
+    fn defers(&self) -> bool {
+        false
+    }
 }
 
 impl Pile {

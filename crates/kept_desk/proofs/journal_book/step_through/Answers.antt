@@ -16,8 +16,8 @@ loop-statement-preserved g c = record {
       let through = c.loop-statement.invariant.through entries fits is in
       let comes = comes-next c.each_line_ends_once.ensures.entry _ _ _ _ _ _ through (some-left c.loop-statement.left.now c.loop-statement-test.ensures) c.first_line.ensures.line in
       let read = rw (c.in-Some.is) at (c.put_statement.ensures.only _ _ (IsEntryLine-begins _ comes.entry (record { valid = comes.fit; line_is = comes.line_is }))) in
-      Through-more c.a_history_goes_on_with_commands.ensures.next _ _ _ _ _ _ c.in-Ok._stepped.entry comes
-      (next-statement _ comes.entry c.in-Ok._stepped.entry c.put_statement.new.statement read.0 c.in-Ok.ensures.answer) c.in-Ok.ensures.history;
+      Through-more c.a_history_goes_on_with_commands.ensures.next _ _ _ _ _ _ c.in-Ok._entry comes
+      (next-statement _ comes.entry c.in-Ok._entry c.put_statement.new.statement read.0 c.in-Ok.ensures.answer) c.in-Ok.ensures.history;
   room = c.step.ensures.room ∙ c.loop-statement.invariant.room;
 }
 

@@ -1,15 +1,7 @@
 use Rattle.std.proofs.Common.{subst}
-use Rattle.std.specs.Bool.{OnTrue}
-use Rattle.desk_model.specs.texts.Journal.{journal}
-use Rattle.journal_device.specs.Device.{Tells}
 use Rattle.kept_book.specs.Kept.{KeptValue, KeepsFront}
-use Rattle.kept_book.proofs.KeptLemmas.{keeps-front, keeps-whole}
+use Rattle.kept_book.proofs.KeptLemmas.{keeps-front}
 use Rattle.kept_book.proofs.kept_book.KeptBook.is_sound.Goals as goal
-
-pub returns-clause-whole : goal.returns-clause-whole
-returns-clause-whole g c =
-    subst (λ (k : KeptValue _ _). OnTrue c.self.inside.sound (Tells (g.D.Device.kept k.device) (journal (g.B.Booked.history k.book)))) c.self.view_is
-    (keeps-whole c.self.inside.sound (g.D.Device.written c.self.inside.device) (g.D.Device.kept c.self.inside.device) (g.B.Booked.history c.self.inside.book) c.self.invariant)
 
 pub returns-clause-front : goal.returns-clause-front
 returns-clause-front g c =

@@ -15,7 +15,7 @@ new-requires g c =
     let k = start_of c.args.seats c.args.quota (tell c.of.result.value) in
     let items : c.push.new.self.items ≡ Some c.args.book ∷ [] = search rules in
     let from = c.from-first.ensures ∙ (c.count.ensures ∙ ap (λ b. length (g.B.Booked.history b).entries) (sym c.of.ensures)) in
-    subst (λ l. Gated tell k (opening (c.from-first.result ∷ c.from-first.result ∷ []) l (first_view k))) (sym items)
+    subst (λ l. Gated tell k (opening (c.from-first.result ∷ c.from-first.result ∷ 0 ∷ []) l (first_view k))) (sym items)
     (begins tell k c.from-first.result c.args.book (ap tell (sym c.of.ensures)) from)
 
 pub returns-in-Ok-new-clause-each : goal.returns-in-Ok-new-clause-each
