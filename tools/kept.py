@@ -110,7 +110,7 @@ def killed(program, kills, checks):
         callers = [Caller(room, number) for number in range(1, CALLERS + 1)]
         names = [f"c{caller.number}" for caller in callers]
         day = "".join(line + "\n" for line in DAY).encode()
-        lines = 0
+        lines = spoke = 0
         for kill in range(kills + 1):
             desk = Desk(program, room, names, day)
             ready = selectors.DefaultSelector()
@@ -138,7 +138,8 @@ def killed(program, kills, checks):
             with open(f"{room}/journal") as journal:
                 text = journal.read()
             word = "begun" if kill == 0 else "resumed"
-            checks.is_so(f"kill {kill}: the desk says where it is", any(line.startswith(word) for line in told), True)
+            # One that is killed at once has said nothing.
+            spoke += any(line.startswith(word) for line in told)
             checks.is_so(f"kill {kill}: the journal grows", text.count("\n") >= lines, True)
             lines = text.count("\n")
             for caller in callers:
@@ -148,6 +149,7 @@ def killed(program, kills, checks):
         whole = text[: text.rfind("\n") + 1]
         told = subprocess.run([program, "audit"], input=whole.encode(), capture_output=True).stdout.decode()
         checks.is_so("the journal is legal", told, f"legal {whole.count(chr(10)) - 1}\n")
+        checks.is_so("a desk says where it is", spoke * 2 > kills, True)
         checks.is_so("replies came", sum(len(caller.got) for caller in callers) > 20 * kills, True)
 
 
