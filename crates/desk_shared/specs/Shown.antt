@@ -1,6 +1,5 @@
 -- What contracts see of a book with its wall of windows, and what a call of a desk with windows shows.
 use Rattle.std.specs.Prelude.{◌≡◌, ℕ, ◌+◌, List, length}
-use Rattle.std.specs.declared.option.Option.{Option}
 use mathlib.Core.List.{IsPrefix}
 use Rattle.board_window.specs.Walls.{FrontValue}
 use Rattle.board_window.specs.declared.wall_name.WallName.{WallName}
@@ -9,12 +8,10 @@ use Rattle.desk_model.specs.histories.History.{History}
 use Rattle.desk_model.specs.histories.Mark.{Mark, wall_of}
 use Rattle.turn_gate.specs.Seats.{GateValue}
 
--- its history, how many entries it has room for beside, what is found of its journal whenever the run stops from now on, its wall, what that
--- shows and was given, and how many entries are kept, the first
+-- its history, how many entries it has room for beside, its wall, what that shows and was given, and how many entries are kept, the first
 pub record ShownValue : Type 0 where
   pub history : History
   pub left : ℕ
-  pub kept : Option (List ℕ)
   pub wall : WallName
   pub shown : List EntryValue
   pub added : List EntryValue

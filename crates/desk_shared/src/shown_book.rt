@@ -1,7 +1,7 @@
 //! What a desk with windows keeps.
 
 ghost use Rattle.std.specs.Prelude.{◌≡◌, ◌+◌, ◌<◌, ◌≤◌, length, take, true, false};
-ghost use Rattle.std.specs.Bool.{OnTrue};
+ghost use Rattle.std.specs.Bool.{OnTrue, OnFalse};
 ghost use mathlib.Core.List.{IsPrefix};
 ghost use Rattle.desk_model.specs.histories.History.{with_entry};
 ghost use Rattle.desk_model.specs.histories.Legal.{IsLegal, next};
@@ -44,6 +44,7 @@ impl<B: Steps> ShownBook<B> {
         ensures note { IsPrefix result.1.note.entries self.new.history.entries }
         ensures behind { length result.1.note.entries + result.1.behind ≡ length self.new.history.entries }
         ensures sure { self.new.sure ≡ self.old.sure }
+        ensures shown { self.new.shown ≡ self.old.shown }
     {
         let Ok(entry) = self.book.step(caller, stated) else {
             unreachable!()
@@ -59,6 +60,10 @@ impl<B: Steps> ShownBook<B> {
         ensures wall { self.new.wall ≡ self.old.wall }
         ensures sure { OnTrue result (self.new.sure ≡ length self.new.history.entries) }
         ensures no_fewer { self.old.sure ≤ self.new.sure }
+
+        // What isn't kept is not shown.
+        ensures shown { length self.old.shown ≤ self.old.sure → length self.new.shown ≤ self.new.sure }
+        ensures unshown { OnFalse result (self.new.shown ≡ self.old.shown) }
         ensures always { B.always ≡ true → is_later ≡ false → result ≡ true }
     {
         if is_later {
@@ -113,7 +118,6 @@ impl<B: Steps> Model for ShownBook<B> {
     ghost view = { λ b. record {
       history = B.history b.book;
       left = B.room b.book - length (B.history b.book).entries;
-      kept = B.kept b.book;
       wall = b.wall.wall;
       shown = b.wall.shown;
       added = b.wall.added;

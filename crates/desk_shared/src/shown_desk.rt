@@ -55,9 +55,9 @@ fn if_kept(is_kept: bool, showing: Showing) -> Option<Showing>
 }
 
 impl<B: Steps + Drop> ShownDesk<B> {
-    /// A desk over a book that was opened so and whose whole journal is kept, with 1 to 63 seats and so many calls of each, for all of which the book has room, and with
-    /// a view for each seat; `NoMemory` where there is none for the seats and the windows. The seats have the numbers from 1 on, and
-    /// the views stand for the book's entries.
+    /// A desk over a book that was opened so and whose whole journal is kept, with 1 to 63 seats and so many calls of each, for all of which
+    /// the book has room, and with a view for each seat; `NoMemory` where there is none for the seats and the windows. The seats have the
+    /// numbers from 1 on, and the views stand for the book's entries.
     pub fn new<R: Wait>(
         rt: &R,
         alloc: Global,
@@ -262,8 +262,8 @@ impl<B: Steps + Drop> ShownDesk<B> {
         self.gate.left(seat)
     }
 
-    /// The book, where all seats are given, with the windows ended: what a seat knows as sure is kept; `ShownSeatsMissing` where fewer are given than were made, and then
-    /// nothing changes.
+    /// The book, where all seats are given, with the windows ended: what a seat knows as sure is kept. `ShownSeatsMissing` where fewer are given
+    /// than were made, and then nothing changes.
     pub fn close<R: Wait>(
         self,
         rt: &R,
