@@ -1,5 +1,5 @@
 -- What contracts see of a wall.
-use Rattle.std.specs.Prelude.{◌≡◌, Option, None, Some, List}
+use Rattle.std.specs.Prelude.{◌≡◌, ◌⊎◌, ℕ, Option, None, Some, List, [], ◌∷◌, ◌++◌, length}
 use Rattle.desk_model.specs.statements.Entry.{EntryValue}
 use Rattle.board_window.specs.Shelves.{IsNextChange}
 use Rattle.board_window.specs.Walls.{FrontValue}
@@ -18,3 +18,7 @@ pub record WallValue : Type 0 where
 abbrev pub IsWaiting : FrontValue → FrontValue → Option Change → Type 0
 IsWaiting queued added None = queued ≡ added
 IsWaiting queued added (Some change) = (added ≡ change.front) × IsNextChange queued change
+
+-- the entry behind so many others is taken, where none of those is missing; or nothing is
+abbrev pub TakesAtMost : ℕ → EntryValue → List EntryValue → List EntryValue → Type 0
+TakesAtMost place e before after = (after ≡ before) ⊎ ((length before ≡ place) × (after ≡ before ++ e ∷ []))

@@ -10,6 +10,7 @@ mod laws;
 mod logbook_rule;
 mod look;
 mod members;
+mod new_wall;
 mod note;
 mod offer_told;
 mod offers;
@@ -24,6 +25,7 @@ mod wall_list;
 mod wall_name;
 
 pub use look::Look;
+pub use new_wall::NewWall;
 pub use note::Note;
 pub use showing::Showing;
 pub use spot::Spot;

@@ -1,27 +1,26 @@
-ghost use Rattle.std.specs.Prelude.{◌≡◌, ◌+◌, ◌<◌, ◌≤◌, ◌^◌, [], ◌∷◌, ◌++◌, IfOk, IfSome, IfNone, OnOk, MatchBool, None, Some, length, drop, vec_len};
+ghost use Rattle.std.specs.Prelude.{◌≡◌, ◌⊎◌, ◌+◌, ◌<◌, ◌≤◌, ◌^◌, [], ◌∷◌, ◌++◌, IfOk, IfSome, IfNone, MatchBool, None, Some, length, drop, vec_len};
+ghost use Rattle.std.specs.Bool.{OnTrue};
 ghost use Rattle.desk_model.specs.declared.limits.TheConstants.{LAST_CALLER};
 ghost use Rattle.std.specs.List.{All};
 ghost use mathlib.Core.List.{IsPrefix};
 ghost use Rattle.desk_model.specs.histories.History.{history_of};
 ghost use Rattle.desk_model.specs.histories.Legal.{IsLegal};
-ghost use Rattle.board_window.specs.Shelves.{IsNextChange, IsRight};
+ghost use Rattle.board_window.specs.Shelves.{IsNextChange};
 ghost use Rattle.board_window.specs.Walls.{front_of, history_in, longer_by};
-ghost use Rattle.board_window.specs.Windows.{IsWaiting};
+ghost use Rattle.board_window.specs.Windows.{IsWaiting, TakesAtMost};
 
 use crate::change::Change;
 use crate::copies::{Copies, publish};
 use crate::front::Front;
-use crate::laws::{
-    a_desk_opens_without_boards, the_last_entry_is_next, what_an_entry_makes_of_the_boards,
-};
+use crate::laws::{the_last_entry_is_next, what_an_entry_makes_of_the_boards};
+use crate::new_wall::NewWall;
 use crate::note::Note;
 use crate::published::{Learn, Tell};
-use crate::shelf::Shelf;
 use crate::showing::Showing;
 use crate::view::View;
 use crate::wall_list::WallList;
 use desk_base::NoMemory;
-use desk_model::{Entry, Opening, the_first_entries_are_legal};
+use desk_model::Entry;
 use left_right::writer::Writer;
 use std::alloc::Global;
 use std::marker::Model;
@@ -76,6 +75,7 @@ fn next_change(
     ensures entry { IfSome result (λ change. change.entry ≡ entry.now) }
     ensures front { IfSome result (λ change. list.new ≡ change.front) }
     ensures none { IfNone result (list.new ≡ queued.now) }
+    ensures same { IfNone result (list.new ≡ list.old) }
 {
     match waiting {
         Some(change) => Some(change),
@@ -83,62 +83,28 @@ fn next_change(
     }
 }
 
-// Makes two shelves that are alike of the entries that are given to a new list.
-fn fill(
-    list: &mut WallList,
-    first: &mut Shelf,
-    second: &mut Shelf,
-    entries: &[Entry],
-) -> Result<(), NoMemory>
-    requires none { list.old.entries ≡ [] }
-    requires first { first.old ≡ record { boards = []; front = list.old } }
-    requires second { second.old ≡ record { boards = []; front = list.old } }
-    requires few { length entries.now < 2 ^ 32 }
-    requires legal { IsLegal (history_of list.old.wall.opening entries.now) }
-    ensures list { OnOk result (list.new ≡ front_of list.old.wall entries.now) }
-    ensures first { OnOk result (first.new.front ≡ list.new) }
-    ensures second { OnOk result (second.new ≡ first.new) }
-    ensures right { OnOk result (IsRight first.new) }
-{
-    a_desk_opens_without_boards();
-    what_an_entry_makes_of_the_boards();
-    the_first_entries_are_legal();
-    the_last_entry_is_next();
-    for entry in entries {
-        let Some(change) = list.give(entry) else {
-            return Err(NoMemory);
-        };
-        first.follow(&change);
-        second.follow(&change);
-    }
-    Ok(())
-}
-
 impl Wall {
-    /// A wall that shows these entries of a desk that was opened so, fewer than 2^32, with 1 to 63 views; `NoMemory` where there is
-    /// none for it. The wall and each view stand for the history of these entries.
+    /// The same wall with 1 to 63 views, to which it shows its entries; `NoMemory` where there is none for them.
     pub fn new<R: Wait>(
         rt: &R,
         alloc: Global,
-        opening: &Opening,
-        entries: &[Entry],
+        start: NewWall,
         views: u8,
     ) -> Result<(Wall, Vec<View>), NoMemory>
-        requires legal { IsLegal (history_of opening.now entries.now) }
-        requires few { length entries.now < 2 ^ 32 }
         requires some { 1 ≤ views }
         requires most { views ≤ LAST_CALLER }
-        ensures opening { IfOk result (λ made. made.0.wall.opening ≡ opening.now) }
-        ensures shown { IfOk result (λ made. made.0.shown ≡ entries.now) }
-        ensures queued { IfOk result (λ made. made.0.queued ≡ entries.now) }
-        ensures added { IfOk result (λ made. made.0.added ≡ entries.now) }
+        ensures wall { IfOk result (λ made. made.0.wall ≡ start.wall) }
+        ensures shown { IfOk result (λ made. made.0.shown ≡ start.entries) }
+        ensures queued { IfOk result (λ made. made.0.queued ≡ start.entries) }
+        ensures added { IfOk result (λ made. made.0.added ≡ start.entries) }
         ensures count { IfOk result (λ made. vec_len made.1 ≡ views) }
-        ensures each { IfOk result (λ made. All (λ view. view ≡ front_of made.0.wall entries.now) made.1.items) }
+        ensures each { IfOk result (λ made. All (λ view. view ≡ start) made.1.items) }
     {
-        let mut list = WallList::new(alloc, *opening)?;
-        let mut first = Shelf::new(alloc, list.front())?;
-        let mut second = Shelf::new(alloc, list.front())?;
-        fill(&mut list, &mut first, &mut second, entries)?;
+        let NewWall {
+            list,
+            first,
+            second,
+        } = start;
         let mut copies = match Writer::new(alloc, first, second, usize::from(views)) {
             Ok(copies) => copies,
             Err(_) => return Err(NoMemory),
@@ -204,7 +170,8 @@ impl Wall {
         ensures wall { self.new.wall ≡ self.old.wall }
         ensures shown { self.new.shown ≡ self.old.shown }
         ensures queued { MatchBool result (self.new.queued ≡ self.old.queued ++ entry.now ∷ []) (self.new.queued ≡ self.old.queued) }
-        ensures added { IsPrefix self.new.added (self.old.queued ++ entry.now ∷ []) }
+        ensures all { OnTrue result (self.new.added ≡ self.new.queued) }
+        ensures added { (self.new.added ≡ self.old.added) ⊎ (self.new.added ≡ self.old.queued ++ entry.now ∷ []) }
     {
         what_an_entry_makes_of_the_boards();
         the_last_entry_is_next();
@@ -225,46 +192,60 @@ impl Wall {
         }
     }
 
-    // Queues the entries behind those that are queued, up to the first for which there is no memory.
-    fn queue_all(&mut self, entries: &[Entry])
-        requires legal { IsLegal (history_of self.old.wall.opening entries.now) }
-        requires few { length entries.now < 2 ^ 32 }
-        requires added { IsPrefix self.old.added entries.now }
+    // Queues the entry that waits, where one does, and says whether all that were taken are queued.
+    fn queue_waiting(&mut self) -> bool
         ensures wall { self.new.wall ≡ self.old.wall }
         ensures shown { self.new.shown ≡ self.old.shown }
-        ensures queued { IsPrefix self.new.queued entries.now }
-        ensures added { IsPrefix self.new.added entries.now }
+        ensures all { OnTrue result (self.new.queued ≡ self.new.added) }
+        ensures added { self.new.added ≡ self.old.added }
         ensures more { IsPrefix self.old.queued self.new.queued }
     {
-        the_first_entries_are_legal();
-        for place in self.count() as usize..entries.len() {
-            self.count();
-            if !self.queue_one(&entries[place]) {
-                return;
-            }
-        }
+        let Some(change) = &self.waiting else {
+            return true;
+        };
+        let entry = change.entry;
+        change.front.count();
+        self.queue_one(&entry)
     }
 
-    /// Takes a desk's entries, all of them, fewer than 2^32, of which those that it was given before are the first. What is shown once it is
-    /// published is all but the last `behind` of them; above 0 is a want of memory. Views learn by the note what is shown then.
-    pub fn add(&mut self, entries: &[Entry]) -> Showing
-        requires legal { IsLegal (history_of self.old.wall.opening entries.now) }
-        requires few { length entries.now < 2 ^ 32 }
-        requires added { IsPrefix self.old.added entries.now }
+    // Queues what waits, and then the entry behind so many, where that is the next.
+    fn queue_next(&mut self, entry: &Entry, place: u32)
+        requires few { place + 1 < 2 ^ 32 }
+        requires legal { length self.old.added ≡ place
+            → IsLegal (history_of self.old.wall.opening (self.old.added ++ entry.now ∷ [])) }
+        ensures wall { self.new.wall ≡ self.old.wall }
+        ensures shown { self.new.shown ≡ self.old.shown }
+        ensures added { TakesAtMost place entry.now self.old.added self.new.added }
+        ensures more { IsPrefix self.old.queued self.new.queued }
+    {
+        if !self.queue_waiting() || self.queued.count() != place {
+            return;
+        }
+        self.queue_one(entry);
+    }
+
+    /// Takes a desk's next entry, behind `place` others, fewer than 2^32 - 1. What is shown once it is published is all of them but the last
+    /// `behind`; above 0 is a want of memory. Where there is no memory for an entry while another waits, neither it nor a later one is ever
+    /// shown. Views learn by the note what is shown then.
+    pub fn add(&mut self, entry: &Entry, place: u32) -> Showing
+        requires few { place + 1 < 2 ^ 32 }
+        requires within { length self.old.added ≤ place }
+        requires legal { length self.old.added ≡ place
+            → IsLegal (history_of self.old.wall.opening (self.old.added ++ entry.now ∷ [])) }
         ensures wall { self.new.wall ≡ self.old.wall }
         ensures shown { self.new.shown ≡ self.old.shown }
         ensures note { result.note ≡ front_of self.new.wall self.new.queued }
-        ensures queued { IsPrefix self.new.queued entries.now }
-        ensures behind { length self.new.queued + result.behind ≡ length entries.now }
-        ensures added { IsPrefix self.new.added entries.now }
+        ensures begins { IsPrefix self.new.queued self.new.added }
+        ensures behind { length self.new.queued + result.behind ≡ place + 1 }
+        ensures added { TakesAtMost place entry.now self.old.added self.new.added }
         ensures more { IsPrefix self.old.queued self.new.queued }
     {
-        self.queue_all(entries);
+        self.queue_next(entry, place);
         Showing {
             note: Note {
                 front: self.queued.again(),
             },
-            behind: entries.len() as u32 - self.count(),
+            behind: place + 1 - self.count(),
         }
     }
 
@@ -280,24 +261,6 @@ impl Wall {
     {
         self.count();
         publish(&mut self.copies, rt);
-    }
-
-    /// Shows a desk's entries, all of them, fewer than 2^32, of which those that it was given before are the first. What is shown grows, and
-    /// is all but the last `behind` of them; above 0 is a want of memory. Views learn what is shown by the note.
-    pub fn show<R: Wait>(&mut self, rt: &R, entries: &[Entry]) -> Showing
-        requires legal { IsLegal (history_of self.old.wall.opening entries.now) }
-        requires few { length entries.now < 2 ^ 32 }
-        requires added { IsPrefix self.old.added entries.now }
-        ensures wall { self.new.wall ≡ self.old.wall }
-        ensures note { result.note ≡ front_of self.new.wall self.new.shown }
-        ensures shown { IsPrefix self.new.shown entries.now }
-        ensures behind { length self.new.shown + result.behind ≡ length entries.now }
-        ensures added { IsPrefix self.new.added entries.now }
-        ensures more { IsPrefix self.old.shown self.new.shown }
-    {
-        let showing = self.add(entries);
-        self.publish(rt);
-        showing
     }
 
     /// Ends the windows: from then on no view sees anything. It waits for views that are just looking.

@@ -2,33 +2,28 @@ ghost use Rattle.std.specs.Prelude.{◌≡◌, ◌↔◌, ℕ, ◌+◌, ◌<◌,
 ghost use Rattle.std.specs.Box.{box_value};
 ghost use Rattle.std.specs.List.{All, slice_get};
 ghost use Rattle.desk_model.specs.statements.Statement.{StatedValue};
-ghost use Rattle.desk_model.specs.histories.History.{History, history_of, opened, with_entry};
+ghost use Rattle.desk_model.specs.histories.History.{history_of, opened, with_entry};
 ghost use Rattle.desk_model.specs.histories.Legal.{IsLegal, next, history_from};
 ghost use Rattle.desk_model.specs.histories.Mark.{no_wall};
 
-use crate::Full;
+use crate::{CountedBook, Full, Steps};
 use desk_base::NoMemory;
-use desk_model::{
-    Booked, DeskCore, Entry, LAST_CALLER, Stated, a_history_goes_on_with_commands,
-    a_history_is_legal_in_one_way,
-};
+use desk_model::{Booked, DeskCore, Entry, LAST_CALLER, Stated, a_history_goes_on_with_commands};
 use std::alloc::Global;
 use turn_gate::Lasting;
 
-/// A desk, and all entries that it has answered. The desk stands in memory of its own, so that a book is handed from caller to caller
-/// without it.
+/// A desk, and all entries that it has answered.
 pub struct Book<C: DeskCore> {
-    core: Box<C>,
+    desk: CountedBook<C>,
     entries: Vec<Entry>,
-    ghost stands: { ∥ C.stands (box_value core) (history_of (C.opening (box_value core)) entries.items) ∥₁ },
-    ghost room: { vec_len entries + C.room (box_value core) ≤ vec_capacity entries },
-    ghost few: { vec_len entries + C.room (box_value core) < 2 ^ 32 },
+    ghost all: { entries.items ≡ desk.past },
+    ghost room: { vec_len entries + C.room (box_value desk.core) ≤ vec_capacity entries },
 }
 
 impl<C: DeskCore> Drop for Book<C> {
     fn drop(self) {
         let Self {
-            core: _,
+            desk: _,
             entries: _,
         } = self;
     }
@@ -44,10 +39,8 @@ impl<C: DeskCore> Book<C> {
         ensures room { IfOk result (λ book. ⟦<Book<C> as Booked>⟧.room book ≡ C.room core) }
     {
         let entries = Vec::with_capacity(alloc, core.left() as usize)?;
-        let Ok(core) = Box::new(alloc, core) else {
-            return Err(NoMemory);
-        };
-        Ok(Book { core, entries })
+        let desk = CountedBook::new(alloc, core)?;
+        Ok(Book { desk, entries })
     }
 
     /// Answers what caller 0 to 63 states, and keeps the entry as the last: it is the one that the rules give after all entries
@@ -62,10 +55,12 @@ impl<C: DeskCore> Book<C> {
         ensures same { IsErr result → self.new ≡ self.old }
         ensures room { ⟦<Book<C> as Booked>⟧.room self.new ≡ ⟦<Book<C> as Booked>⟧.room self.old }
     {
-        if self.core.left() == 0 {
+        if self.left() == 0 {
             return Err(Full);
         }
-        let entry = self.core.step(caller, stated);
+        let Ok(entry) = self.desk.step(caller, stated) else {
+            unreachable!()
+        };
         self.entries.push_reserved(entry);
         Ok(entry)
     }
@@ -125,6 +120,16 @@ impl<C: DeskCore> Book<C> {
         &self.entries
     }
 
+    /// The same desk with its entries only counted; and the entries.
+    pub fn into_parts(self) -> (CountedBook<C>, Vec<Entry>)
+        ensures history { ⟦<CountedBook<C> as Booked>⟧.history result.0 ≡ ⟦<Book<C> as Booked>⟧.history self }
+        ensures room { ⟦<CountedBook<C> as Booked>⟧.room result.0 ≡ ⟦<Book<C> as Booked>⟧.room self }
+        ensures entries { result.1.items ≡ (⟦<Book<C> as Booked>⟧.history self).entries }
+    {
+        let Book { desk, entries } = self;
+        (desk, entries)
+    }
+
     /// What a book keeps is a legal history, it has room for fewer than 2^32 entries in all, and no wall of windows shows
     /// them. It only names the law that it rests on: its clauses are the laws.
     pub fn is_legal(&self)
@@ -132,28 +137,28 @@ impl<C: DeskCore> Book<C> {
         ensures few { ⟦<Book<C> as Booked>⟧.room self.now < 2 ^ 32 }
         ensures mark { ⟦<Book<C> as Booked>⟧.mark self.now ≡ no_wall }
     {
-        a_history_is_legal_in_one_way();
+        self.desk.is_legal();
     }
 
     /// How many more entries the book has room for.
     pub fn left(&self) -> u32
         ensures { result + length (⟦<Book<C> as Booked>⟧.history self.now).entries ≡ ⟦<Book<C> as Booked>⟧.room self.now }
     {
-        self.core.left() as u32
+        self.desk.core.left() as u32
     }
 }
 
 impl<C: DeskCore> Booked for Book<C> {
     ghost use Rattle.std.proofs.Common.{rules, arith};
 
-    ghost history = { λ book. history_of (C.opening (box_value book.core)) book.entries.items };
+    ghost history = { λ book. history_of (C.opening (box_value book.desk.core)) book.desk.past };
 
-    ghost room = { λ book. length book.entries.items + C.room (box_value book.core) };
+    ghost room = { λ book. length book.desk.past + C.room (box_value book.desk.core) };
 
     ghost mark = { λ _. no_wall };
 
     fn count(&self) -> u32 {
-        self.entries.len() as u32
+        self.desk.count()
     }
 
     ghost within = { λ book. Prim.omega arith };

@@ -46,10 +46,6 @@ pub trait Steps: Booked {
     fn defers(&self) -> bool
         ensures always { always ≡ true → result ≡ false };
 
-    /// All entries, in order.
-    fn entries(&self) -> &[Entry]
-        ensures { result.now ≡ (Self.history self.now).entries };
-
     /// What a book has is a legal history, and it has room for fewer than 2^32 entries in all. It only names the law that it rests on: its
     /// clauses are the laws.
     fn is_legal(&self)
@@ -87,10 +83,6 @@ impl<C: DeskCore> Steps for Book<C> {
         ensures { result ≡ false }
     {
         false
-    }
-
-    fn entries(&self) -> &[Entry] {
-        Book::entries(self)
     }
 
     fn is_legal(&self) {

@@ -6,7 +6,7 @@ ghost use Rattle.crewdesk_main.specs.Forms.{KeepsCounts};
 
 use crate::audit_form::tell;
 use audit_desk::JOURNAL_BYTES;
-use call_history::{Book, Steps};
+use call_history::CountedBook;
 use caller_lines::{CallerLine, FileLine};
 use desk_base::NoMemory;
 use desk_io::{Sink, Source, Status};
@@ -27,7 +27,7 @@ use std::{io, str};
 const SLOW_SYNC: u128 = 50;
 
 // A journal with room for fewer entries than this is nearly full.
-const NEARLY_FULL: usize = 20_000;
+const NEARLY_FULL: u32 = 20_000;
 
 /// Serves callers at a desk whose journal is kept in the file of the first name: each entry's line is in it, and synced, before its reply is
 /// put. A file that has a journal is gone on with, and the source is left alone; for one that has none the source has a day file. The
@@ -103,16 +103,17 @@ fn say_opened<R: Eprint, D: Found>(rt: &R, text: &[u8], opened: &Opened<D>) {
     if cut > 0 {
         let _ = eprintln!(rt; "cut {cut} bytes");
     }
-    let entries = opened.book.entries();
-    let moment = match entries.last() {
+    let book = opened.book.book();
+    let moment = match book.last() {
         Some(entry) => entry.moment(),
         None => opened.opening.start(),
     };
+    let count = book.count();
     let word = if text.is_empty() { "begun" } else { "resumed" };
     let moment = moment.write();
     let moment = str::from_utf8(&moment).unwrap_or("");
-    let _ = eprintln!(rt; "{word} {} {moment}", entries.len());
-    let left = (JOURNAL_ENTRIES as usize).saturating_sub(entries.len());
+    let _ = eprintln!(rt; "{word} {count} {moment}");
+    let left = JOURNAL_ENTRIES.saturating_sub(count);
     if left < NEARLY_FULL {
         let _ = eprintln!(rt; "room for {left} entries");
     }
@@ -129,8 +130,8 @@ fn serve_names<R, D: Found + Send>(
 ) -> Status
 where
     R: Files<File = File> + Threads + Wait + Sync + AllocGlobal + Eprint,
-    requires opened { IsOpened opened.opening (⟦<Book<FastCore> as Booked>⟧.history opened.book.book)
-        (⟦<Book<FastCore> as Booked>⟧.room opened.book.book) opened.book.sound (D.kept opened.book.device) opened.quota (length names.now) }
+    requires opened { IsOpened opened.opening (⟦<CountedBook<FastCore> as Booked>⟧.history opened.book.book)
+        opened.wall (⟦<CountedBook<FastCore> as Booked>⟧.room opened.book.book) opened.book.sound (D.kept opened.book.device) opened.quota (length names.now) }
     requires some { 1 ≤ length names.now }
     requires most { length names.now ≤ LAST_CALLER }
     ensures { (result ≡ Status.Fine) ⊎ ((result ≡ Status.WriteFault) ⊎ (result ≡ Status.NoMemory)) }

@@ -46,11 +46,12 @@ impl<B: Steps> ShownBook<B> {
         ensures sure { self.new.sure ≡ self.old.sure }
         ensures shown { self.new.shown ≡ self.old.shown }
     {
+        let place = self.book.count();
         let Ok(entry) = self.book.step(caller, stated) else {
             unreachable!()
         };
         self.book.is_legal();
-        (entry, self.wall.add(self.book.entries()))
+        (entry, self.wall.add(&entry, place))
     }
 
     /// Has all entries kept, and shown, and says whether they are kept; where that is left to a later turn, nothing is done.

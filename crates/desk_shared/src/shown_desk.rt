@@ -18,11 +18,11 @@ use crate::crew_called::CrewCalled;
 use crate::shown_book::ShownBook;
 use crate::shown_seats_missing::ShownSeatsMissing;
 use crate::{Receipt, SeatSpent, TooFew};
-use board_window::{Showing, View, Wall};
+use board_window::{NewWall, Showing, View, Wall};
 use call_history::Steps;
 use crew_call::{Crew, what_an_outcome_says};
 use desk_base::{Minute, NoMemory, VacNo};
-use desk_model::{Booked, Entry, LAST_CALLER, Opening, Stated};
+use desk_model::{Booked, Entry, LAST_CALLER, Stated};
 use std::alloc::Global;
 use std::marker::Model;
 use std::sync::Wait;
@@ -55,18 +55,19 @@ fn if_kept(is_kept: bool, showing: Showing) -> Option<Showing>
 }
 
 impl<B: Steps + Drop> ShownDesk<B> {
-    /// A desk over a book that was opened so and whose whole journal is kept, with 1 to 63 seats and so many calls of each, for all of which
-    /// the book has room, and with a view for each seat; `NoMemory` where there is none for the seats and the windows. The seats have the
+    /// A desk over a book whose whole journal is kept, with the wall that has its entries, 1 to 63 seats and so many calls of each, for all of
+    /// which the book has room, and with a view for each seat; `NoMemory` where there is none for the seats and the windows. The seats have the
     /// numbers from 1 on, and the views stand for the book's entries.
     pub fn new<R: Wait>(
         rt: &R,
         alloc: Global,
-        opening: &Opening,
         book: B,
+        wall: NewWall,
         seats: u8,
         quota: u32,
     ) -> Result<(ShownDesk<B>, Vec<Seat<ShownBook<B>>>, Vec<View>), NoMemory>
-        requires opening { opening.now ≡ (B.history book).opening }
+        requires opening { wall.wall.opening ≡ (B.history book).opening }
+        requires entries { wall.entries ≡ (B.history book).entries }
         requires some { 1 ≤ seats }
         requires most { seats ≤ LAST_CALLER }
         requires calls { 1 ≤ quota }
@@ -82,7 +83,7 @@ impl<B: Steps + Drop> ShownDesk<B> {
         ensures shown { IfOk result (λ made. All (λ view. view.entries ≡ (B.history book).entries) made.2.items) }
     {
         book.is_legal();
-        let (wall, views) = Wall::new(rt, alloc, opening, book.entries(), seats)?;
+        let (wall, views) = Wall::new(rt, alloc, wall, seats)?;
         let sure = book.count();
         let shown = ShownBook { book, wall, sure };
         match Gate::new(alloc, shown, seats, quota) {

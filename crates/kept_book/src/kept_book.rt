@@ -59,10 +59,16 @@ impl<B: Steps + Drop, D: Device> KeptBook<B, D> {
         }
     }
 
-    /// A book whose journal so far is written to a device that has nothing yet, all of it, and kept there; where the device has a fault it is
-    /// given back.
-    pub fn begin(opening: &Opening, book: B, device: D) -> Result<KeptBook<B, D>, D>
+    /// A book that was opened so and has these entries, whose journal so far is written to a device that has nothing yet, all of it, and kept
+    /// there; where the device has a fault it is given back.
+    pub fn begin(
+        opening: &Opening,
+        entries: &[Entry],
+        book: B,
+        device: D,
+    ) -> Result<KeptBook<B, D>, D>
         requires opening { opening.now ≡ (B.history book).opening }
+        requires entries { entries.now ≡ (B.history book).entries }
         requires empty { Tells (D.written device) [] }
         ensures book { IfOk result (λ kept. (kept.book ≡ book) × (kept.sound ≡ true)) }
         ensures kept { IfOk result (λ kept. Tells (D.kept kept.device) (journal (B.history book))) }
@@ -70,7 +76,7 @@ impl<B: Steps + Drop, D: Device> KeptBook<B, D> {
         ensures cause { IfErr result (λ after. Rose (D.faults device) (D.faults after)) }
     {
         let mut device = device;
-        if put_history(&mut device, opening, book.entries()) {
+        if put_history(&mut device, opening, entries) {
             return Ok(KeptBook::new(book, device));
         }
         Err(device)
@@ -83,6 +89,13 @@ impl<B: Steps + Drop, D: Device> KeptBook<B, D> {
         let mut deferring = self;
         deferring.defers = defers;
         deferring
+    }
+
+    /// The book whose journal is kept.
+    pub fn book(&self) -> &B
+        ensures { result.now ≡ self.now.book }
+    {
+        &self.book
     }
 
     /// The book and the device.
@@ -230,10 +243,6 @@ impl<B: Steps + Drop, D: Device> Steps for KeptBook<B, D> {
 
     fn defers(&self) -> bool {
         self.defers
-    }
-
-    fn entries(&self) -> &[Entry] {
-        self.book.entries()
     }
 
     fn is_legal(&self) {

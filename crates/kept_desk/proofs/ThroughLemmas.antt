@@ -1,5 +1,5 @@
 -- A journal's lines, entry by entry.
-use Rattle.std.proofs.Common.{◌≡◌, ◌≢◌, ◌∙◌, ℕ, ◌+◌, ◌<◌, ◌==◌, true, List, [], ◌∷◌, ◌++◌, length, map, refl, sym, ap, arith, length-append, append-nil, append_assoc, Option, Some}
+use Rattle.std.proofs.Common.{◌≡◌, ◌≢◌, ◌∙◌, ℕ, ◌+◌, ◌<◌, ◌==◌, true, List, [], ◌∷◌, ◌++◌, length, map, refl, sym, ap, subst, arith, length-append, append-nil, append_assoc, Option, Some}
 use Rattle.std.specs.List.{All}
 use Rattle.std.proofs.lemmas.Bool.Decides.{nat_tests}
 use Rattle.std.proofs.lemmas.List.{map-append, length-map}
@@ -8,9 +8,11 @@ use Rattle.desk_model.specs.statements.Entry.{EntryValue}
 use Rattle.desk_model.specs.statements.Fits.{Fits}
 use Rattle.desk_model.specs.statements.Statement.{StatedValue}
 use Rattle.desk_model.specs.statements.Opening.{OpeningValue, IsOpening}
-use Rattle.desk_model.specs.histories.History.{History, opened, with_entry}
+use Rattle.desk_model.specs.histories.History.{History, history_of, opened, with_entry}
 use Rattle.desk_model.specs.histories.Legal.{IsLegal, next, given, history_from, history}
 use Rattle.desk_model.specs.texts.Journal.{opening_line, entry_line, entry_lines, journal}
+use Rattle.board_window.specs.Walls.{FrontValue, history_in, longer_by}
+use Rattle.kept_desk.specs.Walls.{HasAll}
 use Rattle.command_parser.specs.OpeningRecord.{IsOpeningLine}
 use Rattle.line_writer.specs.Line.{IsLine}
 
@@ -110,3 +112,17 @@ pub stands-behind : (h start now : History) (o core : OpeningValue) → now ≡ 
     → h ≡ history h.opening (map given h.entries) → now ≡ h
 stands-behind h start now o core answered new opening is only =
     answered ∙ ap (λ x. history_from x (map given h.entries)) (new ∙ ap opened (opening ∙ is)) ∙ sym only
+
+-- ---- the wall beside the book
+
+-- its next entry is one of a legal history
+pub HasAll-legal : (wall : FrontValue) (h after : History) (e : EntryValue) → HasAll wall h → after ≡ with_entry h e → IsLegal after → IsLegal (history_in (longer_by wall e))
+HasAll-legal wall h after e has next legal =
+    subst IsLegal (next ∙ ap (λ es. history_of h.opening (es ++ e ∷ [])) (sym has.entries) ∙ ap (λ o. history_of o (wall.entries ++ e ∷ [])) (sym has.opening)) legal
+
+-- and then it has that too
+pub HasAll-next : (wall later : FrontValue) (h after : History) (e : EntryValue) → HasAll wall h → after ≡ with_entry h e → later ≡ longer_by wall e → HasAll later after
+HasAll-next wall later h after e has next longer = record {
+  opening = ap (λ (f : FrontValue). f.wall.opening) longer ∙ has.opening ∙ sym (ap (λ (x : History). x.opening) next);
+  entries = ap (λ (f : FrontValue). f.entries) longer ∙ ap (λ es. es ++ e ∷ []) has.entries ∙ sym (ap (λ (x : History). x.entries) next);
+}

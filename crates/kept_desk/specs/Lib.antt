@@ -7,3 +7,4 @@ pub mod Beginning
 pub mod Guarded
 pub mod Offset
 pub mod SetClock
+pub mod Walls

@@ -1,6 +1,7 @@
 -- What a desk that is opened on a device stands behind, and why one isn't.
 use Rattle.std.specs.Prelude.{◌≡◌, ℕ, ◌+◌, ◌*◌, ◌≤◌, Bool, true, ⊤, Option, Result, Err, List, [], length}
 use Rattle.audit_desk.specs.Found.{Begins, Finds}
+use Rattle.board_window.specs.Walls.{FrontValue}
 use Rattle.audit_desk.specs.declared.verdict.Verdict.{Verdict}
 use Rattle.command_parser.specs.DayFile.{IsDayFile}
 use Rattle.day_replay.specs.Ends.{WasRead}
@@ -14,14 +15,16 @@ use Rattle.desk_model.specs.statements.Statement.{StatedValue}
 use Rattle.desk_model.specs.texts.Journal.{journal}
 use Rattle.journal_device.specs.Device.{Tells}
 use Rattle.serve_desk.specs.declared.limits.TheConstants.{CALLS_PER_LINE}
+use Rattle.kept_desk.specs.Walls.{HasAll}
 use Rattle.kept_desk.specs.WholeLines.{IsWhole}
 use Rattle.kept_desk.specs.declared.refused.Refused.{Refused}
 use Rattle.kept_desk.specs.declared.refused.Refused.TheVariants as refused
 
--- the desk stands behind a legal history whose whole journal is kept, and has room for so many calls of each caller
-pub record IsOpened (o : OpeningValue) (h : History) (most_entries : ℕ) (is_sound : Bool) (found : Option (List ℕ)) (quota callers : ℕ) : Type 0 where
+-- the desk stands behind a legal history whose whole journal is kept, with a wall that has its entries, and has room for so many calls of each caller
+pub record IsOpened (o : OpeningValue) (h : History) (wall : FrontValue) (most_entries : ℕ) (is_sound : Bool) (found : Option (List ℕ)) (quota callers : ℕ) : Type 0 where
   pub opening : o ≡ h.opening
   pub legal : IsLegal h
+  pub shows : HasAll wall h
   pub sound : is_sound ≡ true
   pub kept : Tells found (journal h)
   pub calls : 1 ≤ quota

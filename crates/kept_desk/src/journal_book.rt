@@ -1,15 +1,17 @@
-//! The book of a desk that has answered what a journal states.
-ghost use Rattle.std.specs.Prelude.{◌≡◌, ◌+◌, ◌-◌, ◌<◌, ◌^◌, List, [], length, map, IfOk};
+//! The book of a desk that has answered what a journal states, and its wall of windows.
+ghost use Rattle.std.specs.Prelude.{◌≡◌, ◌+◌, ◌-◌, ◌<◌, ◌^◌, List, [], length, map, IfOk, OnOk};
 ghost use Rattle.std.specs.List.{All};
 ghost use Rattle.desk_model.specs.histories.Legal.{given, history_from};
 ghost use Rattle.desk_model.specs.statements.Entry.{EntryValue};
 ghost use Rattle.desk_model.specs.statements.Fits.{Fits};
 ghost use Rattle.desk_model.specs.texts.Journal.{entry_lines};
 ghost use Rattle.kept_desk.specs.EntryLines.{HasLines};
+ghost use Rattle.kept_desk.specs.Walls.{HasAll};
 ghost use Rattle.audit_desk.specs.Found.{Begins, IsJournal};
 
 use audit_desk::first_line;
-use call_history::{Book, Steps};
+use board_window::NewWall;
+use call_history::{CountedBook, Steps};
 use desk_base::NoMemory;
 use desk_model::{
     Booked, Opening, a_history_goes_on_with_commands, a_legal_history_fits, one_history_is_legal,
@@ -20,19 +22,21 @@ use record_rows::{Fields, LastMinute};
 use std::alloc::Global;
 
 /// The opening and the book of a desk that stands behind a journal of so many entries, which is that of a legal history, with room for so
-/// many more, fewer than 2^32 in all: each command of the journal is answered again, in its order.
+/// many more, fewer than 2^32 in all, and the wall that has its entries: each command of the journal is answered again, in its order. No
+/// entry is kept in memory.
 pub fn book_of_journal(
     alloc: Global,
     text: &[u8],
     count: u32,
     more: u32,
-) -> Result<(Opening, Book<FastCore>), NoMemory>
+) -> Result<(Opening, CountedBook<FastCore>, NewWall), NoMemory>
     requires journal { IsJournal text.now count }
     requires few { count + more < 2 ^ 32 }
-    ensures opening { IfOk result (λ made. made.0 ≡ (⟦<Book<FastCore> as Booked>⟧.history made.1).opening) }
-    ensures history { IfOk result (λ made. Begins text.now (⟦<Book<FastCore> as Booked>⟧.history made.1) []) }
-    ensures count { IfOk result (λ made. length (⟦<Book<FastCore> as Booked>⟧.history made.1).entries ≡ count) }
-    ensures room { IfOk result (λ made. ⟦<Book<FastCore> as Booked>⟧.room made.1 ≡ count + more) }
+    ensures opening { IfOk result (λ made. made.0 ≡ (⟦<CountedBook<FastCore> as Booked>⟧.history made.1).opening) }
+    ensures history { IfOk result (λ made. Begins text.now (⟦<CountedBook<FastCore> as Booked>⟧.history made.1) []) }
+    ensures count { IfOk result (λ made. length (⟦<CountedBook<FastCore> as Booked>⟧.history made.1).entries ≡ count) }
+    ensures room { IfOk result (λ made. ⟦<CountedBook<FastCore> as Booked>⟧.room made.1 ≡ count + more) }
+    ensures wall { IfOk result (λ made. HasAll made.2 (⟦<CountedBook<FastCore> as Booked>⟧.history made.1)) }
 {
     each_line_ends_once();
     one_history_is_legal();
@@ -42,16 +46,20 @@ pub fn book_of_journal(
         unreachable!()
     };
     let core = FastCore::new(alloc, opening, u64::from(count) + u64::from(more))?;
-    let mut book = Book::new(alloc, core)?;
-    step_through(&mut book, behind);
-    Ok((opening, book))
+    let mut book = CountedBook::new(alloc, core)?;
+    let mut wall = NewWall::new(alloc, opening)?;
+    step_through(&mut book, &mut wall, behind)?;
+    Ok((opening, book, wall))
 }
 
-// Steps a book through what these lines of entries state, for all of which it has room.
-fn step_through<B: Steps>(book: &mut B, text: &[u8])
-    requires { HasLines text.now (B.room book.old - length (B.history book.old).entries) }
-    ensures history { (later : List EntryValue) → All Fits later → text.now ≡ entry_lines later
-        → B.history book.new ≡ history_from (B.history book.old) (map given later) }
+// Steps a book through what these lines of entries state, for all of which it has room, and gives the wall, which has all entries before
+// them, those that it answers.
+fn step_through<B: Steps>(book: &mut B, wall: &mut NewWall, text: &[u8]) -> Result<(), NoMemory>
+    requires lines { HasLines text.now (B.room book.old - length (B.history book.old).entries) }
+    requires wall { HasAll wall.old (B.history book.old) }
+    ensures history { OnOk result ((later : List EntryValue) → All Fits later → text.now ≡ entry_lines later
+        → B.history book.new ≡ history_from (B.history book.old) (map given later)) }
+    ensures wall { OnOk result (HasAll wall.new (B.history book.new)) }
     ensures room { B.room book.new ≡ B.room book.old }
 {
     each_line_ends_once();
@@ -65,9 +73,12 @@ fn step_through<B: Steps>(book: &mut B, text: &[u8])
         let Some(_outcome) = put_statement(&mut statement, &mut fields, &mut last, line) else {
             unreachable!()
         };
-        let Ok(_entry) = book.step(statement.caller, statement.stated) else {
+        let Ok(entry) = book.step(statement.caller, statement.stated) else {
             unreachable!()
         };
+        book.is_legal();
+        wall.add(&entry)?;
         left = behind;
     }
+    Ok(())
 }

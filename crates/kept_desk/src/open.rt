@@ -13,7 +13,8 @@ use crate::limits::JOURNAL_ENTRIES;
 use crate::line_end::whole_lines;
 use crate::{Opened, Refused};
 use audit_desk::{JOURNAL_BYTES, Verdict, audit};
-use call_history::Book;
+use board_window::NewWall;
+use call_history::CountedBook;
 use day_replay::take_day;
 use desk_io::{Sink, Source, Status};
 use desk_model::{Booked, LAST_CALLER, one_history_is_legal};
@@ -39,12 +40,12 @@ pub fn open_desk<S: Source, K: Sink, D: Found>(
     requires most { length text.now ≤ JOURNAL_BYTES }
     requires some { 1 ≤ callers }
     requires few { callers ≤ LAST_CALLER }
-    ensures opened { IfOk result (λ opened. IsOpened opened.opening (⟦<Book<FastCore> as Booked>⟧.history opened.book.book)
-        (⟦<Book<FastCore> as Booked>⟧.room opened.book.book) opened.book.sound (D.kept opened.book.device) opened.quota callers) }
+    ensures opened { IfOk result (λ opened. IsOpened opened.opening (⟦<CountedBook<FastCore> as Booked>⟧.history opened.book.book)
+        opened.wall (⟦<CountedBook<FastCore> as Booked>⟧.room opened.book.book) opened.book.sound (D.kept opened.book.device) opened.quota callers) }
     ensures begun { text.now ≡ [] → IfOk result (λ opened.
-        BeginsDay (S.left source.old) (S.left source.new) (⟦<Book<FastCore> as Booked>⟧.history opened.book.book)) }
+        BeginsDay (S.left source.old) (S.left source.new) (⟦<CountedBook<FastCore> as Booked>⟧.history opened.book.book)) }
     ensures behind { text.now ≢ [] → IfOk result (λ opened.
-        GoesOnBehind text.now (⟦<Book<FastCore> as Booked>⟧.history opened.book.book)) }
+        GoesOnBehind text.now (⟦<CountedBook<FastCore> as Booked>⟧.history opened.book.book)) }
     ensures found { IfErr result (λ refused. WhereFound refused (λ verdict. verdict ≢ Verdict.NoMemory → FindsWhole text.now verdict)) }
     ensures fault { IfErr result (λ refused. WhereFault refused (λ after. Rose (D.faults device) (D.faults after))) }
     ensures unasked { text.now ≢ [] → (source.new ≡ source.old) × (sink.new ≡ sink.old) }
@@ -71,10 +72,10 @@ fn begin<S: Source, K: Sink, D: Found>(
 ) -> Result<Opened<D>, Refused<D>>
     requires empty { Tells (D.there device) [] }
     requires few { callers ≤ LAST_CALLER }
-    ensures opened { IfOk result (λ opened. IsOpened opened.opening (⟦<Book<FastCore> as Booked>⟧.history opened.book.book)
-        (⟦<Book<FastCore> as Booked>⟧.room opened.book.book) opened.book.sound (D.kept opened.book.device) opened.quota callers) }
+    ensures opened { IfOk result (λ opened. IsOpened opened.opening (⟦<CountedBook<FastCore> as Booked>⟧.history opened.book.book)
+        opened.wall (⟦<CountedBook<FastCore> as Booked>⟧.room opened.book.book) opened.book.sound (D.kept opened.book.device) opened.quota callers) }
     ensures begun { IfOk result (λ opened.
-        BeginsDay (S.left source.old) (S.left source.new) (⟦<Book<FastCore> as Booked>⟧.history opened.book.book)) }
+        BeginsDay (S.left source.old) (S.left source.new) (⟦<CountedBook<FastCore> as Booked>⟧.history opened.book.book)) }
     ensures found { IfErr result (λ refused. WhereFound refused (λ verdict. ⊥)) }
     ensures fault { IfErr result (λ refused. WhereFault refused (λ after. Rose (D.faults device) (D.faults after))) }
     ensures ended { IfErr result (λ refused. WhereEnded refused IsNoDay) }
@@ -93,14 +94,21 @@ fn begin<S: Source, K: Sink, D: Found>(
         return Err(Refused::Ended(Status::NoMemory));
     };
     let opening = day.opening;
+    drop(day);
+    book.is_legal();
+    let Ok(wall) = NewWall::with_entries(alloc, &opening, book.entries()) else {
+        return Err(Refused::Ended(Status::NoMemory));
+    };
+    let (book, entries) = book.into_parts();
     let device = match device.go_on(0) {
         Ok(device) => device,
         Err(device) => return Err(Refused::Fault(device)),
     };
-    match KeptBook::begin(&opening, book, device) {
+    match KeptBook::begin(&opening, &entries, book, device) {
         Ok(book) => Ok(Opened {
             opening,
             book,
+            wall,
             quota: CALLS_PER_LINE,
         }),
         Err(device) => Err(Refused::Fault(device)),
@@ -118,9 +126,9 @@ fn go_on<D: Found>(
     requires most { length text.now ≤ JOURNAL_BYTES }
     requires some { 1 ≤ callers }
     requires few { callers ≤ LAST_CALLER }
-    ensures opened { IfOk result (λ opened. IsOpened opened.opening (⟦<Book<FastCore> as Booked>⟧.history opened.book.book)
-        (⟦<Book<FastCore> as Booked>⟧.room opened.book.book) opened.book.sound (D.kept opened.book.device) opened.quota callers) }
-    ensures behind { IfOk result (λ opened. GoesOnBehind text.now (⟦<Book<FastCore> as Booked>⟧.history opened.book.book)) }
+    ensures opened { IfOk result (λ opened. IsOpened opened.opening (⟦<CountedBook<FastCore> as Booked>⟧.history opened.book.book)
+        opened.wall (⟦<CountedBook<FastCore> as Booked>⟧.room opened.book.book) opened.book.sound (D.kept opened.book.device) opened.quota callers) }
+    ensures behind { IfOk result (λ opened. GoesOnBehind text.now (⟦<CountedBook<FastCore> as Booked>⟧.history opened.book.book)) }
     ensures found { IfErr result (λ refused. WhereFound refused (λ verdict. verdict ≢ Verdict.NoMemory → FindsWhole text.now verdict)) }
     ensures fault { IfErr result (λ refused. WhereFault refused (λ after. Rose (D.faults device) (D.faults after))) }
     ensures ended { IfErr result (λ refused. WhereEnded refused IsNoDay) }
@@ -146,9 +154,9 @@ fn stand_behind<D: Found>(
     requires journal { IsJournal (take len text.now) count }
     requires some { 1 ≤ callers }
     requires few { callers ≤ LAST_CALLER }
-    ensures opened { IfOk result (λ opened. IsOpened opened.opening (⟦<Book<FastCore> as Booked>⟧.history opened.book.book)
-        (⟦<Book<FastCore> as Booked>⟧.room opened.book.book) opened.book.sound (D.kept opened.book.device) opened.quota callers) }
-    ensures behind { IfOk result (λ opened. Begins (take len text.now) (⟦<Book<FastCore> as Booked>⟧.history opened.book.book) []) }
+    ensures opened { IfOk result (λ opened. IsOpened opened.opening (⟦<CountedBook<FastCore> as Booked>⟧.history opened.book.book)
+        opened.wall (⟦<CountedBook<FastCore> as Booked>⟧.room opened.book.book) opened.book.sound (D.kept opened.book.device) opened.quota callers) }
+    ensures behind { IfOk result (λ opened. Begins (take len text.now) (⟦<CountedBook<FastCore> as Booked>⟧.history opened.book.book) []) }
     ensures found { IfErr result (λ refused. WhereFound refused (λ verdict. ⊥)) }
     ensures fault { IfErr result (λ refused. WhereFault refused (λ after. Rose (D.faults device) (D.faults after))) }
     ensures ended { IfErr result (λ refused. WhereEnded refused IsNoDay) }
@@ -158,13 +166,14 @@ fn stand_behind<D: Found>(
         return Err(Refused::Ended(Status::TooLong));
     }
     let calls = u32::from(callers) * quota;
-    let Ok((opening, book)) = book_of_journal(alloc, &text[..len], count, calls) else {
+    let Ok((opening, book, wall)) = book_of_journal(alloc, &text[..len], count, calls) else {
         return Err(Refused::Ended(Status::NoMemory));
     };
     match device.go_on(len as u64) {
         Ok(device) => Ok(Opened {
             opening,
             book: KeptBook::new(book, device),
+            wall,
             quota,
         }),
         Err(device) => Err(Refused::Fault(device)),

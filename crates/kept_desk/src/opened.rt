@@ -1,6 +1,7 @@
 ghost use Rattle.std.specs.Prelude.{◌≡◌};
 
-use call_history::Book;
+use board_window::NewWall;
+use call_history::CountedBook;
 use desk_model::Opening;
 use fast_core::FastCore;
 use journal_device::Device;
@@ -12,7 +13,9 @@ pub struct Opened<D: Device> {
     /// How it was opened.
     pub opening: Opening,
     /// Its book.
-    pub book: KeptBook<Book<FastCore>, D>,
+    pub book: KeptBook<CountedBook<FastCore>, D>,
+    /// The wall of windows that has its entries.
+    pub wall: NewWall,
     /// How many calls each caller has, 1 to 5,000.
     pub quota: u32,
 }
@@ -25,11 +28,13 @@ impl<D: Device> Opened<D> {
         let Opened {
             opening,
             book,
+            wall,
             quota,
         } = self;
         Opened {
             opening,
             book: book.deferring(defers),
+            wall,
             quota,
         }
     }

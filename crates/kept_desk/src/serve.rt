@@ -11,7 +11,7 @@ ghost use Rattle.serve_desk.specs.WatchLines.{watched_with};
 ghost use Rattle.kept_desk.specs.Opened.{IsOpened};
 
 use crate::Opened;
-use call_history::{Book, Steps};
+use call_history::{CountedBook, Steps};
 use caller_lines::CallerLine;
 use desk_base::NoMemory;
 use desk_model::{Booked, LAST_CALLER};
@@ -32,32 +32,33 @@ pub fn serve_kept<D: Device + Send, R: Threads + Wait + Sync>(
     alloc: Global,
     opened: Opened<D>,
     lines: &mut Vec<Box<dyn CallerLine + Send>>,
-) -> Result<KeptBook<Book<FastCore>, D>, NoMemory>
-    requires opened { IsOpened opened.opening (⟦<Book<FastCore> as Booked>⟧.history opened.book.book)
-        (⟦<Book<FastCore> as Booked>⟧.room opened.book.book) opened.book.sound (D.kept opened.book.device) opened.quota (vec_len lines.old) }
+) -> Result<KeptBook<CountedBook<FastCore>, D>, NoMemory>
+    requires opened { IsOpened opened.opening (⟦<CountedBook<FastCore> as Booked>⟧.history opened.book.book)
+        opened.wall (⟦<CountedBook<FastCore> as Booked>⟧.room opened.book.book) opened.book.sound (D.kept opened.book.device) opened.quota (vec_len lines.old) }
     requires some { 1 ≤ vec_len lines.old }
     requires most { vec_len lines.old ≤ LAST_CALLER }
-    ensures opening { IfOk result (λ kept. (⟦<Book<FastCore> as Booked>⟧.history kept.book).opening ≡ opened.opening) }
-    ensures legal { IfOk result (λ kept. IsLegal (⟦<Book<FastCore> as Booked>⟧.history kept.book)) }
+    ensures opening { IfOk result (λ kept. (⟦<CountedBook<FastCore> as Booked>⟧.history kept.book).opening ≡ opened.opening) }
+    ensures legal { IfOk result (λ kept. IsLegal (⟦<CountedBook<FastCore> as Booked>⟧.history kept.book)) }
     ensures served { IfOk result (λ kept. AreAllServed
-        (watched_with false (D.kept kept.device) opened.quota opened.opening (length (⟦<Book<FastCore> as Booked>⟧.history opened.book.book).entries)
-        (⟦<Book<FastCore> as Booked>⟧.history kept.book).entries)
-        (⟦<Book<FastCore> as Booked>⟧.history opened.book.book).entries (⟦<Book<FastCore> as Booked>⟧.history kept.book).entries
+        (watched_with false (D.kept kept.device) opened.quota opened.opening (length (⟦<CountedBook<FastCore> as Booked>⟧.history opened.book.book).entries)
+        (⟦<CountedBook<FastCore> as Booked>⟧.history kept.book).entries)
+        (⟦<CountedBook<FastCore> as Booked>⟧.history opened.book.book).entries (⟦<CountedBook<FastCore> as Booked>⟧.history kept.book).entries
         (lines_of ⟦<(dyn CallerLine + Send) as CallerLine>⟧ lines.old.items)
         (lines_of ⟦<(dyn CallerLine + Send) as CallerLine>⟧ lines.new.items)) }
     ensures unasked { IsErr result → lines.new ≡ lines.old }
 
     // What is kept is the journal of the first entries, and of all of them where the device had no fault, also when it was synced at last.
-    ensures front { IfOk result (λ kept. ∥ KeepsFront (D.kept kept.device) (⟦<Book<FastCore> as Booked>⟧.history kept.book) ∥₁) }
+    ensures front { IfOk result (λ kept. ∥ KeepsFront (D.kept kept.device) (⟦<CountedBook<FastCore> as Booked>⟧.history kept.book) ∥₁) }
     ensures whole { IfOk result (λ kept. OnTrue kept.sound
-        (Tells (D.kept kept.device) (journal (⟦<Book<FastCore> as Booked>⟧.history kept.book)))) }
+        (Tells (D.kept kept.device) (journal (⟦<CountedBook<FastCore> as Booked>⟧.history kept.book)))) }
 {
     let Opened {
-        opening,
+        opening: _,
         book,
+        wall,
         quota,
     } = opened;
-    let mut book = watch_lines(rt, alloc, &opening, book, quota, lines)?;
+    let mut book = watch_lines(rt, alloc, book, wall, quota, lines)?;
     book.keep();
     book.is_sound();
     Ok(book)

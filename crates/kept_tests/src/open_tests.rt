@@ -1,7 +1,7 @@
 //! Desks that begin on a device, or go on behind what is there.
 use audit_desk::{Outcome, Verdict};
 use desk_io::{MemorySink, MemorySource};
-use desk_model::Reply;
+use desk_model::{Booked, Reply};
 use journal_device::{Found, MemoryDevice};
 use kept_desk::{Opened, Refused, open_desk};
 use std::alloc::Global;
@@ -41,7 +41,7 @@ fn a_desk_begins_on_an_empty_device(rt: HostRuntime) -> Result<(), Fail> {
     };
     assert_eq!(rt; opened.quota, 5_000);
     let (book, device) = opened.book.into_parts();
-    assert_eq!(rt; book.entries().len(), 1);
+    assert_eq!(rt; book.count(), 1);
     assert_eq!(rt; device.left(0), JOURNAL);
     Ok(())
 }
@@ -58,11 +58,7 @@ fn a_desk_goes_on_behind_whole_lines(rt: HostRuntime) -> Result<(), Fail> {
         };
         let whole = torn == NEXT.len();
         let (book, device) = opened.book.into_parts();
-        assert_eq!(rt;
-            book.entries().len(),
-            1 + usize::from(whole),
-            "behind {torn} bytes"
-        );
+        assert_eq!(rt; book.count(), 1 + u32::from(whole), "behind {torn} bytes");
         let left = if whole { &there } else { JOURNAL };
         assert_eq!(rt; device.left(0), left, "behind {torn} bytes");
     }

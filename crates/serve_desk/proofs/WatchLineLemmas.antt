@@ -126,6 +126,14 @@ All-manned posts viewed seats views seat line view gate many taken had shown new
     }
 
 -- after their sessions all posts have a view, and a seat of the desk
+pub All-at-seats : {P : Type 0} (always : Bool) (posts later : List P) (seat : P → Option SeatValue) (view : P → Option FrontValue) (value : P → LineValue) (gate : GateValue)
+    → ((i : ℕ) (d : P) → i < length posts
+    → AttendsWatched always gate (seat (get_or posts i d)) (seat (get_or later i d)) (view (get_or posts i d)) (view (get_or later i d)) (value (get_or posts i d)) (value (get_or later i d)))
+    → length later ≡ length posts → All (λ post. IsSome (seat post)) later
+All-at-seats always posts later seat view value gate attends as_many k e within =
+    let here : k < length posts = omega arith in
+    subst (λ o. IsSome o) (sym (attends k e here).has) refl
+
 pub All-viewed : {P Q : Type 0} (always : Bool) (posts later : List P) (viewed : List Q) (seat : P → Option SeatValue) (line : P → Q) (view : Q → Option FrontValue) (value : P → LineValue) (gate : GateValue)
     → ((i : ℕ) (d : P) → i < length posts
     → AttendsWatched always gate (seat (get_or posts i d)) (seat (get_or later i d)) (view (line (get_or posts i d))) (view (line (get_or later i d))) (value (get_or posts i d)) (value (get_or later i d)))

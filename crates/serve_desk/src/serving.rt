@@ -15,6 +15,7 @@ ghost use Rattle.serve_desk.specs.WatchLines.{WatchesDay};
 
 use crate::day_book::book_of_day;
 use crate::{CALLS_PER_LINE, Sessions, serve_lines, watch_lines};
+use board_window::NewWall;
 use call_history::Book;
 use caller_lines::CallerLine;
 use command_parser::DayFile;
@@ -205,6 +206,35 @@ fn serve_all<C: DeskCore + Send, R: Threads + Wait + Sync>(
 {
     match sessions {
         Sessions::WithoutLooks => serve_lines(rt, alloc, book, lines),
-        Sessions::WithLooks => watch_lines(rt, alloc, opening, book, CALLS_PER_LINE, lines),
+        Sessions::WithLooks => watch_book(rt, alloc, opening, book, lines),
     }
+}
+
+// The same, by sessions with looks.
+fn watch_book<C: DeskCore + Send, R: Threads + Wait + Sync>(
+    rt: &R,
+    alloc: Global,
+    opening: &Opening,
+    book: Book<C>,
+    lines: &mut Vec<Box<dyn CallerLine + Send>>,
+) -> Result<Book<C>, NoMemory>
+    requires opening { opening.now ≡ (⟦<Book<C> as Booked>⟧.history book).opening }
+    requires some { 1 ≤ vec_len lines.old }
+    requires most { vec_len lines.old ≤ LAST_CALLER }
+    requires room { length (⟦<Book<C> as Booked>⟧.history book).entries + vec_len lines.old * CALLS_PER_LINE
+        ≤ ⟦<Book<C> as Booked>⟧.room book }
+    ensures opening { IfOk result (λ after. (⟦<Book<C> as Booked>⟧.history after).opening
+        ≡ (⟦<Book<C> as Booked>⟧.history book).opening) }
+    ensures legal { IfOk result (λ after. IsLegal (⟦<Book<C> as Booked>⟧.history after)) }
+    ensures served { IfOk result (λ after. AreAllServed
+        (served_by Sessions.WithLooks (⟦<Book<C> as Booked>⟧.history book).opening
+        (length (⟦<Book<C> as Booked>⟧.history book).entries) (⟦<Book<C> as Booked>⟧.history after).entries)
+        (⟦<Book<C> as Booked>⟧.history book).entries (⟦<Book<C> as Booked>⟧.history after).entries
+        (lines_of ⟦<(dyn CallerLine + Send) as CallerLine>⟧ lines.old.items)
+        (lines_of ⟦<(dyn CallerLine + Send) as CallerLine>⟧ lines.new.items)) }
+    ensures unasked { IsErr result → lines.new ≡ lines.old }
+{
+    book.is_legal();
+    let wall = NewWall::with_entries(alloc, opening, book.entries())?;
+    watch_lines(rt, alloc, book, wall, CALLS_PER_LINE, lines)
 }

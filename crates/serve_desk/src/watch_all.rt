@@ -11,11 +11,11 @@ ghost use Rattle.serve_desk.specs.WatchLines.{IsManned, AttendsWatched, watched_
 use crate::ended_watched::EndedWatched;
 use crate::post::{Post, leave_posts, seat_lines};
 use crate::watch_line::session_watched;
-use board_window::View;
+use board_window::{NewWall, View};
 use call_history::Steps;
 use caller_lines::CallerLine;
 use desk_base::NoMemory;
-use desk_model::{Booked, LAST_CALLER, Opening};
+use desk_model::{Booked, LAST_CALLER};
 use desk_shared::{ShownBook, ShownDesk};
 use std::alloc::Global;
 use std::mem;
@@ -23,19 +23,20 @@ use std::sync::Wait;
 use std::thread::{self, Threads};
 use turn_gate::Seat;
 
-/// Serves 1 to 63 lines at one desk over the book, which was opened so and whose whole journal is kept, with so many calls of each, as `serve_lines` does, and answers their
-/// looks beside: each line has a view of the desk's boards. The line of an entry that isn't told as kept is not put: the session is told
-/// that the journal had a fault, and ends. So each entry whose line was put is among those that are kept when all sessions have ended, faults
-/// or not.
+/// Serves 1 to 63 lines at one desk over the book, whose whole journal is kept, with so many calls of each, as `serve_lines` does, and answers
+/// their looks beside: each line has a view of the desk's boards on the wall, which has the book's entries. The line of an entry that isn't
+/// told as kept is not put: the session is told that the journal had a fault, and ends. So each entry whose line was put is among those that
+/// are kept when all sessions have ended, faults or not.
 pub fn watch_lines<B: Steps + Drop + Send, R: Threads + Wait + Sync>(
     rt: &R,
     alloc: Global,
-    opening: &Opening,
     book: B,
+    wall: NewWall,
     quota: u32,
     lines: &mut Vec<Box<dyn CallerLine + Send>>,
 ) -> Result<B, NoMemory>
-    requires opening { opening.now ≡ (B.history book).opening }
+    requires opening { wall.wall.opening ≡ (B.history book).opening }
+    requires entries { wall.entries ≡ (B.history book).entries }
     requires some { 1 ≤ vec_len lines.old }
     requires most { vec_len lines.old ≤ LAST_CALLER }
     requires calls { 1 ≤ quota }
@@ -57,9 +58,7 @@ pub fn watch_lines<B: Steps + Drop + Send, R: Threads + Wait + Sync>(
     let mut viewed = Vec::with_capacity(alloc, lines.len())?;
     let mut posts = Vec::with_capacity(alloc, lines.len())?;
     let count = lines.len() as u8;
-    let (desk, mut seats, mut views) = match ShownDesk::new(
-        rt, alloc, opening, book, count, quota,
-    ) {
+    let (desk, mut seats, mut views) = match ShownDesk::new(rt, alloc, book, wall, count, quota) {
         Ok(made) => made,
         Err(NoMemory) => {
             posts.destroy_empty();

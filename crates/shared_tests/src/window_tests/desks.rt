@@ -5,7 +5,7 @@ ghost use Rattle.desk_model.specs.declared.limits.TheConstants.{LAST_CALLER};
 ghost use Rattle.turn_gate.specs.Seats.{IsSeatOf};
 ghost use Rattle.desk_shared.specs.Shown.{IsViewOf, IsWallOf};
 
-use board_window::{Look, Note, Showing, Spot, View};
+use board_window::{Look, NewWall, Note, Showing, Spot, View};
 use call_history::Book;
 use command_parser::read_command;
 use desk_base::{Code, Minute, Month, PersonNo, Window};
@@ -95,7 +95,9 @@ pub fn open<R: Wait>(
     let opening = opening()?;
     let calls = u32::from(seats).checked_mul(quota)?;
     let book = book(alloc, opening, setup, calls)?;
-    ShownDesk::new(rt, alloc, &opening, book, seats, quota).ok()
+    book.is_legal();
+    let wall = NewWall::with_entries(alloc, &opening, book.entries()).ok()?;
+    ShownDesk::new(rt, alloc, book, wall, seats, quota).ok()
 }
 
 /// Takes the last of a desk's seats.

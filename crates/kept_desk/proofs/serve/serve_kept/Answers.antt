@@ -13,10 +13,10 @@ returns-clause-served g c =
     let start = c.args.opened.book.book in
     let after = c.in_ok-book.book in
     let o = (box_value start.core).desk.opening in
-    let all = after.book.entries.items in
+    let all = after.book.past in
     let was = g.D.Device.kept after.device in
     let found = g.D.Device.kept c.keep.new.self.device in
     let tells = rw (c.keep.ensures.book) at c.keep.ensures.kept in
     let by_opening = subst (λ x. OnTrue c.keep.result (Tells found (journal (history_of x all)))) c.in_ok-book.ensures.opening tells in
-    let served = served-still false was found c.args.opened.quota o _ start.entries.items all _ _ (kept-still c.keep.result was found (history_of o all) by_opening c.keep.ensures.unkept) c.in_ok-book.ensures.watched in
+    let served = served-still false was found c.args.opened.quota o _ start.past all _ _ (kept-still c.keep.result was found (history_of o all) by_opening c.keep.ensures.unkept) c.in_ok-book.ensures.watched in
     rw (c.requires.opened.opening, c.keep.ensures.book) served

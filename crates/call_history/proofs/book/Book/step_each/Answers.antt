@@ -12,8 +12,8 @@ loop-index-preserved g c =
     let answered = c.in-Ok.ensures in
     record {
       room = c.step.ensures.room ∙ so.room;
-      many = omega (arith, so.many, ap (λ h. length h.entries) answered.kept, length-append book.entries.items (c.in-Ok._entry ∷ []));
+      many = omega (arith, so.many, ap (λ h. length h.entries) answered.kept, length-append book.desk.past (c.in-Ok._entry ∷ []));
       history = λ commands long told.
-          goes-on c.a_history_goes_on_with_commands.ensures.next (history_of (g.C.DeskCore.opening (box_value first.core)) first.entries.items) (history_of (g.C.DeskCore.opening (box_value book.core)) book.entries.items) _ commands
+          goes-on c.a_history_goes_on_with_commands.ensures.next (history_of (g.C.DeskCore.opening (box_value first.desk.core)) first.desk.past) (history_of (g.C.DeskCore.opening (box_value book.desk.core)) book.desk.past) _ commands
           c.loop-index.index _ _ c.in-Ok._entry (told c.loop-index.index c.command_at-caller.result c.loop-index-test.true c.command_at-caller.ensures) (so.history commands long told) answered.answer answered.kept;
     }

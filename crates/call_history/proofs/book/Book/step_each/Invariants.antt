@@ -9,10 +9,10 @@ use Rattle.call_history.proofs.book.Book.step_each.Given as goal
 -- the book goes on with the first commands
 abbrev pub invariant-loop-index : goal.invariant-loop-index
 invariant-loop-index g l = record {
-  room : length l.self.entries.items + g.C.DeskCore.room (box_value l.self.core) ≡ length l.fn.self.entries.items + g.C.DeskCore.room (box_value l.fn.self.core);
-  many : length l.self.entries.items ≡ length l.fn.self.entries.items + l.index;
+  room : length l.self.desk.past + g.C.DeskCore.room (box_value l.self.desk.core) ≡ length l.fn.self.desk.past + g.C.DeskCore.room (box_value l.fn.self.desk.core);
+  many : length l.self.desk.past ≡ length l.fn.self.desk.past + l.index;
   history : (commands : List (ℕ × StatedValue)) → length commands ≡ l.count
       → ((index : ℕ) (command : _) → index < l.count → goal.F-post g l.command_at index command → slice_get commands index ≡ Some command)
-      → history_of (g.C.DeskCore.opening (box_value l.self.core)) l.self.entries.items
-      ≡ history_from (history_of (g.C.DeskCore.opening (box_value l.fn.self.core)) l.fn.self.entries.items) (take l.index commands);
+      → history_of (g.C.DeskCore.opening (box_value l.self.desk.core)) l.self.desk.past
+      ≡ history_from (history_of (g.C.DeskCore.opening (box_value l.fn.self.desk.core)) l.fn.self.desk.past) (take l.index commands);
 }
